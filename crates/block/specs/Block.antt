@@ -1,0 +1,35 @@
+-- Blocks of an image: what is read of one, what a store makes of the image, and what a store leaves. B is the block size.
+use mathlib.Core.Path.{_≡_}
+use mathlib.Core.List.{List}
+use Prim.Native.Nat.{ℕ, _+_, _*_, _≤_, _<_}
+use lib.ListN.{length, getD}
+use Rattle.wire.specs.Be.{be, bytes, splice, zeros}
+
+-- 01: "an image is a lent slice of 512-byte blocks"
+abbrev pub blockBytes : ℕ
+blockBytes = 512
+
+-- Byte o of block a.
+unfoldable pub cell : ℕ → List ℕ → ℕ → ℕ → ℕ
+cell B I a o = getD I (B * a + o) 0
+
+-- 01: "Linked block: bytes 0-3 next address (0 ends)"
+unfoldable pub next : ℕ → List ℕ → ℕ → ℕ
+next B I a = be 4 I (B * a)
+
+-- The image with v as the next address of block a.
+unfoldable pub linked : ℕ → List ℕ → ℕ → ℕ → List ℕ
+linked B I a v = splice I (B * a) (bytes 4 v)
+
+-- The image with the k blocks from a on zero.
+unfoldable pub zeroed : ℕ → List ℕ → ℕ → ℕ → List ℕ
+zeroed B I a k = splice I (B * a) (zeros (B * k))
+
+-- Block b at offset p is none of the n bytes from offset o of block a.
+abbrev pub Off : ℕ → ℕ → ℕ → ℕ → ℕ → Type 0
+Off a o n b p = b ≡ a → o ≤ p → p < o + n → ⊥
+
+-- The frame: J has I's length, and I's byte at each block b and offset o with P b o.
+pub record Kept (B : ℕ) (P : ℕ → ℕ → Type 0) (I J : List ℕ) : Type 0 where
+  pub size : length J ≡ length I
+  pub at : (b o : ℕ) → P b o → o < B → cell B J b o ≡ cell B I b o

@@ -1,0 +1,2 @@
+pub mod Be
+pub mod Pick
