@@ -1,0 +1,181 @@
+-- Demand 3.
+use mathlib.Core.Path.{_≡_, refl, sym, ap, _∙_, subst}
+use mathlib.Core.Bool.{Bool, true, false}
+use mathlib.Core.Logic.{_⊎_, inl, inr}
+use mathlib.Core.Option.{Option, none, some}
+use mathlib.Core.List.{List, [], _∷_, _++_}
+use Prim.Native.Nat.{ℕ, zero, suc, _+_, _-_, _*_, _/_, _%_, _^_, _≤_, _<_}
+use native.Mathlib.Nat.{pow-suc, one-le-pow}
+use native.Mathlib.Omega.{arith}
+use native.Mathlib.Decide.{ℕ-discrete}
+use lib.Dec.{lit<, eqb}
+use lib.Arith.{lt-one}
+use lib.ListN.{length, getD, length-append}
+use borrow.Author.Tests.{eq-eqb, ne-eqb}
+use Rattle.wire.specs.Be.{bytes}
+use Rattle.wire.proofs.Laws.{length-bytes}
+use Rattle.wire.proofs.Picks.{not-both, pick-false, same-refl}
+use Rattle.bits.specs.Bit.{digit, bit}
+use Rattle.bits.proofs.Digits.{digit-zero, digit-suc}
+use Rattle.model.specs.Tree.{Name, Cell, file, Tree, called, Absent, Packed, insert, change, delete, Edit, edit, Some, find}
+use Rattle.model.specs.Render.{Piece, render, ats, count, ShowsAll, blocks, ownTime, InTime}
+use Rattle.model.specs.Geometry.{Geo, blockSize, mapAt, dataAt, superBytes}
+use Rattle.model.specs.Volume.{All, Volume}
+use Rattle.model.specs.Calls.{rewritten, refiled, Vacant, fileEntry, created, deleted}
+use Rattle.model.specs.Steps.{Step, quiet, create, write, remove, Run, done, call, Restored, Bytes}
+use Rattle.model.proofs.Areas.{volume-laid, size-large}
+use Rattle.model.proofs.Alike.{Alike, alike-edit, alike-ats}
+use Rattle.model.proofs.Dirs.{change-absent, delete-absent, insert-there, change-insert, delete-insert}
+use Rattle.model.proofs.Edits.{refiled-name, edit-twice, edit-ext, edit-same, find-edit}
+use Rattle.model.proofs.Full.{good-find, Whole, whole-tree, length-padded}
+
+-- ---- the tree
+
+called-file : (X : Type 0) (n : Name) (now s : ℕ) (cs : List Cell) → called {X = X} n (fileEntry n now s cs) ≡ true
+unfolding called fileEntry
+called-file X n now s cs = same-refl n
+
+-- t as the first tree t₀ with nothing at the path, or a file there, and some time in the holding directory's own entry
+data State (cap d : ℕ) (p : List Name) (n : Name) (t₀ t : Tree d) : Type 0 where
+  gone : (g : ℕ → ℕ) → t ≡ edit d p g (λ e bs. bs) t₀ → State cap d p n t₀ t
+  here : (g : ℕ → ℕ) (now w s : ℕ) (cs : List Cell) → t ≡ edit d p g (λ e bs. insert cap w (fileEntry n now s cs) bs) t₀ → State cap d p n t₀ t
+
+module _ (cap d : ℕ) (p : List Name) (n : Name) (t₀ : Tree d) (v : Vacant d p n t₀) (k : Packed (v .dir .1)) where
+  -- with a file there the path is not vacant
+  occupied : (g : ℕ → ℕ) (now w s : ℕ) (cs : List Cell) (t : Tree d) → t ≡ edit d p g (λ e bs. insert cap w (fileEntry n now s cs) bs) t₀ → Vacant d p n t → ⊥
+  occupied g now w s cs t e u =
+      let f = find-edit d p g (λ e bs. insert cap w (fileEntry n now s cs) bs) t₀ (v .dir) (v .there) in
+      let f′ : find d p t ≡ some (v .dir .0, insert cap w (fileEntry n now s cs) (v .dir .1)) = ap (find d p) e ∙ f in
+      let both : some (u .dir) ≡ some (v .dir .0, insert cap w (fileEntry n now s cs) (v .dir .1)) = sym (u .there) ∙ f′ in
+      let q : u .dir ≡ (v .dir .0, insert cap w (fileEntry n now s cs) (v .dir .1)) = cc in
+      not-both (insert-there cap w n (fileEntry n now s cs) (called-file _ n now s cs) (v .dir .1)) (subst (λ (x : Some). Absent n (x .1)) q (u .free))
+
+  module _ (t t′ : Tree d) where
+    -- what an edit at the path does to either state: f after what the state has, on the holding directory, is f′
+    to-gone : (g g′ : ℕ → ℕ) (f f′ : Edit) → t ≡ edit d p g f t₀ → t′ ≡ edit d p g′ f′ t → f′ (v .dir .0) (f (v .dir .0) (v .dir .1)) ≡ v .dir .1 → State cap d p n t₀ t′
+    to-gone g g′ f f′ e e′ r =
+        gone (λ j. g′ (g j)) (e′ ∙ ap (edit d p g′ f′) e ∙ edit-twice d p g′ g f′ f t₀ ∙ edit-ext d p _ _ (λ e bs. bs) t₀ (v .dir) (v .there) r)
+
+    to-here : (g g′ : ℕ → ℕ) (f f′ : Edit) (now w s : ℕ) (cs : List Cell) → t ≡ edit d p g f t₀ → t′ ≡ edit d p g′ f′ t
+        → f′ (v .dir .0) (f (v .dir .0) (v .dir .1)) ≡ insert cap w (fileEntry n now s cs) (v .dir .1) → State cap d p n t₀ t′
+    to-here g g′ f f′ now w s cs e e′ r =
+        here (λ j. g′ (g j)) now w s cs
+        (e′ ∙ ap (edit d p g′ f′) e ∙ edit-twice d p g′ g f′ f t₀ ∙ edit-ext d p _ _ (λ e bs. insert cap w (fileEntry n now s cs) bs) t₀ (v .dir) (v .there) r)
+
+    after-create : (now w s : ℕ) (cs : List Cell) → Vacant d p n t → t′ ≡ created d cap p n now w s cs t → State cap d p n t₀ t → State cap d p n t₀ t′
+    unfolding created
+    after-create now w s cs u e′ (gone g e) = to-here g (λ _. now) (λ e bs. bs) (λ e bs. insert cap w (fileEntry n now s cs) bs) now w s cs e e′ refl
+    after-create now w s cs u e′ (here g now₁ w₁ s₁ cs₁ e) = absurd (occupied g now₁ w₁ s₁ cs₁ t e u)
+
+    after-write : (now s : ℕ) (cs : List Cell) → t′ ≡ rewritten d p n now s cs t → State cap d p n t₀ t → State cap d p n t₀ t′
+    unfolding rewritten fileEntry refiled
+    after-write now s cs e′ (gone g e) =
+        to-gone g (λ j. j) (λ e bs. bs) (λ e bs. change n (λ x. refiled now s cs (x .name) (x .time) (x .node)) bs) e e′ (change-absent n (λ x. refiled now s cs (x .name) (x .time) (x .node)) (v .dir .1) (v .free))
+    after-write now s cs e′ (here g now₁ w₁ s₁ cs₁ e) =
+        to-here g (λ j. j) (λ e bs. insert cap w₁ (fileEntry n now₁ s₁ cs₁) bs) (λ e bs. change n (λ x. refiled now s cs (x .name) (x .time) (x .node)) bs) now w₁ s cs e e′
+        (change-insert cap w₁ n (fileEntry n now₁ s₁ cs₁) (called-file _ n now₁ s₁ cs₁) (λ x. refiled now s cs (x .name) (x .time) (x .node)) (λ x. refiled-name now s cs (x .name) (x .time) (x .node)) (v .dir .1) (v .free))
+
+    after-remove : (now : ℕ) → t′ ≡ deleted d p n now t → State cap d p n t₀ t → State cap d p n t₀ t′
+    unfolding deleted
+    after-remove now e′ (gone g e) = to-gone g (λ _. now) (λ e bs. bs) (λ e bs. delete n bs) e e′ (delete-absent n (v .dir .1) (v .free))
+    after-remove now e′ (here g now₁ w₁ s₁ cs₁ e) =
+        to-gone g (λ _. now) (λ e bs. insert cap w₁ (fileEntry n now₁ s₁ cs₁) bs) (λ e bs. delete n bs) e e′
+        (delete-insert cap w₁ n (fileEntry n now₁ s₁ cs₁) (called-file _ n now₁ s₁ cs₁) (v .dir .1) (v .free) k)
+
+  -- nothing there at the end
+  ended : (t : Tree d) → Vacant d p n t → State cap d p n t₀ t → (g : ℕ → ℕ) × (t ≡ edit d p g (λ e bs. bs) t₀)
+  ended t u (gone g e) = (g, e)
+  ended t u (here g now w s cs e) = absurd (occupied g now w s cs t e u)
+
+-- ---- runs
+
+module _ (g : Geo) (d : ℕ) (p : List Name) (n : Name) (t₀ : Tree d) (v : Vacant d p n t₀) (k : Packed (v .dir .1)) where
+  cap : ℕ
+  cap = blockSize g - 5
+
+  after : (I I′ : List ℕ) (t t′ : Tree d) → Step g d p n I t I′ t′ → State (blockSize g - 5) d p n t₀ t → State (blockSize g - 5) d p n t₀ t′
+  after I I′ t t′ (quiet i e) s = subst (State (blockSize g - 5) d p n t₀) (sym e) s
+  after I I′ t t′ (create now w z cs u e x) s = after-create (blockSize g - 5) d p n t₀ v k t t′ now w z cs u e s
+  after I I′ t t′ (write now z cs o e x) s = after-write (blockSize g - 5) d p n t₀ v k t t′ now z cs e s
+  after I I′ t t′ (remove now o e x) s = after-remove (blockSize g - 5) d p n t₀ v k t t′ now e s
+
+  shown-after : (I I′ : List ℕ) (t t′ : Tree d) → Step g d p n I t I′ t′ → Volume g I d t → Volume g I′ d t′
+  shown-after I I′ t t′ (quiet i e) s = subst (λ (J : List ℕ). Volume g J d t′) (sym i) (subst (Volume g I d) (sym e) s)
+  shown-after I I′ t t′ (create now w z cs u e x) s = x .volume
+  shown-after I I′ t t′ (write now z cs o e x) s = x .volume
+  shown-after I I′ t t′ (remove now o e x) s = x .volume
+
+  all-after : {I I′ : List ℕ} {t t′ : Tree d} → Run g d p n I t I′ t′ → State (blockSize g - 5) d p n t₀ t → State (blockSize g - 5) d p n t₀ t′
+  all-after done s = s
+  all-after (call {I} {J} {L} {t} {u} {v = w} c r) s = all-after r (after I J t u c s)
+
+  volume-after : {I I′ : List ℕ} {t t′ : Tree d} → Run g d p n I t I′ t′ → Volume g I d t → Volume g I′ d t′
+  volume-after done s = s
+  volume-after (call {I} {J} {L} {t} {u} {v = w} c r) s = volume-after r (shown-after I J t u c s)
+
+-- The tree at the end is the first but for a time.
+pub tree-restored : (g : Geo) (d : ℕ) (p : List Name) (n : Name) (I I′ : List ℕ) (t t′ : Tree d) → Volume g I d t → Vacant d p n t → Run g d p n I t I′ t′ → Vacant d p n t′
+    → (f : ℕ → ℕ) × (t′ ≡ edit d p f (λ e bs. bs) t)
+tree-restored g d p n I I′ t t′ w v r u =
+    let k = good-find (blockSize g) d p t (v .dir) (w .laid .good) (v .there) .packed in
+    ended (blockSize g - 5) d p n t v k t′ u (all-after g d p n t v k r (gone (λ j. j) (sym (edit-same d p t))))
+
+-- ---- the bytes
+
+-- a number is its digits
+digits-same : (k n m : ℕ) → n < 2 ^ k → m < 2 ^ k → ((j : ℕ) → j < k → digit n j ≡ digit m j) → n ≡ m
+digits-same zero n m a b s = omega arith
+digits-same (suc k) n m a b s =
+    let p : n / 2 ≡ m / 2 = digits-same k (n / 2) (m / 2) (omega (arith, pow-suc 2 k)) (omega (arith, pow-suc 2 k)) (λ j q. sym (digit-suc n j) ∙ s (suc j) (omega arith) ∙ digit-suc m j) in
+    let q : n % 2 ≡ m % 2 = sym (digit-zero n) ∙ s 0 (omega arith) ∙ digit-zero m in
+    omega arith
+
+-- a byte of a bitmap is its bits
+pub byte-same : (I I′ : List ℕ) (from i : ℕ) → Bytes I → Bytes I′ → ((k : ℕ) → k < 8 → bit I′ from (8 * i + k) ≡ bit I from (8 * i + k)) → getD I′ (from + i) 0 ≡ getD I (from + i) 0
+unfolding bit
+byte-same I I′ from i b b′ s = digits-same 8 _ _ (b′ (from + i)) (b (from + i)) (λ j q. go j q)
+  where
+    at : (L : List ℕ) (j : ℕ) → j < 8 → bit L from (8 * i + j) ≡ digit (getD L (from + i) 0) j
+    at L j q =
+        let x : (8 * i + j) / 8 ≡ i = omega arith in
+        let y : (8 * i + j) % 8 ≡ j = omega arith in
+        rw (x, y)
+
+    go : (j : ℕ) → j < 8 → digit (getD I′ (from + i) 0) j ≡ digit (getD I (from + i) 0) j
+    go j q = sym (at I′ j q) ∙ s j q ∙ at I j q
+
+-- a block of the pieces
+pub shown-near : (P : ℕ → Type 0) (B : ℕ) (I I′ : List ℕ) (xs ys : List Piece) → Alike P B xs ys → All (Whole B) xs → ShowsAll B I xs → ShowsAll B I′ ys
+    → (b i : ℕ) → 1 ≤ count b (ats xs) → i < B → (P (B * b + i) → ⊥) → getD I′ (B * b + i) 0 ≡ getD I (B * b + i) 0
+unfolding ats count
+shown-near P B I I′ [] [] a w s s′ b i c h x = absurd (omega arith)
+shown-near P B I I′ [] (y ∷ ys) a w s s′ b i c h x = absurd a
+shown-near P B I I′ (z ∷ xs) [] a w s s′ b i c h x = absurd a
+shown-near P B I I′ (z ∷ xs) (y ∷ ys) a w s s′ b i c h x = go (ℕ-discrete b (z .at)) (shown-near P B I I′ xs ys (a .2) (w .1) (s .1) (s′ .1) b i)
+  where
+    go : Dec (b ≡ z .at) → (1 ≤ count b (ats xs) → i < B → (P (B * b + i) → ⊥) → getD I′ (B * b + i) 0 ≡ getD I (B * b + i) 0) → getD I′ (B * b + i) 0 ≡ getD I (B * b + i) 0
+    go (yes e) r =
+        let x′ : P (B * z .at + i) → ⊥ = λ q. x (subst (λ (j : ℕ). P (B * j + i)) (sym e) q) in
+        rw e (ap (λ (j : ℕ). getD I′ (B * j + i) 0) (a .0) ∙ s′ .0 i (omega (arith, a .1 .long, w .0)) ∙ sym (a .1 .agree i x′) ∙ sym (s .0 i (omega (arith, w .0))))
+    go (no e) r = r (omega (arith, c, pick-false {A = ℕ} 1 0 (ne-eqb b (z .at) e))) h x
+
+-- the superblock is a whole block
+pub whole-super : (g : Geo) (u : ℕ) → length (superBytes g u) ≡ blockSize g
+unfolding superBytes
+whole-super g u = length-padded (blockSize g) _ (rw length-append (omega (arith, size-large g, length-bytes 4 (g .n), length-bytes 4 u, length-append (bytes 4 (g .n)) (bytes 4 u))))
+
+-- Demand 3.
+pub demand3 : (g : Geo) (d : ℕ) (p : List Name) (n : Name) (I I′ : List ℕ) (t t′ : Tree d) → Bytes I → Bytes I′
+    → Volume g I d t → Vacant d p n t → Run g d p n I t I′ t′ → Vacant d p n t′ → Restored g d p I t I′
+demand3 g d p n I I′ t t′ b b′ w v r u =
+    let B : ℕ = blockSize g in
+    let z = tree-restored g d p n I I′ t t′ w v r u in
+    let w′ : Volume g I′ d (edit d p (z .0) (λ e bs. bs) t) = subst (Volume g I′ d) (z .1) (volume-after g d p n t v (good-find B d p t (v .dir) (w .laid .good) (v .there) .packed) r w) in
+    let P : ℕ → Type 0 = InTime (ownTime B d p t) in
+    let a : Alike P B (render B d t) (render B d (edit d p (z .0) (λ e bs. bs) t)) = alike-edit P B d p (z .0) t (λ j q. q) in
+    let e : blocks B d t ≡ blocks B d (edit d p (z .0) (λ e bs. bs) t) = alike-ats P B _ _ a in
+    record {
+      top = λ i h. volume-laid g I′ d _ w′ .top i (rw (whole-super g) h) ∙ ap (λ (l : List ℕ). getD (superBytes g (dataAt g + length l)) i 0) (sym e) ∙ sym (volume-laid g I d t w .top i (rw (whole-super g) h));
+      bitmap = λ i h. byte-same I I′ (B * mapAt g) i b b′ (λ k q. w′ .marked (8 * i + k) (omega arith) ∙ ap (count (dataAt g + (8 * i + k))) (sym e) ∙ sym (w .marked (8 * i + k) (omega arith)));
+      reached = λ c i m h x. shown-near P B I I′ (render B d t) (render B d (edit d p (z .0) (λ e bs. bs) t)) a (whole-tree B (omega (arith, size-large g)) d t (w .laid .good)) (w .laid .shown) (w′ .laid .shown) c i m h x;
+    }

@@ -1,0 +1,134 @@
+-- One volume for an image and K: the superblock shows the numbers and the used count, and with them there is one tree.
+use mathlib.Core.Path.{_≡_, refl, sym, ap, _∙_, subst}
+use mathlib.Core.Option.{some}
+use mathlib.Core.List.{List, [], _∷_, _++_}
+use Prim.Native.Nat.{ℕ, _+_, _-_, _*_, _^_, _≤_, _<_}
+use native.Mathlib.Omega.{arith}
+use lib.ListN.{length, take, drop, replicate, length-take, length-drop}
+use lib.Seq.{ext-getD, getD-take, getD-drop}
+use Rattle.wire.specs.Be.{bytes}
+use Rattle.wire.specs.Pick.{same}
+use Rattle.wire.proofs.Laws.{length-bytes}
+use Rattle.wire.proofs.Picks.{same-refl}
+use Rattle.block.specs.Block.{blockBytes}
+use Rattle.model.specs.Tree.{Tree, find}
+use Rattle.model.specs.Render.{blocks, Shows, padded}
+use Rattle.model.specs.Geometry.{Geo, blockSize, dataAt, setBits, signature, superBytes, geo, geoAt, countAt, usedCount, Sound, openRefusal}
+use Rattle.model.specs.Volume.{Laid, Volume, WellFormed, maxDepth}
+use Rattle.model.proofs.Areas.{few, area, sound-geo, volume-bits, volume-laid}
+use Rattle.model.proofs.Commit.{shows-one, shows-two}
+use Rattle.model.proofs.Entries.{be-shown}
+use Rattle.model.proofs.Opens.{sound-opens}
+use Rattle.model.proofs.Sums.{few-blocks}
+use Rattle.model.proofs.Unique.{laid-one}
+
+-- ---- what the superblock shows
+
+-- The superblock at byte k: signature, version and size code, then n, then the used count u.
+pub record TopReads (I : List ℕ) (k : ℕ) (g : Geo) (u : ℕ) : Type 0 where
+  pub mark : Shows I k (signature ++ (g .version ∷ (g .code ∷ [])))
+  pub count : Shows I (k + 10) (bytes 4 (g .n))
+  pub used : Shows I (k + 14) (bytes 4 u)
+
+pub top-reads : (I : List ℕ) (k : ℕ) (g : Geo) (u : ℕ) → Shows I k (superBytes g u) → TopReads I k g u
+unfolding superBytes padded
+top-reads I k g u s =
+    let m : List ℕ = signature ++ (g .version ∷ (g .code ∷ [])) in
+    let n : List ℕ = bytes 4 (g .n) in
+    let w : List ℕ = bytes 4 u in
+    let ln : length n ≡ 4 = length-bytes 4 (g .n) in
+    let a : Shows I k (m ++ (n ++ w)) = shows-one I k (m ++ (n ++ w)) (replicate (blockSize g - length (m ++ (n ++ w))) 0) s in
+    let b : Shows I (k + 10) (n ++ w) = shows-two I k m (n ++ w) a in
+    let e : k + 10 + length n ≡ k + 14 = omega arith in
+    record {
+      mark = shows-one I k m (n ++ w) a;
+      count = shows-one I (k + 10) n w b;
+      used = subst (λ (j : ℕ). Shows I j w) e (shows-two I (k + 10) n w b);
+    }
+
+-- The bytes that an image shows are a part of it, if it is long enough.
+pub shown-part : (I : List ℕ) (k : ℕ) (l : List ℕ) → k + length l ≤ length I → Shows I k l → take (length l) (drop k I) ≡ l
+shown-part I k l h s =
+    let n : length (take (length l) (drop k I)) ≡ length l = simp (length-take, length-drop) (omega arith) in
+    ext-getD 0 (take (length l) (drop k I)) l n
+    (λ i q. getD-take (length l) (drop k I) i 0 (omega arith) ∙ getD-drop k I i 0 ∙ s i (omega arith))
+
+module _ (g : Geo) (I : List ℕ) (d : ℕ) (t : Tree d) (u : ℕ) (l : Laid g I d t u) where
+  size-is : blockSize g ≡ blockBytes
+  size-is = ap (λ (c : ℕ). blockBytes * 2 ^ c) (l .sound .known .1)
+
+  top-is : TopReads I (blockSize g * g .K) g u
+  top-is = top-reads I (blockSize g * g .K) g u (l .top)
+
+  laid-count : countAt (g .K) I ≡ g .n
+  unfolding countAt
+  laid-count =
+      be-shown I (blockBytes * g .K + 10) 4 (g .n) (omega (arith, few g (length I) (l .sound)))
+      (subst (λ (z : ℕ). Shows I (z * g .K + 10) (bytes 4 (g .n))) size-is (top-is .count))
+
+  -- The numbers are those that the superblock at K says.
+  pub laid-geo : g ≡ geoAt (g .K) I
+  laid-geo = sound-geo g (length I) (l .sound) ∙ ap (geo (g .K)) (sym laid-count)
+
+  -- So is the used count, where four bytes hold it.
+  pub laid-used : u < 2 ^ 32 → usedCount g I ≡ u
+  unfolding usedCount
+  laid-used h = be-shown I (blockSize g * g .K + 14) 4 u h (top-is .used)
+
+  -- An image that lays out a tree gives none of refusals 1, 2, 3.
+  pub laid-opens : openRefusal (g .K) I ≡ 0
+  laid-opens =
+      let s : Sound (geoAt (g .K) I) (length I) = subst (λ (h : Geo). Sound h (length I)) laid-geo (l .sound) in
+      let m : Shows I (blockSize g * g .K) (signature ++ (2 ∷ (0 ∷ [])))
+      = subst (λ (h : Geo). Shows I (blockSize g * g .K) (signature ++ (h .version ∷ (h .code ∷ [])))) laid-geo (top-is .mark) in
+      let n : Shows I (blockBytes * g .K) (signature ++ (2 ∷ (0 ∷ []))) = subst (λ (z : ℕ). Shows I (z * g .K) (signature ++ (2 ∷ (0 ∷ [])))) size-is m in
+      let p : take 10 (drop (blockBytes * g .K) I) ≡ signature ++ (2 ∷ (0 ∷ []))
+      = shown-part I (blockBytes * g .K) (signature ++ (2 ∷ (0 ∷ []))) (omega (arith, s .inside-image, s .room)) n in
+      sound-opens (g .K) I s (ap (λ (x : List ℕ). same x (signature ++ (2 ∷ (0 ∷ [])))) p ∙ same-refl (signature ++ (2 ∷ (0 ∷ []))))
+
+-- ---- one volume
+
+-- The numbers of an image with its superblock at K, whatever tree is laid out by them.
+pub geo-one : (g h : Geo) (I : List ℕ) (d e : ℕ) (t : Tree d) (s : Tree e) (u w : ℕ) → Laid g I d t u → Laid h I e s w → g .K ≡ h .K → g ≡ h
+geo-one g h I d e t s u w l m k = laid-geo g I d t u l ∙ ap (λ (z : ℕ). geoAt z I) k ∙ sym (laid-geo h I e s w m)
+
+-- The numbers and the tree of a well-formed image.
+pub well-formed-one : (K : ℕ) (I : List ℕ) (v w : WellFormed K I) → (v .numbers ≡ w .numbers) × (v .tree ≡ w .tree)
+well-formed-one K I v w =
+    let e : v .numbers ≡ w .numbers = geo-one _ _ I _ _ _ _ _ _ (v .volume .laid) (w .volume .laid) (v .here ∙ sym (w .here)) in
+    let l : Volume (w .numbers) I maxDepth (v .tree) = subst (λ (g : Geo). Volume g I maxDepth (v .tree)) e (v .volume) in
+    (e, laid-one (w .numbers) I maxDepth (v .tree) (w .tree) _ _ (l .laid) (w .volume .laid))
+
+-- Its numbers are those that the superblock at K says.
+pub well-formed-geo : (K : ℕ) (I : List ℕ) (v : WellFormed K I) → v .numbers ≡ geoAt K I
+well-formed-geo K I v = laid-geo _ I maxDepth (v .tree) _ (v .volume .laid) ∙ ap (λ (k : ℕ). geoAt k I) (v .here)
+
+-- ---- the used count
+
+-- No more blocks are reached than the data area has.
+pub laid-blocks : (g : Geo) (I : List ℕ) (d : ℕ) (t : Tree d) (u : ℕ) → Laid g I d t u → length (blocks (blockSize g) d t) ≤ g .n - dataAt g
+unfolding find
+laid-blocks g I d t u l = few-blocks g I d t u l [] (d, t) refl
+
+module _ (g : Geo) (I : List ℕ) (d : ℕ) (t : Tree d) (v : Volume g I d t) where
+  -- D and the blocks that are reached are n at most.
+  pub used-in : dataAt g + length (blocks (blockSize g) d t) ≤ g .n
+  used-in = omega (arith, laid-blocks g I d t _ (v .laid), area g (length I) (v .laid .sound) .some-data)
+
+  -- The used count that is read is D and the number of blocks that are reached,
+  pub used-is : usedCount g I ≡ dataAt g + length (blocks (blockSize g) d t)
+  used-is = laid-used g I d t _ (volume-laid g I d t v) (omega (arith, used-in, few g (length I) (v .laid .sound)))
+
+  -- and, in W5's words, D and the number of set bits,
+  pub used-set : usedCount g I ≡ dataAt g + setBits I g
+  used-set = used-is ∙ ap (λ (z : ℕ). dataAt g + z) (sym (volume-bits g I d t v))
+
+  -- and n at most.
+  pub used-small : usedCount g I ≤ g .n
+  used-small = omega (arith, used-is, used-in)
+
+-- ---- opening
+
+-- A well-formed image gives none of refusals 1, 2, 3.
+pub well-formed-opens : (K : ℕ) (I : List ℕ) → WellFormed K I → openRefusal K I ≡ 0
+well-formed-opens K I v = subst (λ (k : ℕ). openRefusal k I ≡ 0) (v .here) (laid-opens _ I maxDepth (v .tree) _ (v .volume .laid))

@@ -1,0 +1,63 @@
+-- 0. How an answer is said on paper: a value, or 01's number of a refusal. Definitions alone.
+use mathlib.Core.Bool.{Bool, true, false}
+use mathlib.Core.List.{List, [], _∷_}
+use Prim.Native.Nat.{ℕ, zero, suc}
+use Rattle.wire.specs.Pick.{pick}
+use Rattle.model.specs.declared.Refusal.{Refusal}
+use Rattle.model.specs.declared.Refusal.the-variants.{BadImage, NotMfs, BadCount, BadPath, NotFound, WrongKind, Exists, BadName, NoRoom, TooLarge, Stale, BadSeek, EmptyWrite, NotEmpty, TooDeep, ShortWork, Damaged, LostDir}
+
+-- 01's table "Refusal numbers".
+abbrev pub refusalNumber : Refusal → ℕ
+refusalNumber BadImage = 1
+refusalNumber NotMfs = 2
+refusalNumber BadCount = 3
+refusalNumber BadPath = 4
+refusalNumber NotFound = 5
+refusalNumber WrongKind = 6
+refusalNumber Exists = 7
+refusalNumber BadName = 8
+refusalNumber NoRoom = 9
+refusalNumber TooLarge = 10
+refusalNumber Stale = 11
+refusalNumber BadSeek = 12
+refusalNumber EmptyWrite = 13
+refusalNumber NotEmpty = 14
+refusalNumber TooDeep = 15
+refusalNumber ShortWork = 16
+refusalNumber Damaged = 17
+refusalNumber LostDir = 18
+
+-- An answer: what the call gives, or the number of its refusal.
+pub data Reply (A : Type 0) : Type 0 where
+  accepted : A → Reply A
+  refused : ℕ → Reply A
+
+-- an answer, then what follows of its value
+unfoldable pub andThen : {A B : Type 0} → Reply A → (A → Reply B) → Reply B
+andThen (accepted a) f = f a
+andThen (refused k) f = refused k
+
+-- k where the test holds, else 0, which is no refusal
+unfoldable pub when : ℕ → Bool → ℕ
+when k b = pick b k 0
+
+-- the first refusal of a list in 01's order, 0 where there is none
+unfoldable pub firstOf : List ℕ → ℕ
+firstOf [] = 0
+firstOf (zero ∷ ks) = firstOf ks
+firstOf (suc k ∷ ks) = suc k
+
+-- the answer of a call: the refusal if there is one, else the value
+unfoldable pub reply : {A : Type 0} → ℕ → A → Reply A
+reply zero a = accepted a
+reply (suc k) a = refused (suc k)
+
+-- an earlier refusal, if there is one, else the answer r
+unfoldable pub given : {A : Type 0} → ℕ → Reply A → Reply A
+given zero r = r
+given (suc k) r = refused (suc k)
+
+-- what a call leaves: x where it gives no refusal, else y, which is what was there
+unfoldable pub settle : {A : Type 0} → ℕ → A → A → A
+settle zero x y = x
+settle (suc k) x y = y
