@@ -1,0 +1,39 @@
+use Rattle.bitmap_block.specs.Bitmap.{fewer}
+use borrow.Author.Needs.{needs}
+use Rattle.bitmap_block.proofs.dec_alloc_count.Statement.{statement}
+use Rattle.bitmap_block.proofs.dec_alloc_count.Tie as tie
+use Rattle.bitmap_block.proofs.dec_alloc_count.Reads as reads
+use Rattle.bitmap_block.proofs.dec_alloc_count.Lts as lts
+use Rattle.super_block.proofs.SuperBlock.alloc_count.Reads as alloc-count-reads
+use Rattle.super_block.proofs.SuperBlock.set_alloc_count.Reads as set-alloc-count-reads
+
+-- src/lib.rt:52:9
+alloc-count-requires : tie.Need-alloc-count-requires
+alloc-count-requires c κs = search needs
+
+-- src/lib.rt:53:28
+sub-set-alloc-count : tie.Need-sub-set-alloc-count
+sub-set-alloc-count c = search needs
+
+-- src/lib.rt:53:5
+set-alloc-count-requires : tie.Need-set-alloc-count-requires
+set-alloc-count-requires c κs = search needs
+
+-- src/lib.rt:47:1
+same-length : tie.Need-same-length
+same-length c = search needs
+
+-- src/lib.rt:47:1
+returns : tie.Need-returns
+unfolding fewer
+returns c = cc
+
+pub dec-alloc-count-spec : {M : Type 1} → statement M
+dec-alloc-count-spec =
+    tie.close
+    (tie.spec
+    alloc-count-requires
+    sub-set-alloc-count
+    set-alloc-count-requires
+    same-length
+    returns)

@@ -1,0 +1,62 @@
+-- What `Fit` gives: the places of superblock, bitmap and data in the image.
+use mathlib.Core.Path.{_≡_, refl, sym, ap, _∙_, subst}
+use mathlib.Core.List.{List}
+use Prim.Native.Nat.{ℕ, _+_, _-_, _*_, _/_, _%_, _^_, _≤_, _<_}
+use native.Mathlib.Omega.{arith}
+use lib.ListN.{length}
+use Rattle.block.specs.Block.{Kept}
+use Rattle.model.specs.Geometry.{Geo, geo, geoAt, formatGeo, blockSize, mapAt, dataAt, reach, mapBits, Sound, openRefusal, formatRefusal}
+use Rattle.model.proofs.Areas.{Area, area, few}
+use Rattle.model.proofs.Opens.{opens-sound, format-sound}
+use Rattle.super_block.specs.declared.SuperBlock.{SuperBlock}
+use Rattle.super_block.specs.Super.{geoOf, superBlock, Fit}
+
+-- the struct of sound numbers fits
+pub fit-of : (g : Geo) (I : List ℕ) → g ≡ geo (g .K) (g .n) → Sound g (length I) → Fit (superBlock g) I
+fit-of g I e s = record {
+  bitmap = refl;
+  area = ap dataAt e;
+  reach = ap reach e;
+  sound = subst (λ (x : Geo). Sound x (length I)) e s;
+}
+
+-- so does a struct that was read from the image, or made for it
+pub opened-fit : (K : ℕ) (I : List ℕ) (s : SuperBlock) → openRefusal K I ≡ 0 → s ≡ superBlock (geoAt K I) → Fit s I
+opened-fit K I s e f = subst (λ (x : SuperBlock). Fit x I) (sym f) (fit-of (geoAt K I) I refl (opens-sound K I e .0))
+
+pub made-fit : (K : ℕ) (I : List ℕ) (s : SuperBlock) → formatRefusal K (length I) ≡ 0 → s ≡ superBlock (formatGeo K (length I)) → Fit s I
+made-fit K I s e f = subst (λ (x : SuperBlock). Fit x I) (sym f) (fit-of (formatGeo K (length I)) I refl (format-sound K (length I) e))
+
+-- it goes by the image's length alone
+pub fit-long : {s : SuperBlock} {I J : List ℕ} → length J ≡ length I → Fit s I → Fit s J
+fit-long {s} e f = record { bitmap = f .bitmap; area = f .area; reach = f .reach; sound = subst (Sound (geoOf s)) (sym e) (f .sound) }
+
+-- the areas in the image, by the struct's own numbers
+pub record Placed (s : SuperBlock) (I : List ℕ) : Type 0 where
+  pub few : s .blocks ≤ 8388608
+  pub inside : 512 * s .blocks ≤ length I
+  pub top : 512 * (s .addr .0) + 1024 ≤ length I
+  pub after : s .bitmap .0 ≡ s .addr .0 + 2
+  pub maps : s .bitmap .0 < s .area .0
+  pub some-data : s .area .0 < s .blocks
+  pub reached : s .area .0 + s .reach ≤ s .blocks
+  pub enough : s .blocks ≤ s .area .0 + 8 * (512 * (s .area .0 - s .bitmap .0))
+
+pub placed : {s : SuperBlock} {I : List ℕ} → Fit s I → Placed s I
+placed {s} {I} f =
+    let a = area (geoOf s) (length I) (f .sound) in
+    let k = few (geoOf s) (length I) (f .sound) in
+    let i : s .blocks * 512 ≤ length I = f .sound .inside-image in
+    let r : 2 ≤ s .blocks - (s .addr .0 + 2) = f .sound .room in
+    let b = f .bitmap in
+    let d = f .area in
+    record {
+      few = k;
+      inside = omega arith;
+      top = omega arith;
+      after = b;
+      maps = omega (arith, a .maps);
+      some-data = omega (arith, a .some-data);
+      reached = omega (arith, a .reached, f .reach);
+      enough = rw (b, d) (a .enough);
+    }

@@ -1,0 +1,50 @@
+-- The struct of a volume's numbers, and what reading, making and writing a superblock gives.
+use mathlib.Core.Path.{_≡_}
+use mathlib.Core.List.{List}
+use Prim.Native.Nat.{ℕ, _+_, _*_, _≤_, _<_, _^_}
+use lib.ListN.{length}
+use Rattle.wire.specs.Be.{bytes, splice}
+use Rattle.model.specs.Answers.{refusalNumber}
+use Rattle.model.specs.Geometry.{Geo, blockSize, mapAt, dataAt, reach, geo, geoAt, superBytes, Sound, openRefusal, formatRefusal, formatGeo}
+use Rattle.super_block.specs.declared.SuperBlock.{SuperBlock}
+use Rattle.super_block.specs.declared.Opened.{Opened}
+use Rattle.super_block.specs.declared.Opened.the-variants.{At, Refused}
+
+-- The numbers of the paper that a struct stands for, and the struct of such numbers.
+abbrev pub geoOf : SuperBlock → Geo
+geoOf s = geo (s .addr .0) (s .blocks)
+
+abbrev pub superBlock : Geo → SuperBlock
+superBlock g =
+    record {
+      addr = record { 0 = g .K };
+      blocks = g .n;
+      bitmap = record { 0 = mapAt g };
+      area = record { 0 = dataAt g };
+      reach = reach g;
+    }
+
+-- The struct is that of sound numbers for the image: what every function below the public calls requires.
+pub record Fit (s : SuperBlock) (I : List ℕ) : Type 0 where
+  pub bitmap : s .bitmap .0 ≡ mapAt (geoOf s)
+  pub area : s .area .0 ≡ dataAt (geoOf s)
+  pub reach : s .reach ≡ reach (geoOf s)
+  pub sound : Sound (geoOf s) (length I)
+
+-- Reading: the first of 1, 2, 3 that holds, or the numbers that the image's superblock gives.
+abbrev pub OpenedIs : ℕ → List ℕ → Opened → Type 0
+OpenedIs K I (At s) = (openRefusal K I ≡ 0) × (s ≡ superBlock (geoAt K I))
+OpenedIs K I (Refused r) = openRefusal K I ≡ refusalNumber r
+
+-- Making: the first of 1, 3 that holds, or the numbers of an image of len bytes.
+abbrev pub MadeIs : ℕ → ℕ → Opened → Type 0
+MadeIs K len (At s) = (formatRefusal K len ≡ 0) × (s ≡ superBlock (formatGeo K len))
+MadeIs K len (Refused r) = formatRefusal K len ≡ refusalNumber r
+
+-- The image with v as its used count.
+unfoldable pub counted : Geo → List ℕ → ℕ → List ℕ
+counted g I v = splice I (blockSize g * g .K + 14) (bytes 4 v)
+
+-- The image with a superblock that has used count v.
+unfoldable pub superWritten : Geo → List ℕ → ℕ → List ℕ
+superWritten g I v = splice I (blockSize g * g .K) (superBytes g v)
