@@ -1,0 +1,151 @@
+-- What stands at an offset of a block: the ways out of `slotAt`, what an entry there tells, and the slot past a store.
+use mathlib.Core.Path.{_≡_, refl, sym, ap, _∙_, subst}
+use mathlib.Core.Bool.{Bool, true, false}
+use mathlib.Core.List.{List}
+use Prim.Native.Nat.{ℕ, _+_, _-_, _*_, _≤_, _<_}
+use native.Mathlib.Nat.{add-zero, add-assoc}
+use native.Mathlib.Decide.{decLt}
+use native.Mathlib.Omega.{arith}
+use lib.Dec.{leb, ltb, eqb}
+use lib.ListN.{length, getD, drop, length-take, length-drop}
+use lib.Seq.{ext-getD, getD-take, getD-drop}
+use borrow.Author.Tests.{ltb-false, leb-false, eqb-false, lt-ltb, le-ltb, le-leb, lt-leb, eq-eqb, ne-eqb}
+use Rattle.wire.specs.Be.{be}
+use Rattle.wire.specs.Pick.{pick}
+use Rattle.wire.proofs.Laws.{be-ext}
+use Rattle.block.specs.Block.{cell, Kept}
+use Rattle.dir_entry.specs.declared.DirEntry.{DirEntry}
+use Rattle.dir_entry.specs.declared.Slot.{Slot}
+use Rattle.dir_entry.specs.declared.Slot.the-variants.{Entry, Stop}
+use Rattle.dir_entry.specs.Entry.{header, entryAt, placeAt, nameAt, slotAt}
+
+-- ---- the ways out, each from the tests that lead there
+
+module _ (B : ℕ) (I : List ℕ) (a o : ℕ) where
+  pub stop-offset : B - 22 ≤ o → slotAt B I a o ≡ Stop
+  unfolding slotAt pick
+  stop-offset h = rw (le-leb _ _ h)
+
+  pub stop-kind : o < B - 22 → 2 < getD I (placeAt B a o) 0 → slotAt B I a o ≡ Stop
+  unfolding slotAt pick
+  stop-kind h k = rw (lt-leb _ _ h, lt-ltb _ _ k)
+
+  pub stop-empty : o < B - 22 → getD I (placeAt B a o) 0 ≤ 2 → getD I (placeAt B a o + 17) 0 ≡ 0 → slotAt B I a o ≡ Stop
+  unfolding slotAt pick
+  stop-empty h k z = rw (lt-leb _ _ h, le-ltb _ _ k, eq-eqb _ _ z)
+
+  pub stop-long : o < B - 22 → getD I (placeAt B a o) 0 ≤ 2 → (getD I (placeAt B a o + 17) 0 ≡ 0 → ⊥) → B - 5 < o + 18 + getD I (placeAt B a o + 17) 0
+      → slotAt B I a o ≡ Stop
+  unfolding slotAt pick
+  stop-long h k z l = rw (lt-leb _ _ h, le-ltb _ _ k, ne-eqb _ _ z, lt-ltb _ _ l)
+
+  pub slot-entry : o < B - 22 → getD I (placeAt B a o) 0 ≤ 2 → (getD I (placeAt B a o + 17) 0 ≡ 0 → ⊥) → o + 18 + getD I (placeAt B a o + 17) 0 ≤ B - 5
+      → slotAt B I a o ≡ Entry (entryAt I (placeAt B a o))
+  unfolding slotAt pick
+  slot-entry h k z l = rw (lt-leb _ _ h, le-ltb _ _ k, ne-eqb _ _ z, le-ltb _ _ l)
+
+-- as code has them: `at` is the entry's byte and n its length byte
+module _ (I : List ℕ) (a o at n : ℕ) (e : at ≡ placeAt 512 a o) where
+  pub code-kind : o < 490 → 2 < getD I at 0 → Stop ≡ slotAt 512 I a o
+  code-kind h k = sym (stop-kind 512 I a o h (rw e at k))
+
+  pub code-empty : o < 490 → getD I at 0 ≤ 2 → n ≡ getD I (at + 17) 0 → n ≡ 0 → Stop ≡ slotAt 512 I a o
+  code-empty h k f z = sym (stop-empty 512 I a o h (rw e at k) (rw (f, e) at z))
+
+  pub code-long : o < 490 → getD I at 0 ≤ 2 → n ≡ getD I (at + 17) 0 → (n ≡ 0 → ⊥) → 507 < o + 18 + n → Stop ≡ slotAt 512 I a o
+  code-long h k f z l = sym (stop-long 512 I a o h (rw e at k) (rw (f, e) at z) (rw (f, e) at l))
+
+  pub code-entry : (r : DirEntry) → o < 490 → getD I at 0 ≤ 2 → n ≡ getD I (at + 17) 0 → (n ≡ 0 → ⊥) → o + 18 + n ≤ 507 → r ≡ entryAt I at → Entry r ≡ slotAt 512 I a o
+  code-entry r h k f z l g = sym (slot-entry 512 I a o h (rw e at k) (rw (f, e) at z) (rw (f, e) at l) ∙ ap Entry (sym (rw e at g)))
+
+-- ---- what an entry tells
+
+pub record Stands (B : ℕ) (I : List ℕ) (a o : ℕ) (e : DirEntry) : Type 0 where
+  pub offset : o < B - 22
+  pub kind : getD I (placeAt B a o) 0 ≤ 2
+  pub some : 1 ≤ e .len
+  pub ends : o + 18 + e .len ≤ B - 5
+  pub is : e ≡ entryAt I (placeAt B a o)
+
+abbrev StandsIn : ℕ → List ℕ → ℕ → ℕ → Slot → Type 0
+StandsIn B I a o (Entry e) = Stands B I a o e
+StandsIn B I a o Stop = Unit {0}
+
+pub pick-case : {A : Type 0} (P : A → Type 0) (t : Bool) (x y : A) → (t ≡ true → P x) → (t ≡ false → P y) → P (pick t x y)
+unfolding pick
+pick-case P true x y f g = f refl
+pick-case P false x y f g = g refl
+
+module _ (B : ℕ) (I : List ℕ) (a o : ℕ) where
+  stands : o < B - 22 → getD I (placeAt B a o) 0 ≤ 2 → (getD I (placeAt B a o + 17) 0 ≡ 0 → ⊥) → o + 18 + getD I (placeAt B a o + 17) 0 ≤ B - 5
+      → Stands B I a o (entryAt I (placeAt B a o))
+  unfolding entryAt
+  stands p q r s = record { offset = p; kind = q; some = omega arith; ends = s; is = refl }
+
+  stands-in : StandsIn B I a o (slotAt B I a o)
+  unfolding slotAt
+  stands-in =
+      pick-case (StandsIn B I a o) (leb (B - 22) o) _ _ (λ _. tt)
+      (λ p. pick-case (StandsIn B I a o) (ltb 2 (getD I (placeAt B a o) 0)) _ _ (λ _. tt)
+      (λ q. pick-case (StandsIn B I a o) (eqb (getD I (placeAt B a o + 17) 0) 0) _ _ (λ _. tt)
+      (λ r. pick-case (StandsIn B I a o) (ltb (B - 5) (o + header + getD I (placeAt B a o + 17) 0)) _ _ (λ _. tt)
+      (λ s. stands (leb-false _ _ p) (ltb-false _ _ q) (eqb-false _ _ r) (ltb-false _ _ s)))))
+
+  -- An entry at offset o of block a starts before 490, has a name, and ends by 507.
+  pub slot-stands : (e : DirEntry) → slotAt B I a o ≡ Entry e → Stands B I a o e
+  slot-stands e p = subst (StandsIn B I a o) p stands-in
+
+-- ---- two images with the same bytes, and so a store
+
+-- the 18 bytes at `at` decide the fixed part
+pub entry-ext : (I J : List ℕ) (at bt : ℕ) → ((i : ℕ) → i < 18 → getD J (bt + i) 0 ≡ getD I (at + i) 0) → entryAt J bt ≡ entryAt I at
+unfolding entryAt
+entry-ext I J at bt h =
+    let part : (n k : ℕ) → k + n ≤ 18 → be n J (bt + k) ≡ be n I (at + k)
+    = λ n k l. be-ext n J I (bt + k) (at + k) (λ i q. rw (add-assoc bt k i, add-assoc at k i) (h (k + i) (omega arith))) in
+    let e : getD J bt 0 ≡ getD I at 0 = rw (add-zero bt, add-zero at) at (h 0 (omega arith)) in
+    rw (e, part 4 1 (omega arith), part 4 5 (omega arith), part 8 9 (omega arith), h 17 (omega arith))
+
+module _ (B : ℕ) (I J : List ℕ) (a o : ℕ) where
+  same-slot : getD J (placeAt B a o) 0 ≡ getD I (placeAt B a o) 0 → getD J (placeAt B a o + 17) 0 ≡ getD I (placeAt B a o + 17) 0
+      → entryAt J (placeAt B a o) ≡ entryAt I (placeAt B a o) → slotAt B J a o ≡ slotAt B I a o
+  unfolding slotAt
+  same-slot e f g = rw (e, f, g)
+
+  -- those at the place decide the slot; past the last place no byte does
+  pub slot-ext : (o < B - 22 → (i : ℕ) → i < 18 → getD J (placeAt B a o + i) 0 ≡ getD I (placeAt B a o + i) 0) → slotAt B J a o ≡ slotAt B I a o
+  slot-ext h = go (decLt o (B - 22))
+    where
+      go : Dec (o < B - 22) → slotAt B J a o ≡ slotAt B I a o
+      go (no p) = stop-offset B J a o (omega arith) ∙ sym (stop-offset B I a o (omega arith))
+      go (yes p) = same-slot (rw add-zero at (h p 0 (omega arith))) (h p 17 (omega arith)) (entry-ext I J (placeAt B a o) (placeAt B a o) (h p))
+
+-- the bytes of a name decide it
+pub name-ext : (I J : List ℕ) (at n : ℕ) → length J ≡ length I → ((i : ℕ) → i < n → getD J (at + 18 + i) 0 ≡ getD I (at + 18 + i) 0) → nameAt J at n ≡ nameAt I at n
+name-ext I J at n l h =
+    ext-getD 0 (nameAt J at n) (nameAt I at n) (simp (length-take, length-drop, l))
+    (λ i q.
+    let m : i < n = omega (arith, simp length-take at q) in
+    rw (getD-take n (drop (at + 18) J) i 0 m, getD-take n (drop (at + 18) I) i 0 m, getD-drop (at + 18) J i 0, getD-drop (at + 18) I i 0) (h i m))
+
+module _ (B : ℕ) (P : ℕ → ℕ → Type 0) (I J : List ℕ) (k : Kept B P I J) (a : ℕ) where
+  kept-place : (o i : ℕ) → P a (4 + o + i) → 4 + o + i < B → getD J (placeAt B a o + i) 0 ≡ getD I (placeAt B a o + i) 0
+  unfolding cell
+  kept-place o i p h =
+      let e : placeAt B a o + i ≡ B * a + (4 + o + i) = omega arith in
+      rw e (k .at a (4 + o + i) p h)
+
+  -- The slot past a store that keeps the 18 bytes of its place, and so past one that keeps block a.
+  pub slot-kept-at : (o : ℕ) → ((p : ℕ) → 4 + o ≤ p → p < 4 + o + 18 → P a p) → slotAt B J a o ≡ slotAt B I a o
+  slot-kept-at o f = slot-ext B I J a o (λ l i q. kept-place o i (f (4 + o + i) (omega arith) (omega arith)) (omega arith))
+
+  pub slot-kept : ((p : ℕ) → p < B → P a p) → (o : ℕ) → slotAt B J a o ≡ slotAt B I a o
+  slot-kept f o = slot-ext B I J a o (λ l i q. kept-place o i (f (4 + o + i) (omega arith)) (omega arith))
+
+  -- And the name of n bytes after it.
+  pub name-kept : (o n : ℕ) → o + 18 + n ≤ B - 5 → ((p : ℕ) → 4 + o + 18 ≤ p → p < 4 + o + 18 + n → P a p) → nameAt J (placeAt B a o) n ≡ nameAt I (placeAt B a o) n
+  name-kept o n h f =
+      name-ext I J (placeAt B a o) n (k .size)
+      (λ i q.
+      let e : placeAt B a o + 18 + i ≡ placeAt B a o + (18 + i) = omega arith in
+      rw e (kept-place o (18 + i) (f (4 + o + (18 + i)) (omega arith) (omega arith)) (omega arith)))

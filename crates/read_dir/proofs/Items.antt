@@ -1,0 +1,109 @@
+-- What each entry of a walk is, and what an answer says of the walk.
+use mathlib.Core.Path.{_≡_, refl, sym, ap, _∙_}
+use mathlib.Core.Bool.{true, false}
+use mathlib.Core.Logic.{_⊎_, inl, inr}
+use mathlib.Core.List.{List}
+use Prim.Native.Nat.{ℕ, zero, suc, _-_, _≤_, _<_}
+use native.Mathlib.Omega.{arith}
+use lib.Dec.{eqb}
+use borrow.Author.Tests.{eqb-false}
+use Rattle.wire.specs.Pick.{same}
+use Rattle.wire.proofs.Picks.{either, not-both, pick-true, pick-false, same-eq, same-refl}
+use Rattle.dir_entry.specs.declared.DirEntry.{DirEntry}
+use Rattle.dir_entry.specs.declared.Slot.the-variants.{Entry}
+use Rattle.dir_entry.specs.Entry.{placeAt, nameAt, slotAt}
+use Rattle.dir_entry.proofs.Slots.{pick-case}
+use Rattle.read_dir.specs.Walk.{Walk, item, finished, damaged, shown, entriesFrom, chainFrom, walk}
+use Rattle.read_dir.specs.Cursor.{count}
+use Rattle.read_dir.specs.Finds.{placed, findIn, skip, listFrom}
+use Rattle.read_dir.specs.declared.Place.{Place}
+use Rattle.read_dir.specs.declared.Found.the-variants as found
+use Rattle.read_dir.specs.declared.Listed.the-variants as listed
+use Rattle.read_dir.proofs.Unroll.{entries-ind, chain-ind}
+
+-- P holds of each entry, with its block, its offset and its name.
+abbrev pub Each : (DirEntry → ℕ → ℕ → List ℕ → Type 0) → Walk → Type 0
+Each P (item e a o x w) = P e a o x × Each P w
+Each P finished = Unit {0}
+Each P damaged = Unit {0}
+
+-- An entry of the walk is what stands at its place, in a block of D..n-1, with an address and under its name.
+pub record Item (B D n : ℕ) (I : List ℕ) (e : DirEntry) (a o : ℕ) (x : List ℕ) : Type 0 where
+  pub from : D ≤ a
+  pub below : a < n
+  pub stands : slotAt B I a o ≡ Entry e
+  pub address : e .addr .0 ≡ 0 → ⊥
+  pub name : x ≡ nameAt I (placeAt B a o) (e .len)
+
+module _ (B D n : ℕ) (I : List ℕ) where
+  entries-each : (a : ℕ) (w : Walk) → D ≤ a → a < n → Each (Item B D n I) w → (f o : ℕ) → Each (Item B D n I) (entriesFrom B D n I f a o w)
+  unfolding shown
+  entries-each a w h l i =
+      entries-ind B D n I a w (λ o v. Each (Item B D n I) v) (λ o. i)
+      (λ o e v p q.
+      pick-case (Each (Item B D n I)) (eqb (e .addr .0) 0) _ _ (λ _. q)
+      (λ z. (record { from = h; below = l; stands = p; address = eqb-false _ _ z; name = refl }, q)))
+
+  pub chain-each : (k a : ℕ) → Each (Item B D n I) (chainFrom B D n I k a)
+  chain-each =
+      chain-ind B D n I (λ k a w. Each (Item B D n I) w) (λ k a. tt)
+      (λ k a h l z. entries-each a finished h l tt B 0)
+      (λ k a w h l z q. entries-each a w h l q B 0)
+
+-- ---- an answer of a lookup
+
+-- What holds of each entry holds of the one that is found, under the name asked for;
+pub found-each : (P : DirEntry → ℕ → ℕ → List ℕ → Type 0) (name : List ℕ) (w : Walk) (e : DirEntry) (p : Place) → Each P w → findIn name w ≡ found.At e p → P e (p .block .0) (p .offset) name
+unfolding findIn
+found-each P name (item d a o x w) e p i f = go (either (same x name)) (λ g. found-each P name w e p (i .1) g)
+  where
+    go : (same x name ≡ true) ⊎ (same x name ≡ false) → (findIn name w ≡ found.At e p → P e (p .block .0) (p .offset) name) → P e (p .block .0) (p .offset) name
+    go (inl t) ih =
+        let q : found.At d (placed a o) ≡ found.At e p = sym (pick-true _ _ t) ∙ f in
+        let qe : d ≡ e = cc in
+        let qp : placed a o ≡ p = cc in
+        let qx : x ≡ name = same-eq x name t in
+        let ra : a ≡ p .block .0 = ap (λ (y : Place). y .block .0) qp in
+        let ro : o ≡ p .offset = ap (λ (y : Place). y .offset) qp in
+        rw (← qe, ← ra, ← ro, ← qx) (i .0)
+    go (inr t) ih = ih (sym (pick-false _ _ t) ∙ f)
+found-each P name finished e p i f = absurd (let z : _≡_ {A = ℕ} 0 1 = cc in omega arith)
+found-each P name damaged e p i f = absurd (let z : _≡_ {A = ℕ} 0 1 = cc in omega arith)
+
+-- so it is an entry of the directory under that name.
+pub found-item : (B D n : ℕ) (I : List ℕ) (dir : ℕ) (name : List ℕ) (e : DirEntry) (p : Place) → findIn name (walk B D n I dir) ≡ found.At e p → Item B D n I e (p .block .0) (p .offset) name
+found-item B D n I dir name e p f = found-each (Item B D n I) name (walk B D n I dir) e p (chain-each B D n I (n - D) dir) f
+
+-- Where none is found, none has the name.
+pub missing-each : (name : List ℕ) (w : Walk) → findIn name w ≡ found.Missing → Each (λ e a o x. x ≡ name → ⊥) w
+unfolding findIn
+missing-each name (item e a o x w) f = go (either (same x name)) (λ g. missing-each name w g)
+  where
+    go : (same x name ≡ true) ⊎ (same x name ≡ false) → (findIn name w ≡ found.Missing → Each (λ e a o x. x ≡ name → ⊥) w) → (x ≡ name → ⊥) × Each (λ e a o x. x ≡ name → ⊥) w
+    go (inl t) ih = absurd (let q : found.At e (placed a o) ≡ found.Missing = sym (pick-true _ _ t) ∙ f in let z : _≡_ {A = ℕ} 0 1 = cc in omega arith)
+    go (inr t) ih =
+        (λ q. not-both (ap (λ (y : List ℕ). same y name) q ∙ same-refl name) t, ih (sym (pick-false _ _ t) ∙ f))
+missing-each name finished f = tt
+missing-each name damaged f = tt
+
+-- ---- a listing past the last entry
+
+-- the walk comes to its end
+abbrev pub Whole : Walk → Type 0
+Whole (item e a o x w) = Whole w
+Whole finished = Unit {0}
+Whole damaged = ⊥
+
+pub skip-past : (i : ℕ) (w : Walk) → Whole w → count w ≤ i → skip i w ≡ finished
+unfolding skip count
+skip-past zero (item e a o x w) h l = absurd (omega arith)
+skip-past zero finished h l = refl
+skip-past zero damaged h l = absurd h
+skip-past (suc i) (item e a o x w) h l = skip-past i w h (omega arith)
+skip-past (suc i) finished h l = refl
+skip-past (suc i) damaged h l = absurd h
+
+-- "A number past the last entry gives 0 bytes and i."
+pub list-past : (cap i : ℕ) (w : Walk) → Whole w → count w ≤ i → listFrom cap 0 i (skip i w) ≡ listed.Records 0 i
+unfolding listFrom
+list-past cap i w h l = ap (listFrom cap 0 i) (skip-past i w h l)

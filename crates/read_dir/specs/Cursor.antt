@@ -1,0 +1,92 @@
+-- 2. The cursor: what remains to be walked from one, and what one move and one step of it give. Definitions alone.
+use mathlib.Core.Path.{_≡_}
+use mathlib.Core.List.{List}
+use Prim.Native.Nat.{ℕ, zero, suc, _+_, _-_, _≤_, _<_}
+use lib.Dec.{eqb}
+use Rattle.wire.specs.Pick.{pick}
+use Rattle.block.specs.declared.Addr.{Addr}
+use Rattle.block.specs.Block.{next}
+use Rattle.dir_entry.specs.declared.DirEntry.{DirEntry}
+use Rattle.dir_entry.specs.declared.Slot.{Slot}
+use Rattle.dir_entry.specs.declared.Slot.the-variants as slot
+use Rattle.dir_entry.specs.Entry.{header, placeAt, nameAt, slotAt}
+use Rattle.read_dir.specs.Walk.{Walk, item, finished, damaged, inArea, entriesFrom, chainFrom}
+use Rattle.read_dir.specs.declared.ReadDir.{ReadDir}
+use Rattle.read_dir.specs.declared.Place.{Place}
+use Rattle.read_dir.specs.declared.Move.{Move}
+use Rattle.read_dir.specs.declared.Move.the-variants as move
+use Rattle.read_dir.specs.declared.Step.{Step}
+use Rattle.read_dir.specs.declared.Step.the-variants as step
+
+-- ---- one move
+
+-- The cursor at a directory's first entry; the cursor past an entry; the place of the entry that it stands at.
+abbrev pub start : ℕ → ℕ → Addr → ReadDir
+start D n a = record { block = a; offset = 0; left = n - D }
+
+abbrev pub past : ReadDir → DirEntry → ReadDir
+past c e = record { block = c .block; offset = c .offset + header + e .len; left = c .left }
+
+abbrev pub here : ReadDir → Place
+here c = record { block = c .block; offset = c .offset }
+
+-- An entry was read: one with address 0 is passed over.
+unfoldable pub overMove : ReadDir → DirEntry → Move
+overMove c e = pick (eqb (e .addr .0) 0) (move.Go (past c e)) (move.Entry e (here c) (past c e))
+
+-- The block's entries have stopped: to the next block, unless there is none.
+unfoldable pub hopMove : ℕ → List ℕ → ReadDir → Move
+hopMove B I c =
+    pick (eqb (next B I (c .block .0)) 0) move.End
+    (move.Go (record { block = record { 0 = next B I (c .block .0) }; offset = 0; left = c .left - 1 }))
+
+abbrev pub onDecoded : ℕ → List ℕ → ReadDir → Slot → Move
+onDecoded B I c (slot.Entry e) = overMove c e
+onDecoded B I c slot.Stop = hopMove B I c
+
+module _ (B D n : ℕ) (I : List ℕ) where
+  -- Where no block may be read any more, or this one is not in D..n-1, it is damage.
+  unfoldable pub moveAt : ReadDir → Move
+  moveAt c =
+      pick (eqb (c .left) 0) move.Damaged
+      (pick (inArea B D n I (c .block .0)) (onDecoded B I c (slotAt B I (c .block .0) (c .offset))) move.Damaged)
+
+  -- ---- what remains
+
+  -- What remains to be walked from offset o of block a on, where k blocks may be read, this one counted.
+  unfoldable pub restFrom : ℕ → ℕ → ℕ → Walk
+  restFrom zero a o = damaged
+  restFrom (suc k) a o =
+      pick (inArea B D n I a) (entriesFrom B D n I B a o (pick (eqb (next B I a) 0) finished (chainFrom B D n I k (next B I a)))) damaged
+
+  abbrev pub cursorWalk : ReadDir → Walk
+  cursorWalk c = restFrom (c .left) (c .block .0) (c .offset)
+
+  -- ---- one step
+
+  -- The item that a step gives, and what remains from the cursor past it.
+  abbrev pub onStep : Step → Walk
+  onStep (step.Entry e p c) = item e (p .block .0) (p .offset) (nameAt I (placeAt B (p .block .0) (p .offset)) (e .len)) (cursorWalk c)
+  onStep step.End = finished
+  onStep step.Damaged = damaged
+
+  -- An entry that was read stands in a block of D..n-1, and it ends there.
+  pub record Lies (e : DirEntry) (p : Place) : Type 0 where
+    pub from : D ≤ p .block .0
+    pub below : p .block .0 < n
+    pub ends : p .offset + header + e .len ≤ B - 5
+
+  abbrev pub StepIn : Step → Type 0
+  StepIn (step.Entry e p c) = Lies e p
+  StepIn step.End = Unit {0}
+  StepIn step.Damaged = Unit {0}
+
+  pub record Stepped (c : ReadDir) (r : Step) : Type 0 where
+    pub walked : cursorWalk c ≡ onStep r
+    pub inside : StepIn r
+
+-- How many entries a walk has.
+unfoldable pub count : Walk → ℕ
+count (item e a o x w) = suc (count w)
+count finished = 0
+count damaged = 0

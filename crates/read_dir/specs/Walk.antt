@@ -1,0 +1,47 @@
+-- 1. Reading a directory of any image: its entries in chain order, then its end or damage. Definitions alone.
+-- B is the block size, D the data area's first address and n the volume's blocks.
+use mathlib.Core.Bool.{Bool, _&&_}
+use mathlib.Core.List.{List}
+use Prim.Native.Nat.{ℕ, zero, suc, _+_, _-_}
+use lib.Dec.{ltb, leb, eqb}
+use Rattle.wire.specs.Pick.{pick}
+use Rattle.block.specs.Block.{next}
+use Rattle.dir_entry.specs.declared.DirEntry.{DirEntry}
+use Rattle.dir_entry.specs.declared.Slot.{Slot}
+use Rattle.dir_entry.specs.declared.Slot.the-variants.{Entry, Stop}
+use Rattle.dir_entry.specs.Entry.{header, placeAt, nameAt, slotAt}
+
+-- An entry with its block, its offset in the block's data and its name, and what follows; the end; damage.
+pub data Walk : Type 0 where
+  item : DirEntry → ℕ → ℕ → List ℕ → Walk → Walk
+  finished : Walk
+  damaged : Walk
+
+-- what follows an entry, where there is one
+unfoldable pub onSlot : Slot → (DirEntry → Walk) → Walk → Walk
+onSlot (Entry e) k w = k e
+onSlot Stop k w = w
+
+module _ (B D n : ℕ) (I : List ℕ) where
+  -- "D..n-1"
+  abbrev pub inArea : ℕ → Bool
+  inArea a = leb D a && ltb a n
+
+  -- 01, "Entries with address 0 are passed over": the entry e at offset o of block a, then w.
+  unfoldable pub shown : DirEntry → ℕ → ℕ → Walk → Walk
+  shown e a o w = pick (eqb (e .addr .0) 0) w (item e a o (nameAt I (placeAt B a o) (e .len)) w)
+
+  -- The entries of block a from offset o on, and then w. (The first number bounds them: each has a byte at least.)
+  unfoldable pub entriesFrom : ℕ → ℕ → ℕ → Walk → Walk
+  entriesFrom zero a o w = w
+  entriesFrom (suc f) a o w = onSlot (slotAt B I a o) (λ e. shown e a o (entriesFrom f a (o + header + e .len) w)) w
+
+  -- 01, "Reading goes on in the next block", "0 ends", and "a walk that leaves D..n-1 or passes n-D blocks in one chain gives 17": the walk of
+  -- the chain from block a on, of which k blocks may be read.
+  unfoldable pub chainFrom : ℕ → ℕ → Walk
+  chainFrom zero a = damaged
+  chainFrom (suc k) a = pick (inArea a) (entriesFrom B a 0 (pick (eqb (next B I a) 0) finished (chainFrom k (next B I a)))) damaged
+
+  -- The walk of the directory whose first block is a.
+  abbrev pub walk : ℕ → Walk
+  walk a = chainFrom (n - D) a
