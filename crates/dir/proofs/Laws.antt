@@ -1,0 +1,302 @@
+-- What the code knows where it answers, one law for each answer; then what callers need of a path's directory and entry.
+use mathlib.Core.Path.{_≡_, refl, sym, ap, _∙_}
+use mathlib.Core.Bool.{Bool, true, false}
+use mathlib.Core.Logic.{_⊎_, inl, inr}
+use mathlib.Core.List.{List, [], _∷_}
+use Prim.Native.Nat.{ℕ, _+_, _-_, _≤_, _<_}
+use native.Mathlib.Decide.{decLt}
+use native.Mathlib.Omega.{arith}
+use lib.Dec.{eqb}
+use lib.ListN.{length, take, drop, length-take, length-drop}
+use Rattle.wire.specs.Pick.{pick, same}
+use Rattle.wire.proofs.Picks.{either, same-eq, pick-true, pick-false}
+use Rattle.model.specs.Answers.{Reply, accepted, refused, andThen, refusalNumber}
+use Rattle.model.specs.Steps.{Bytes}
+use Rattle.model.specs.declared.Refusal.{Refusal}
+use Rattle.block.specs.declared.Addr.{Addr}
+use Rattle.dir_entry.specs.declared.DirEntry.{DirEntry}
+use Rattle.dir_entry.specs.declared.Kind.the-variants.{Dir, File, Device}
+use Rattle.dir_entry.specs.declared.Slot.the-variants.{Entry}
+use Rattle.dir_entry.specs.Entry.{isDir, placeAt, entryAt, slotAt}
+use Rattle.dir_entry.proofs.Slots.{pick-case, slot-stands}
+use Rattle.read_dir.specs.declared.Found.{Found}
+use Rattle.read_dir.specs.declared.Found.the-variants as found
+use Rattle.read_dir.specs.declared.Place.{Place}
+use Rattle.read_dir.specs.Walk.{Walk, item, finished, damaged, shown, entriesFrom, walk}
+use Rattle.read_dir.specs.Finds.{findIn}
+use Rattle.read_dir.proofs.Unroll.{entries-ind, chain-ind}
+use Rattle.path.specs.Path.{slash, split, lastName, dirPart, steps}
+use Rattle.path.specs.Post.{between, PieceIs, FirstIs, PartsIs}
+use Rattle.path.specs.declared.Parts.{Parts}
+use Rattle.path.proofs.Laws.{steps-is-root, steps-from}
+use Rattle.dir.specs.Resolve.{onFound, onName, Held, held, lookupIn, resolve, openDir, entryOf}
+use Rattle.dir.specs.Post.{openedSays}
+use Rattle.dir.specs.declared.Opened.{Opened}
+use Rattle.dir.specs.declared.Opened.the-variants as opened
+
+-- ---- the directory that an entry stands for
+
+abbrev pub ofEntry : DirEntry → Reply ℕ
+ofEntry e = pick (isDir (e .kind)) (accepted (e .addr .0)) (refused 6)
+
+module _ (e : DirEntry) where
+  pub directory-dir : e .kind ≡ Dir → accepted (e .addr .0) ≡ ofEntry e
+  directory-dir q = sym (pick-true _ _ (ap isDir q))
+
+  pub directory-file : e .kind ≡ File → refused 6 ≡ ofEntry e
+  directory-file q = sym (pick-false _ _ (ap isDir q))
+
+  pub directory-device : e .kind ≡ Device → refused 6 ≡ ofEntry e
+  directory-device q = sym (pick-false _ _ (ap isDir q))
+
+-- ---- a name
+
+pub name-empty : {A : Type 0} (x : List ℕ) (r : Reply A) → length x ≡ 0 → refused 5 ≡ onName x r
+name-empty [] r e = refl
+name-empty (c ∷ x) r e = absurd (omega arith)
+
+pub name-some : {A : Type 0} (x : List ℕ) (r : Reply A) → (length x ≡ 0 → ⊥) → onName x r ≡ r
+name-some [] r h = absurd (h refl)
+name-some (c ∷ x) r h = refl
+
+-- ---- a lookup
+
+module _ {A : Type 0} (x : List ℕ) (w : Walk) (f : Found) (k : DirEntry → Reply A) (q : f ≡ findIn x w) where
+  pub found-at : (e : DirEntry) (p : Place) → f ≡ found.At e p → k e ≡ onFound (findIn x w) k
+  found-at e p g = ap (λ (y : Found). onFound y k) (sym g ∙ q)
+
+  pub found-none : f ≡ found.Missing → refused 5 ≡ onFound (findIn x w) k
+  found-none g = ap (λ (y : Found). onFound y k) (sym g ∙ q)
+
+  pub found-bad : f ≡ found.Damaged → refused 17 ≡ onFound (findIn x w) k
+  found-bad g = ap (λ (y : Found). onFound y k) (sym g ∙ q)
+
+  module _ (some : length x ≡ 0 → ⊥) where
+    pub enter-at : (e : DirEntry) (p : Place) (r : Reply A) → f ≡ found.At e p → r ≡ k e → r ≡ onName x (onFound (findIn x w) k)
+    enter-at e p r g h = h ∙ found-at e p g ∙ sym (name-some x _ some)
+
+    pub enter-none : f ≡ found.Missing → refused 5 ≡ onName x (onFound (findIn x w) k)
+    enter-none g = found-none g ∙ sym (name-some x _ some)
+
+    pub enter-bad : f ≡ found.Damaged → refused 17 ≡ onName x (onFound (findIn x w) k)
+    enter-bad g = found-bad g ∙ sym (name-some x _ some)
+
+pub find-at : (a : ℕ) (x : List ℕ) (w : Walk) (f : Found) (e : DirEntry) (p : Place) → f ≡ findIn x w → f ≡ found.At e p
+    → accepted (held a e) ≡ onFound (findIn x w) (λ y. accepted (held a y))
+find-at a x w f e p q g = found-at x w f (λ y. accepted (held a y)) q e p g
+
+-- ---- name after name
+
+and-then-ok : {A B : Type 0} {r : Reply A} (a : A) (f : A → Reply B) → r ≡ accepted a → andThen r f ≡ f a
+unfolding andThen
+and-then-ok a f e = rw e
+
+and-then-no : {A B : Type 0} {r : Reply A} (k : ℕ) (f : A → Reply B) → r ≡ refused k → andThen r f ≡ refused k
+unfolding andThen
+and-then-no k f e = rw e
+
+and-then-pick : {A B : Type 0} (b : Bool) (x y : Reply A) (f : A → Reply B) → andThen (pick b x y) f ≡ pick b (andThen x f) (andThen y f)
+unfolding pick
+and-then-pick true x y f = refl
+and-then-pick false x y f = refl
+
+module _ (B D n : ℕ) (I : List ℕ) where
+  -- the directory of that name
+  abbrev pub entered : ℕ → List ℕ → Reply ℕ
+  entered a x = onName x (lookupIn B D n I a x ofEntry)
+
+  pub resolve-none : (a : ℕ) → resolve B D n I [] a ≡ accepted a
+  unfolding resolve
+  resolve-none a = refl
+
+  pub resolve-step : (x : List ℕ) (xs : List (List ℕ)) (a : ℕ) → resolve B D n I (x ∷ xs) a ≡ andThen (entered a x) (resolve B D n I xs)
+  unfolding resolve andThen
+  resolve-step [] xs a = refl
+  resolve-step (c ∷ x) xs a = go (findIn (c ∷ x) (walk B D n I a))
+    where
+      go : (f : Found) → onFound f (λ e. pick (isDir (e .kind)) (resolve B D n I xs (e .addr .0)) (refused 6)) ≡ andThen (onFound f ofEntry) (resolve B D n I xs)
+      go (found.At e p) = sym (and-then-pick (isDir (e .kind)) (accepted (e .addr .0)) (refused 6) (resolve B D n I xs))
+      go found.Missing = refl
+      go found.Damaged = refl
+
+lt-of-ne : {a b : ℕ} → a ≤ b → (a ≡ b → ⊥) → a < b
+lt-of-ne h z = omega arith
+
+-- ---- one piece of the path: r is what entering it from the directory at `dir` gave, and the rest is to be resolved from there
+
+module _ (D n : ℕ) (I : List ℕ) (full : List ℕ) (at end e first dir : ℕ) (r : Opened) (p : PieceIs full at end e) (q : openedSays r ≡ entered 512 D n I dir (between full at e))
+    (inv : resolve 512 D n I (split (drop at (take end full))) dir ≡ resolve 512 D n I (split (drop first (take end full))) D) where
+  step-on : (xs : List (List ℕ)) → split (drop at (take end full)) ≡ between full at e ∷ xs
+      → andThen (openedSays r) (resolve 512 D n I xs) ≡ resolve 512 D n I (split (drop first (take end full))) D
+  step-on xs h =
+      ap (λ (y : Reply ℕ). andThen y (resolve 512 D n I xs)) q
+      ∙ sym (resolve-step 512 D n I (between full at e) xs dir)
+      ∙ ap (λ (ys : List (List ℕ)). resolve 512 D n I ys dir) (sym h)
+      ∙ inv
+
+  pub piece-last : (a : Addr) → r ≡ opened.At a → e ≡ end → accepted (a .0) ≡ resolve 512 D n I (split (drop first (take end full))) D
+  piece-last a g z =
+      sym (resolve-none 512 D n I (a .0)) ∙ sym (and-then-ok (a .0) (resolve 512 D n I []) (ap openedSays g)) ∙ step-on [] (p .last z)
+
+  pub piece-more : (a : Addr) → r ≡ opened.At a → (e ≡ end → ⊥) → resolve 512 D n I (split (drop (e + 1) (take end full))) (a .0) ≡ resolve 512 D n I (split (drop first (take end full))) D
+  piece-more a g z =
+      sym (and-then-ok (a .0) (resolve 512 D n I (split (drop (e + 1) (take end full)))) (ap openedSays g))
+      ∙ step-on (split (drop (e + 1) (take end full))) (p .more (lt-of-ne (p .high) z))
+
+  pub piece-refused : (k : Refusal) → r ≡ opened.Refused k → refused (refusalNumber k) ≡ resolve 512 D n I (split (drop first (take end full))) D
+  piece-refused k g = go (decLt e end)
+    where
+      go : Dec (e < end) → refused (refusalNumber k) ≡ resolve 512 D n I (split (drop first (take end full))) D
+      go (yes l) =
+          sym (and-then-no (refusalNumber k) (resolve 512 D n I (split (drop (e + 1) (take end full)))) (ap openedSays g))
+          ∙ step-on (split (drop (e + 1) (take end full))) (p .more l)
+      go (no l) = sym (and-then-no (refusalNumber k) (resolve 512 D n I []) (ap openedSays g)) ∙ step-on [] (p .last (omega (arith, p .high)))
+
+-- ---- the directory of a path
+
+module _ (D n : ℕ) (I : List ℕ) (full : List ℕ) (end : ℕ) (b : Bool) (t : b ≡ same (take end full) (slash ∷ [])) where
+  pub open-root : b ≡ true → accepted D ≡ openDir 512 D n I (take end full)
+  open-root h = sym (ap (λ (ys : List (List ℕ)). resolve 512 D n I ys D) (steps-is-root (take end full) b t h) ∙ resolve-none 512 D n I D)
+
+  pub open-along : (first : ℕ) (r : Reply ℕ) → b ≡ false → FirstIs full end first → r ≡ resolve 512 D n I (split (drop first (take end full))) D
+      → r ≡ openDir 512 D n I (take end full)
+  open-along first r h f q = q ∙ sym (ap (λ (ys : List (List ℕ)). resolve 512 D n I ys D) (steps-from full end first b t h f))
+
+-- ---- the entry at a path
+
+module _ (D n : ℕ) (I : List ℕ) (full : List ℕ) (len : ℕ) (ps : Parts) (inside : len ≤ length full) (p : PartsIs full len ps) where
+  name-long : length (lastName (take len full)) ≡ ps .to - ps .from
+  name-long = ap length (sym (p .name)) ∙ simp (length-take, length-drop) (omega (arith, p .from-in, p .to-in))
+
+  pub entry-empty : ps .from ≡ ps .to → refused 5 ≡ entryOf 512 D n I (take len full)
+  unfolding entryOf
+  entry-empty e = name-empty (lastName (take len full)) _ (omega (arith, name-long))
+
+  module _ (o : Opened) (some : ps .from ≡ ps .to → ⊥) (q : openedSays o ≡ openDir 512 D n I (take (ps .dir) full)) where
+    opens : andThen (openedSays o) (λ a. lookupIn 512 D n I a (lastName (take len full)) (λ e. accepted (held a e))) ≡ entryOf 512 D n I (take len full)
+    unfolding entryOf
+    opens =
+        ap (λ (y : Reply ℕ). andThen y (λ a. lookupIn 512 D n I a (lastName (take len full)) (λ e. accepted (held a e)))) (q ∙ ap (openDir 512 D n I) (p .dir))
+        ∙ sym (name-some (lastName (take len full)) _ (λ z. some (omega (arith, name-long, p .from-in))))
+
+    pub entry-in : (a : Addr) (r : Reply Held) → o ≡ opened.At a
+        → r ≡ lookupIn 512 D n I (a .0) (between full (ps .from) (ps .to)) (λ e. accepted (held (a .0) e)) → r ≡ entryOf 512 D n I (take len full)
+    entry-in a r g h =
+        h ∙ ap (λ (x : List ℕ). lookupIn 512 D n I (a .0) x (λ e. accepted (held (a .0) e))) (p .name)
+        ∙ sym (and-then-ok (a .0) (λ b. lookupIn 512 D n I b (lastName (take len full)) (λ e. accepted (held b e))) (ap openedSays g))
+        ∙ opens
+
+    pub entry-unopened : (k : Refusal) → o ≡ opened.Refused k → refused (refusalNumber k) ≡ entryOf 512 D n I (take len full)
+    entry-unopened k g = sym (and-then-no (refusalNumber k) _ (ap openedSays g)) ∙ opens
+
+-- ---- a found name is short: its length is a byte
+
+unfoldable ShortNames : Walk → Type 0
+ShortNames (item e a o x w) = (length x ≤ 255) × ShortNames w
+ShortNames finished = Unit {0}
+ShortNames damaged = Unit {0}
+
+in-short : (x : List ℕ) (w : Walk) (e : DirEntry) (p : Place) → ShortNames w → findIn x w ≡ found.At e p → length x ≤ 255
+unfolding findIn ShortNames
+in-short x (item d a o y w) e p s q = go (either (same y x)) (in-short x w e p (s .1))
+  where
+    go : (same y x ≡ true) ⊎ (same y x ≡ false) → (findIn x w ≡ found.At e p → length x ≤ 255) → length x ≤ 255
+    go (inl t) r = let z = same-eq y x t in omega (arith, ap length z, s .0)
+    go (inr f) r = r (sym (pick-false _ _ f) ∙ q)
+in-short x finished e p s q = let z : _≡_ {A = ℕ} 0 1 = cc in absurd (omega arith)
+in-short x damaged e p s q = let z : _≡_ {A = ℕ} 0 1 = cc in absurd (omega arith)
+
+module _ (B D n : ℕ) (I : List ℕ) (bytes : Bytes I) where
+  len-byte : (a o : ℕ) (e : DirEntry) → slotAt B I a o ≡ Entry e → e .len ≤ 255
+  unfolding entryAt
+  len-byte a o e p = omega (arith, ap (λ (d : DirEntry). d .len) (slot-stands B I a o e p .is), bytes (placeAt B a o + 17))
+
+  entries-short : (a : ℕ) (w : Walk) → ShortNames w → ShortNames (entriesFrom B D n I B a 0 w)
+  unfolding ShortNames shown
+  entries-short a w s =
+      entries-ind B D n I a w (λ o v. ShortNames v) (λ o. s)
+      (λ o e v p h. pick-case ShortNames (eqb (e .addr .0) 0) _ _ (λ _. h) (λ _. (rw length-take (omega (arith, len-byte a o e p)), h))) B 0
+
+  walk-short : (a : ℕ) → ShortNames (walk B D n I a)
+  unfolding ShortNames
+  walk-short a =
+      chain-ind B D n I (λ k a w. ShortNames w) (λ k a. tt) (λ k a _ _ _. entries-short a finished tt) (λ k a w _ _ _ s. entries-short a w s) (n - D) a
+
+  pub found-short : (x : List ℕ) (a : ℕ) (e : DirEntry) (p : Place) → findIn x (walk B D n I a) ≡ found.At e p → length x ≤ 255
+  found-short x a e p q = in-short x (walk B D n I a) e p (walk-short a) q
+
+  lookup-short : (x : List ℕ) (a : ℕ) (h : Held) → lookupIn B D n I a x (λ e. accepted (held a e)) ≡ accepted h → length x ≤ 255
+  lookup-short x a h q = go (findIn x (walk B D n I a)) refl q
+    where
+      go : (f : Found) → findIn x (walk B D n I a) ≡ f → onFound f (λ e. accepted (held a e)) ≡ accepted h → length x ≤ 255
+      go (found.At e p) g z = found-short x a e p g
+      go found.Missing g z = let y : _≡_ {A = ℕ} 0 1 = cc in absurd (omega arith)
+      go found.Damaged g z = let y : _≡_ {A = ℕ} 0 1 = cc in absurd (omega arith)
+
+  name-short : (x : List ℕ) (r : Reply ℕ) (h : Held) → onName x (andThen r (λ a. lookupIn B D n I a x (λ e. accepted (held a e)))) ≡ accepted h → length x ≤ 255
+  unfolding andThen
+  name-short [] r h q = omega arith
+  name-short (c ∷ x) (accepted a) h q = lookup-short (c ∷ x) a h q
+  name-short (c ∷ x) (refused k) h q = let z : _≡_ {A = ℕ} 0 1 = cc in absurd (omega arith)
+
+  pub entry-short : (l : List ℕ) (h : Held) → entryOf B D n I l ≡ accepted h → length (lastName l) ≤ 255
+  unfolding entryOf
+  entry-short l h q = name-short (lastName l) (openDir B D n I (dirPart l)) h q
+
+-- ---- the refusals on the way
+
+-- not found, not a directory, damage
+abbrev pub OnTheWay : ℕ → Type 0
+OnTheWay k = (k ≡ 5) ⊎ ((k ≡ 6) ⊎ (k ≡ 17))
+
+abbrev Refuses : {A : Type 0} → Reply A → Type 0
+Refuses r = (k : ℕ) → r ≡ refused k → OnTheWay k
+
+module _ {A : Type 0} where
+  same-number : (j k : ℕ) → _≡_ {A = Reply A} (refused j) (refused k) → k ≡ j
+  same-number j k e = cc
+
+  some-accepted : (a : A) → Refuses (accepted a)
+  some-accepted a k e = let z : _≡_ {A = ℕ} 0 1 = cc in absurd (omega arith)
+
+  not-found : Refuses {A = A} (refused 5)
+  not-found k e = inl (same-number 5 k e)
+
+  not-dir : Refuses {A = A} (refused 6)
+  not-dir k e = inr (inl (same-number 6 k e))
+
+  on-damage : Refuses {A = A} (refused 17)
+  on-damage k e = inr (inr (same-number 17 k e))
+
+  found-refuses : (f : Found) (g : DirEntry → Reply A) → ((e : DirEntry) → Refuses (g e)) → Refuses (onFound f g)
+  found-refuses (found.At e p) g h = h e
+  found-refuses found.Missing g h = not-found
+  found-refuses found.Damaged g h = on-damage
+
+  name-refuses : (x : List ℕ) (r : Reply A) → Refuses r → Refuses (onName x r)
+  name-refuses [] r h = not-found
+  name-refuses (c ∷ x) r h = h
+
+module _ (B D n : ℕ) (I : List ℕ) where
+  resolve-refuses : (xs : List (List ℕ)) (a : ℕ) → Refuses (resolve B D n I xs a)
+  unfolding resolve
+  resolve-refuses [] a = some-accepted a
+  resolve-refuses (x ∷ xs) a =
+      name-refuses x _
+      (found-refuses (findIn x (walk B D n I a)) _
+      (λ e. pick-case Refuses (isDir (e .kind)) _ _ (λ _. resolve-refuses xs (e .addr .0)) (λ _. not-dir)))
+
+  pub open-refused : (d : List ℕ) (k : ℕ) → openDir B D n I d ≡ refused k → OnTheWay k
+  open-refused d = resolve-refuses (steps d) D
+
+  then-refuses : (r : Reply ℕ) (g : ℕ → Reply Held) → Refuses r → ((a : ℕ) → Refuses (g a)) → Refuses (andThen r g)
+  unfolding andThen
+  then-refuses (accepted a) g p h = h a
+  then-refuses (refused j) g p h = λ k e. p k (ap refused (sym (same-number j k e)))
+
+  pub entry-refused : (l : List ℕ) (k : ℕ) → entryOf B D n I l ≡ refused k → OnTheWay k
+  unfolding entryOf
+  entry-refused l =
+      name-refuses (lastName l) _
+      (then-refuses (openDir B D n I (dirPart l)) _ (open-refused (dirPart l))
+      (λ a. found-refuses (findIn (lastName l) (walk B D n I a)) _ (λ e. some-accepted (held a e))))

@@ -1,0 +1,5 @@
+pub mod Bytes
+pub mod Ends
+pub mod Examples
+pub mod Laws
+pub mod Pieces

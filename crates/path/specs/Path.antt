@@ -1,0 +1,94 @@
+-- Paths as lists of bytes, in 01's words. Definitions alone.
+use mathlib.Core.Bool.{Bool, true, false, not, _||_, _&&_}
+use mathlib.Core.List.{List, [], _∷_, _++_}
+use Prim.Native.Nat.{ℕ, zero, suc}
+use lib.Dec.{ltb, leb, eqb}
+use lib.ListN.{length, take, drop}
+use Rattle.wire.specs.Pick.{pick, same}
+use Rattle.model.specs.Answers.{when}
+
+-- `/`
+abbrev pub slash : ℕ
+slash = 47
+
+-- "full path up to 1,024 bytes of 0x20 to 0x7E"
+abbrev pub pathLimit : ℕ
+pathLimit = 1024
+
+unfoldable pub pathBytes : List ℕ → Bool
+pathBytes [] = true
+pathBytes (c ∷ l) = (leb 32 c && leb c 126) && pathBytes l
+
+unfoldable pub startsSlash : List ℕ → Bool
+startsSlash [] = false
+startsSlash (c ∷ l) = eqb c slash
+
+unfoldable pub endsSlash : List ℕ → Bool
+endsSlash [] = false
+endsSlash (c ∷ []) = eqb c slash
+endsSlash (c ∷ d ∷ l) = endsSlash (d ∷ l)
+
+-- "a path not starting with `/` is the working directory, a `/` if that doesn't end in one, then the path"
+unfoldable pub realPath : List ℕ → List ℕ → List ℕ
+realPath cwd p = pick (startsSlash p) p (cwd ++ (pick (endsSlash cwd) [] (slash ∷ []) ++ p))
+
+-- 4: "path length or byte; working directory not starting `/` where needed"
+unfoldable pub badPath : List ℕ → List ℕ → Bool
+badPath cwd p = (not (startsSlash p) && not (startsSlash cwd)) || (ltb pathLimit (length (realPath cwd p)) || not (pathBytes (realPath cwd p)))
+
+abbrev pub pathRefusal : List ℕ → List ℕ → ℕ
+pathRefusal cwd p = when 4 (badPath cwd p)
+
+-- how many bytes are left of l without the slashes at its end
+unfoldable pub untrailed : List ℕ → ℕ
+untrailed [] = 0
+untrailed (c ∷ l) = grown (untrailed l) (eqb c slash)
+  where
+    grown : ℕ → Bool → ℕ
+    grown zero true = 0
+    grown zero false = 1
+    grown (suc k) b = suc (suc k)
+
+-- "trailing slashes go if the length is above 1"
+unfoldable pub trimmed : List ℕ → List ℕ
+trimmed l = pick (ltb 1 (length l)) (take (untrailed l) l) l
+
+-- "the last name follows the last `/`": how many bytes of l stand before its last name
+unfoldable pub beforeName : List ℕ → ℕ
+beforeName [] = 0
+beforeName (c ∷ l) = behind (beforeName l) (eqb c slash)
+  where
+    behind : ℕ → Bool → ℕ
+    behind zero true = 1
+    behind zero false = 0
+    behind (suc k) b = suc (suc k)
+
+unfoldable pub lastName : List ℕ → List ℕ
+lastName l = drop (beforeName (trimmed l)) (trimmed l)
+
+-- "and the directory part is what precedes it, or `/`": without the last slash, but for a slash that is the first byte
+unfoldable pub dirPart : List ℕ → List ℕ
+dirPart l = take (kept (beforeName (trimmed l))) (trimmed l)
+  where
+    kept : ℕ → ℕ
+    kept zero = 0
+    kept (suc zero) = 1
+    kept (suc (suc k)) = suc k
+
+-- "splitting at `/`": the pieces of l
+unfoldable pub split : List ℕ → List (List ℕ)
+split [] = [] ∷ []
+split (c ∷ l) = pick (eqb c slash) ([] ∷ split l) (onHead c (split l))
+  where
+    onHead : ℕ → List (List ℕ) → List (List ℕ)
+    onHead c [] = (c ∷ []) ∷ []
+    onHead c (x ∷ xs) = (c ∷ x) ∷ xs
+
+-- "dropping leading slashes"
+unfoldable pub unled : List ℕ → List ℕ
+unled [] = []
+unled (c ∷ l) = pick (eqb c slash) (unled l) (c ∷ l)
+
+-- "The directory part is opened by dropping leading slashes and splitting at `/` ...; `/` itself is the root": the names on the way.
+unfoldable pub steps : List ℕ → List (List ℕ)
+steps d = pick (same d (slash ∷ [])) [] (split (unled d))
