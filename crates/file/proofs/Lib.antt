@@ -1,0 +1,7 @@
+pub mod Chains
+pub mod Fetches
+pub mod Follows
+pub mod Frames
+pub mod Handles
+pub mod Pours
+pub mod Seeks

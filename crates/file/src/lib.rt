@@ -1,0 +1,362 @@
+// Files by their handle, on any image: seeking and reading, the reading half of file.rs.
+// A handle goes in by value and comes back advanced; a refusal hands back the very handle that was given.
+// May use: wire, block, model, super_block, dir_entry, read_dir.
+use block::Addr;
+use block::LinkedBlock;
+use dir_entry::DirEntry;
+use dir_entry::Kind;
+use model::Refusal;
+use read_dir::Place;
+use read_dir::ReadDir;
+use read_dir::Step;
+use super_block::SuperBlock;
+ghost use mathlib.Core.Path.{_≡_};
+ghost use mathlib.Core.Bool.{true, false};
+ghost use Prim.Native.Nat.{_+_, _-_, _*_, _≤_, _<_, min};
+ghost use lib.ListN.{length};
+ghost use Rattle.wire.specs.Be.{splice};
+ghost use Rattle.wire.specs.Pick.{same};
+ghost use Rattle.block.specs.Block.{blockBytes};
+ghost use Rattle.dir_entry.specs.Entry.{isFile, header, placeAt, nameAt};
+ghost use Rattle.super_block.specs.Super.{Fit};
+ghost use Rattle.read_dir.specs.Walk.{walk};
+ghost use Rattle.file.specs.File.{nameOf, staleFields, moved, target, within, placeIn, current, heldIn, toRead};
+ghost use Rattle.file.specs.Post.{outcomeNumber, SoughtIs, ReadIs, handleRefusal, FetchIs, after, partAt, Whole, BeginsIs, WalkedIs};
+
+// The bytes of the largest file.
+pub const FILE_LIMIT: u32 = 2_147_483_647;
+
+// A block's data bytes, as positions are counted.
+const CAPACITY: u32 = LinkedBlock::CAPACITY as u32;
+
+// What an open file is known by. The name stands in the first len bytes.
+pub struct Handle {
+    pub dir: Addr,
+    pub name: [u8; 255],
+    pub len: usize,
+    pub addr: Addr,
+    pub size: u32,
+    pub position: u32,
+}
+
+// Where a seek goes: from the start, from the position, from the end.
+pub enum SeekFrom {
+    Start(u32),
+    Current(i32),
+    End(i32),
+}
+
+pub enum Outcome {
+    Success,
+    Refused(Refusal),
+}
+
+// What a seek gives: its answer, and the handle after it.
+pub struct Sought {
+    pub answer: Outcome,
+    pub handle: Handle,
+}
+
+// How many bytes were read.
+pub enum Counted {
+    Bytes(usize),
+    Refused(Refusal),
+}
+
+// What a read gives: its answer, and the handle after it.
+pub struct ReadOut {
+    pub answer: Counted,
+    pub handle: Handle,
+}
+
+// Where a walk along a chain came to.
+enum Walked {
+    At(Addr),
+    Damaged,
+}
+
+// Whether a target lies in a file of that size.
+fn inside(size: u32, to: i64) -> bool
+    ensures { λ r. ⌜ r ≡ within size to ⌝ }
+{
+    if to < 0 {
+        return false;
+    }
+    to <= (size as i64)
+}
+
+// The position of a target that lies in a file.
+fn position(size: u32, to: i64) -> u32
+    requires { ⌜ within size to ≡ true ⌝ }
+    ensures { λ r. ⌜ r ≡ placeIn to ⌝ }
+{
+    to as u32
+}
+
+// Whether it is the kind of a file.
+fn is_file(k: Kind) -> bool
+    ensures { λ r. ⌜ r ≡ isFile k ⌝ }
+{
+    match k {
+        Kind::File => true,
+        Kind::Dir => false,
+        Kind::Device => false,
+    }
+}
+
+// The address after the first k blocks of the chain from a on. Each of them is looked at before it is read.
+fn follow(img: &[u8], s: SuperBlock, a: Addr, k: u32) -> Walked
+    requires { ⌜ Fit s (now img) ⌝ }
+    ensures { λ r. ⌜ WalkedIs (after blockBytes (s .area .0) (s .blocks) (now (img .entry)) k (a .0)) r ⌝ }
+{
+    let d = s.area;
+    let mut b = a;
+    let mut left = k;
+    while 0 < left {
+        if b.0 < d.0 {
+            return Walked::Damaged;
+        }
+        if s.blocks <= b.0 {
+            return Walked::Damaged;
+        }
+        b = LinkedBlock::new(b).next_addr(img);
+        left -= 1;
+    }
+    Walked::At(b)
+}
+
+// The block of byte p of the chain from a on, where the chain has the k bytes from there on; none is walked for 0 bytes.
+fn begin(img: &[u8], s: SuperBlock, a: Addr, p: u32, k: u32) -> Walked
+    requires { ⌜ Fit s (now img) ⌝ }
+    requires { ⌜ p + k ≤ 2147483647 ⌝ }
+    ensures { λ r. ⌜ BeginsIs blockBytes (s .area .0) (s .blocks) (now (img .entry)) (a .0) p k r ⌝ }
+{
+    if k == 0 {
+        return Walked::At(a);
+    }
+    let d = s.area;
+    let first = p / CAPACITY;
+    let m = (p + (k - 1)) / CAPACITY + 1;
+    if s.blocks - d.0 < m {
+        return Walked::Damaged;
+    }
+    let reached = follow(img, s, a, first);
+    let Walked::At(b) = reached else {
+        return Walked::Damaged;
+    };
+    match follow(img, s, b, m - first) {
+        Walked::At(_) => Walked::At(b),
+        Walked::Damaged => Walked::Damaged,
+    }
+}
+
+// How many of k bytes stand in a block from data byte o on.
+fn run_of(o: usize, k: usize) -> usize
+    requires { ⌜ o < 508 ⌝ }
+    ensures { λ r. ⌜ r ≡ min k (508 - o) ⌝ }
+{
+    let room = LinkedBlock::CAPACITY - o;
+    if k < room { k } else { room }
+}
+
+// k bytes from data byte o of block a on, along the chain, to the start of the buffer: a run of each block at a time.
+// Its blocks were looked at before; s says which they may be, and only the contract names it.
+fn pour(img: &[u8], s: SuperBlock, a: Addr, o: usize, buf: &mut [u8], k: usize)
+    requires { ⌜ Fit s (now img) ⌝ }
+    requires { ⌜ o < 508 ⌝ }
+    requires { ⌜ k ≤ length (now buf) ⌝ }
+    requires { ⌜ Whole blockBytes (s .area .0) (s .blocks) (now img) (a .0) o k ⌝ }
+    ensures { λ _. ⌜ now (buf .exit) ≡ splice (now (buf .entry)) 0 (partAt blockBytes (s .area .0) (s .blocks) (now (img .entry)) (a .0) o k) ⌝ }
+{
+    let mut b = a;
+    let mut at = o;
+    let mut i: usize = 0;
+    while i < k {
+        let run = run_of(at, k - i);
+        wire::copy(buf, i, img, dir_entry::place(b, at), run);
+        b = LinkedBlock::new(b).next_addr(img);
+        at = 0;
+        i += run;
+    }
+}
+
+impl Handle {
+    // Refusal 11, as far as the handle's own fields tell.
+    pub fn stale(self) -> bool
+        ensures { λ r. ⌜ r ≡ staleFields self ⌝ }
+    {
+        if self.size < self.position {
+            return true;
+        }
+        if FILE_LIMIT < self.size {
+            return true;
+        }
+        if self.len == 0 {
+            return true;
+        }
+        255 < self.len
+    }
+
+    // The handle at another position.
+    fn at(mut self, p: u32) -> Handle
+        ensures { λ r. ⌜ r ≡ moved self p ⌝ }
+    {
+        self.position = p;
+        self
+    }
+
+    // Where a seek would go. No sum of a u32 and an i32 passes an i64.
+    fn reach(self, from: SeekFrom) -> i64
+        ensures { λ r. ⌜ r ≡ target self from ⌝ }
+    {
+        match from {
+            SeekFrom::Start(k) => k as i64,
+            SeekFrom::Current(i) => (self.position as i64) + (i as i64),
+            SeekFrom::End(i) => (self.size as i64) + (i as i64),
+        }
+    }
+
+    // Refused by 11 or 12, or the handle at its target.
+    pub fn seek(self, from: SeekFrom) -> Sought
+        ensures { λ r. ⌜ SoughtIs self from r ⌝ }
+    {
+        if self.stale() {
+            return Sought {
+                answer: Outcome::Refused(Refusal::Stale),
+                handle: self,
+            };
+        }
+        let to = self.reach(from);
+        if !inside(self.size, to) {
+            return Sought {
+                answer: Outcome::Refused(Refusal::BadSeek),
+                handle: self,
+            };
+        }
+        let p = position(self.size, to);
+        Sought {
+            answer: Outcome::Success,
+            handle: self.at(p),
+        }
+    }
+
+    // Whether these bytes are the handle's name.
+    fn named(self, x: &[u8]) -> bool
+        requires { ⌜ self .len ≤ 255 ⌝ }
+        ensures { λ r. ⌜ r ≡ same (now (x .entry)) (nameOf self) ⌝ }
+    {
+        let n = self.len;
+        if x.len() != n {
+            return false;
+        }
+        let name = self.name;
+        wire::same_bytes(x, 0, &name[..n])
+    }
+
+    // Whether an entry is the handle's: a file's, with its name, address and size.
+    fn current(self, img: &[u8], e: DirEntry, p: Place) -> bool
+        requires { ⌜ self .len ≤ 255 ⌝ }
+        requires { ⌜ blockBytes * p .block .0 + blockBytes ≤ length (now img) ⌝ }
+        requires { ⌜ p .offset + header + e .len ≤ 507 ⌝ }
+        ensures { λ r. ⌜ r ≡ current self e (nameAt (now (img .entry)) (placeAt blockBytes (p .block .0) (p .offset)) (e .len)) ⌝ }
+    {
+        let k = e.kind;
+        if !is_file(k) {
+            return false;
+        }
+        let a = e.addr;
+        let b = self.addr;
+        if a.0 != b.0 {
+            return false;
+        }
+        if e.size != self.size {
+            return false;
+        }
+        self.named(read_dir::name_of(img, e, p))
+    }
+
+    // Whether the handle's directory holds its entry: 11 where it ends without, 17 where it is damaged before.
+    fn held(self, img: &[u8], s: SuperBlock) -> Outcome
+        requires { ⌜ Fit s (now img) ⌝ }
+        requires { ⌜ self .len ≤ 255 ⌝ }
+        ensures { λ r. ⌜ outcomeNumber r ≡ heldIn self (walk blockBytes (s .area .0) (s .blocks) (now (img .entry)) (self .dir .0)) ⌝ }
+    {
+        let dir = self.dir;
+        let mut c = ReadDir::new(s, dir);
+        loop {
+            match c.next(img, s) {
+                Step::Entry(e, p, d) => {
+                    if self.current(img, e, p) {
+                        return Outcome::Success;
+                    }
+                    c = d;
+                }
+                Step::End => return Outcome::Refused(Refusal::Stale),
+                Step::Damaged => return Outcome::Refused(Refusal::Damaged),
+            }
+        }
+    }
+
+    // Refusal 11 by the handle's own fields, then 11 or 17 by its directory.
+    fn check(self, img: &[u8], s: SuperBlock) -> Outcome
+        requires { ⌜ Fit s (now img) ⌝ }
+        ensures { λ r. ⌜ outcomeNumber r ≡ handleRefusal blockBytes (s .area .0) (s .blocks) (now (img .entry)) self ⌝ }
+    {
+        if self.stale() {
+            return Outcome::Refused(Refusal::Stale);
+        }
+        self.held(img, s)
+    }
+
+    // How many bytes a read into len bytes gives.
+    fn count(self, len: usize) -> u32
+        requires { ⌜ self .position ≤ self .size ⌝ }
+        ensures { λ r. ⌜ r ≡ toRead self len ⌝ }
+    {
+        let left = self.size - self.position;
+        if len < (left as usize) {
+            len as u32
+        } else {
+            left
+        }
+    }
+
+    // The bytes of a read whose handle was checked. The chain is followed first, so that damage leaves the buffer as it was.
+    fn fetch(self, img: &[u8], s: SuperBlock, buf: &mut [u8]) -> ReadOut
+        requires { ⌜ Fit s (now img) ⌝ }
+        requires { ⌜ staleFields self ≡ false ⌝ }
+        ensures { λ r. ⌜ FetchIs blockBytes (s .area .0) (s .blocks) (now (img .entry)) self (now (buf .entry)) (now (buf .exit)) r ⌝ }
+    {
+        let p = self.position;
+        let a = self.addr;
+        let k = self.count(buf.len());
+        match begin(img, s, a, p, k) {
+            Walked::Damaged => ReadOut {
+                answer: Counted::Refused(Refusal::Damaged),
+                handle: self,
+            },
+            Walked::At(b) => {
+                pour(img, s, b, (p % CAPACITY) as usize, buf, k as usize);
+                ReadOut {
+                    answer: Counted::Bytes(k as usize),
+                    handle: self.at(p + k),
+                }
+            }
+        }
+    }
+
+    // Up to buf.len() bytes from the position on. Refused by 11 or 17, or the handle past what was read.
+    pub fn read(self, img: &[u8], s: SuperBlock, buf: &mut [u8]) -> ReadOut
+        requires { ⌜ Fit s (now img) ⌝ }
+        ensures { λ r. ⌜ ReadIs blockBytes (s .area .0) (s .blocks) (now (img .entry)) self (now (buf .entry)) (now (buf .exit)) r ⌝ }
+    {
+        let checked = self.check(img, s);
+        match checked {
+            Outcome::Refused(r) => ReadOut {
+                answer: Counted::Refused(r),
+                handle: self,
+            },
+            Outcome::Success => self.fetch(img, s, buf),
+        }
+    }
+}
