@@ -1,0 +1,7 @@
+pub mod Laws
+pub mod Formatted
+pub mod Opening
+pub mod Paths
+pub mod Handles
+pub mod Outcomes
+pub mod Examples

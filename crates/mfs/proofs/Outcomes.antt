@@ -1,0 +1,118 @@
+-- Demand 1, of each public call: any two outcomes that its contract allows are equal, refused ones too.
+use mathlib.Core.Path.{_≡_, refl, sym, ap, _∙_, subst}
+use mathlib.Core.List.{List}
+use Prim.Native.Nat.{ℕ, _+_}
+use native.Mathlib.Omega.{arith}
+use lib.ListN.{length}
+use Rattle.model.specs.Answers.{Reply, accepted, refused, refusalNumber}
+use Rattle.model.specs.declared.Refusal.{Refusal}
+use Rattle.model.proofs.Replies.{number-one, number-some}
+use Rattle.file.specs.declared.Handle.{Handle}
+use Rattle.file.specs.declared.SeekFrom.{SeekFrom}
+use Rattle.file.specs.declared.Outcome.{Outcome}
+use Rattle.file.specs.declared.Outcome.the-variants as outcome
+use Rattle.file.specs.declared.Sought.{Sought}
+use Rattle.file.specs.declared.Counted.{Counted}
+use Rattle.file.specs.declared.Counted.the-variants as counted
+use Rattle.file.specs.declared.ReadOut.{ReadOut}
+use Rattle.file.specs.File.{moved}
+use Rattle.file.specs.Post.{MovedIs, SoughtIs, CountedIs}
+use Rattle.mfs.specs.declared.Answer.{Answer}
+use Rattle.mfs.specs.declared.Answer.the-variants as answer
+use Rattle.mfs.specs.declared.Space.{Space}
+use Rattle.mfs.specs.declared.Space.the-variants as space
+use Rattle.mfs.specs.declared.OpenOut.{OpenOut}
+use Rattle.mfs.specs.declared.InfoOut.{InfoOut}
+use Rattle.mfs.specs.declared.Listing.{Listing}
+use Rattle.mfs.specs.declared.Listing.the-variants as listing
+use Rattle.mfs.specs.Says.{says, onAnswer, IfRefused, Sizes, spaceSays}
+use Rattle.mfs.specs.Format.{Formats, Uses}
+use Rattle.mfs.specs.Reading.{noHandle, noAbout, aboutOf, Opens, Informs, Counts, listSays, Lists, Reads}
+
+-- an answer with a value beside it, which is fixed where the answer is a refusal
+answer-one : {A : Type 0} (z : A) (a b : Answer) (x y : A) → onAnswer a x ≡ onAnswer b y → IfRefused a (x ≡ z) → IfRefused b (y ≡ z) → (a ≡ b) × (x ≡ y)
+answer-one z answer.Success answer.Success x y e p q = (refl, cc)
+answer-one z answer.Success (answer.Refused r) x y e p q = let t : _≡_ {A = ℕ} 0 1 = cc in absurd (omega arith)
+answer-one z (answer.Refused r) answer.Success x y e p q = let t : _≡_ {A = ℕ} 0 1 = cc in absurd (omega arith)
+answer-one z (answer.Refused r) (answer.Refused s) x y e p q =
+    let k : refusalNumber r ≡ refusalNumber s = cc in
+    (ap answer.Refused (number-one r s k), p ∙ sym q)
+
+-- ---- the calls
+
+pub format-one : (K : ℕ) (I : List ℕ) (r q : Answer) (J L : List ℕ) → Formats K I r J → Formats K I q L → (r ≡ q) × (J ≡ L)
+format-one K I r q J L a b = (go r q (a .answer ∙ sym (b .answer)), a .image ∙ sym (b .image))
+  where
+    go : (r q : Answer) → says r ≡ says q → r ≡ q
+    go answer.Success answer.Success e = refl
+    go answer.Success (answer.Refused y) e = let z : _≡_ {A = ℕ} 0 1 = cc in absurd (omega arith)
+    go (answer.Refused x) answer.Success e = let z : _≡_ {A = ℕ} 0 1 = cc in absurd (omega arith)
+    go (answer.Refused x) (answer.Refused y) e = let k : refusalNumber x ≡ refusalNumber y = cc in ap answer.Refused (number-one x y k)
+
+-- what is accepted is one value
+accepted-one : {A : Type 0} (x y : A) → accepted x ≡ accepted y → x ≡ y
+accepted-one x y e = cc
+
+pub usage-one : (K : ℕ) (I : List ℕ) (r q : Space) → Uses K I r → Uses K I q → r ≡ q
+usage-one K I r q a b = go r q (a ∙ sym b)
+  where
+    go : (r q : Space) → spaceSays r ≡ spaceSays q → r ≡ q
+    go (space.Bytes s u f) (space.Bytes t v g) e =
+        let z : Sizes = record { size = s; used = u; free = f } in
+        let w : Sizes = record { size = t; used = v; free = g } in
+        let k : z ≡ w = accepted-one z w e in
+        λ i. space.Bytes (k i .size) (k i .used) (k i .free)
+    go (space.Bytes s u f) (space.Refused y) e = let z : _≡_ {A = ℕ} 0 1 = cc in absurd (omega arith)
+    go (space.Refused x) (space.Bytes t v g) e = let z : _≡_ {A = ℕ} 0 1 = cc in absurd (omega arith)
+    go (space.Refused x) (space.Refused y) e = let k : refusalNumber x ≡ refusalNumber y = cc in ap space.Refused (number-one x y k)
+
+pub open-one : (K : ℕ) (I cwd p : List ℕ) (r q : OpenOut) → Opens K I cwd p r → Opens K I cwd p q → r ≡ q
+open-one K I cwd p r q a b =
+    let e = answer-one noHandle (r .answer) (q .answer) (r .handle) (q .handle) (a .answer ∙ sym (b .answer)) (a .empty) (b .empty) in
+    λ i. record { answer = e .0 i; handle = e .1 i }
+
+pub info-one : (K : ℕ) (I cwd p : List ℕ) (r q : InfoOut) → Informs K I cwd p r → Informs K I cwd p q → r ≡ q
+info-one K I cwd p r q a b =
+    let e = answer-one noAbout (r .answer) (q .answer) (aboutOf r) (aboutOf q) (a .answer ∙ sym (b .answer)) (a .empty) (b .empty) in
+    λ i. record { answer = e .0 i; kind = e .1 i .kind; size = e .1 i .size; time = e .1 i .time; name = e .1 i .name; len = e .1 i .len }
+
+pub list-one : (K : ℕ) (I cwd p : List ℕ) (n : ℕ) (buf : List ℕ) (r q : Listing) (out end : List ℕ)
+    → Lists K I cwd p n buf r out → Lists K I cwd p n buf q end → (r ≡ q) × (out ≡ end)
+list-one K I cwd p n buf r q out end a b = (go r q (a .answer ∙ sym (b .answer)), a .buffer ∙ sym (b .buffer))
+  where
+    go : (r q : Listing) → listSays r ≡ listSays q → r ≡ q
+    go (listing.Records s u) (listing.Records t v) e =
+        let z : Counts = record { bytes = s; next = u } in
+        let w : Counts = record { bytes = t; next = v } in
+        let k : z ≡ w = accepted-one z w e in
+        λ i. listing.Records (k i .bytes) (k i .next)
+    go (listing.Records s u) (listing.Refused y) e = let z : _≡_ {A = ℕ} 0 1 = cc in absurd (omega arith)
+    go (listing.Refused x) (listing.Records t v) e = let z : _≡_ {A = ℕ} 0 1 = cc in absurd (omega arith)
+    go (listing.Refused x) (listing.Refused y) e = let k : refusalNumber x ≡ refusalNumber y = cc in ap listing.Refused (number-one x y k)
+
+-- a read: the count, the handle and the buffer
+counted-one : (k : ℕ) (h f g : Handle) (vs l m n : List ℕ) (c d : Counted) → CountedIs k h f vs l m c → CountedIs k h g vs l n d → (c ≡ d) × (f ≡ g) × (m ≡ n)
+counted-one k h f g vs l m n (counted.Bytes i) (counted.Bytes j) a b =
+    let e : i ≡ j = a .count ∙ sym (b .count) in
+    (ap counted.Bytes e, a .handle ∙ ap (λ (z : ℕ). moved h (h .position + z)) e ∙ sym (b .handle), a .stored ∙ sym (b .stored))
+counted-one k h f g vs l m n (counted.Bytes i) (counted.Refused y) a b = absurd (omega (arith, a .good, b .refused, number-some y))
+counted-one k h f g vs l m n (counted.Refused x) (counted.Bytes j) a b = absurd (omega (arith, b .good, a .refused, number-some x))
+counted-one k h f g vs l m n (counted.Refused x) (counted.Refused y) a b =
+    (ap counted.Refused (number-one x y (sym (a .refused) ∙ b .refused)), a .handle ∙ sym (b .handle), a .kept ∙ sym (b .kept))
+
+pub read-one : (K : ℕ) (I : List ℕ) (h : Handle) (buf out end : List ℕ) (r q : ReadOut) → Reads K I h buf out r → Reads K I h buf end q → (r ≡ q) × (out ≡ end)
+read-one K I h buf out end r q a b =
+    let e = counted-one _ h (r .handle) (q .handle) _ buf out end (r .answer) (q .answer) a b in
+    (λ i. record { answer = e .0 i; handle = e .1 i }, e .2)
+
+-- a seek: the answer and the handle
+moved-one : (h f g : Handle) (from : SeekFrom) (c d : Outcome) → MovedIs h from f c → MovedIs h from g d → (c ≡ d) × (f ≡ g)
+moved-one h f g from outcome.Success outcome.Success a b = (refl, a .1 ∙ sym (b .1))
+moved-one h f g from outcome.Success (outcome.Refused y) a b = absurd (omega (arith, a .0, b .0, number-some y))
+moved-one h f g from (outcome.Refused x) outcome.Success a b = absurd (omega (arith, a .0, b .0, number-some x))
+moved-one h f g from (outcome.Refused x) (outcome.Refused y) a b = (ap outcome.Refused (number-one x y (sym (a .0) ∙ b .0)), a .1 ∙ sym (b .1))
+
+pub seek-one : (h : Handle) (from : SeekFrom) (r q : Sought) → SoughtIs h from r → SoughtIs h from q → r ≡ q
+seek-one h from r q a b =
+    let e = moved-one h (r .handle) (q .handle) from (r .answer) (q .answer) a b in
+    λ i. record { answer = e .0 i; handle = e .1 i }

@@ -1,0 +1,4 @@
+pub mod Says
+pub mod Format
+pub mod Reading
+pub mod Examples
