@@ -1,0 +1,7 @@
+pub mod Parts
+pub mod Walks
+pub mod Finds
+pub mod Resolves
+pub mod FileReads
+pub mod Listings
+pub mod Calls
