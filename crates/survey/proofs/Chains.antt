@@ -1,0 +1,133 @@
+-- The chain of a file, block after block: what the loop that claims it keeps, and one law for each of its answers.
+use mathlib.Core.Path.{_≡_, refl, sym, ap, _∙_, subst}
+use mathlib.Core.Bool.{Bool, true, false}
+use mathlib.Core.Option.{Option, none, some}
+use mathlib.Core.List.{List, [], _∷_}
+use Prim.Native.Nat.{ℕ, zero, suc, _+_, _-_, _*_, _≤_, _<_}
+use native.Mathlib.Omega.{arith}
+use lib.Dec.{eqb}
+use lib.ListN.{length}
+use borrow.Author.Tests.{eq-eqb, ne-eqb}
+use Rattle.wire.specs.Pick.{pick}
+use Rattle.wire.proofs.Picks.{pick-true, pick-false}
+use Rattle.block.specs.Block.{next}
+use Rattle.model.specs.Tree.{Cell, then}
+use Rattle.model.proofs.Lists.{then-some}
+use Rattle.super_block.specs.declared.SuperBlock.{SuperBlock}
+use Rattle.super_block.specs.Super.{Fit}
+use Rattle.super_block.proofs.Fits.{placed}
+use Rattle.survey.specs.Survey.{Claimed, withFound, claim, cellsOf}
+use Rattle.survey.specs.Marks.{Marks, markBytes, Beyond, seenOf, Answers, Checks, Inside}
+use Rattle.survey.proofs.Claims.{beyond-refl}
+
+pub beyond-trans : {D n : ℕ} {W Z U : List ℕ} → Beyond D n W Z → Beyond D n Z U → Beyond D n W U
+beyond-trans p q = record { long = q .long ∙ p .long; rest = λ j h. q .rest j h ∙ p .rest j h }
+
+-- ---- what is claimed along the chain
+
+seen-with : {X Y : Type 0} (f : X → Y) (o : Option (Claimed X)) → seenOf (withFound f o) ≡ seenOf o
+unfolding seenOf withFound then
+seen-with f none = refl
+seen-with f (some c) = refl
+
+then-none : {X Y : Type 0} {o : Option X} (f : X → Option Y) → o ≡ none → then o f ≡ none
+unfolding then
+then-none f e = ap (λ (o : Option _). then o f) e
+
+seen-none : (X : Type 0) → seenOf {X = X} none ≡ none
+unfolding seenOf then
+seen-none X = refl
+
+-- a claim looks at the area alone
+claim-any : (B D n : ℕ) (I : List ℕ) (a : ℕ) (seen : List ℕ) → claim B D n I a seen ≡ claim 512 D n [] a seen
+unfolding claim
+claim-any B D n I a seen = refl
+
+module _ (B D n : ℕ) (I : List ℕ) where
+  seen-done : (a : ℕ) (seen : List ℕ) → a ≡ 0 → seenOf (cellsOf B D n I 0 a seen) ≡ some seen
+  unfolding seenOf cellsOf then
+  seen-done a seen e = ap (λ (o : Option (Claimed (List Cell))). then o (λ c. some (c .seen))) (pick-true _ _ (eq-eqb a 0 e))
+
+  seen-over : (a : ℕ) (seen : List ℕ) → (a ≡ 0 → ⊥) → seenOf (cellsOf B D n I 0 a seen) ≡ none
+  unfolding seenOf cellsOf then
+  seen-over a seen e = ap (λ (o : Option (Claimed (List Cell))). then o (λ c. some (c .seen))) (pick-false _ _ (ne-eqb a 0 e))
+
+  seen-next : (k a : ℕ) (seen s : List ℕ) → claim 512 D n [] a seen ≡ some s → seenOf (cellsOf B D n I (suc k) a seen) ≡ seenOf (cellsOf B D n I k (next B I a) s)
+  unfolding cellsOf
+  seen-next k a seen s e =
+      ap seenOf (then-some (λ t. withFound (λ cs. record { at = a; body = _ } ∷ cs) (cellsOf B D n I k (next B I a) t)) (claim-any B D n I a seen ∙ e))
+      ∙ seen-with (λ cs. record { at = a; body = _ } ∷ cs) (cellsOf B D n I k (next B I a) s)
+
+  seen-stop : (k a : ℕ) (seen : List ℕ) → claim 512 D n [] a seen ≡ none → seenOf (cellsOf B D n I (suc k) a seen) ≡ none
+  unfolding cellsOf
+  seen-stop k a seen e =
+      ap seenOf (then-none (λ t. withFound (λ cs. record { at = a; body = _ } ∷ cs) (cellsOf B D n I k (next B I a) t)) (claim-any B D n I a seen ∙ e)) ∙ seen-none (List Cell)
+
+-- ---- what the loop's calls ask
+
+pub few-blocks : (s : SuperBlock) (I : List ℕ) → Fit s I → s .blocks ≤ 8388608
+few-blocks s I f = placed f .few
+
+pub still-long : (s : SuperBlock) (W₀ W : List ℕ) → markBytes (s .area .0) (s .blocks) ≤ length W₀ → length W ≡ length W₀ → markBytes (s .area .0) (s .blocks) ≤ length W
+still-long s W₀ W h e = omega arith
+
+pub claimed-inside : (s : SuperBlock) (I : List ℕ) (a b : ℕ) (r : Bool) → Fit s I → Inside (s .area .0) (s .blocks) b r → r ≡ true → a ≡ b → 512 * a + 512 ≤ length I
+claimed-inside s I a b r f q e g =
+    let w : Inside (s .area .0) (s .blocks) b true = subst (Inside (s .area .0) (s .blocks) b) e q in
+    omega (arith, placed f .inside, w .1)
+
+-- ---- the loop: what is left to claim from W on is what was to be claimed from W₀ on
+
+pub record Left (D n : ℕ) (I W₀ : List ℕ) (k a : ℕ) (W : List ℕ) (b left : ℕ) : Type 0 where
+  pub beyond : Beyond D n W₀ W
+  pub rest : (seen : List ℕ) → Marks D n W₀ seen → (s : List ℕ) × Marks D n W s × (seenOf (cellsOf 512 D n I k a seen) ≡ seenOf (cellsOf 512 D n I left b s))
+
+module _ (D n : ℕ) (I W₀ : List ℕ) (k a : ℕ) where
+  abbrev f : List ℕ → Option (List ℕ)
+  f seen = seenOf (cellsOf 512 D n I k a seen)
+
+  pub left-start : Left D n I W₀ k a W₀ a k
+  left-start = record { beyond = beyond-refl D n W₀; rest = λ seen m. (seen, m, refl) }
+
+  module _ (W : List ℕ) (b left : ℕ) (l : Left D n I W₀ k a W b left) where
+    pub left-step : (Z : List ℕ) (c : ℕ) (r : Bool) → 0 < left → Checks D n (claim 512 D n [] b) W Z r → r ≡ true → c ≡ next 512 I b → Left D n I W₀ k a Z c (left - 1)
+    left-step Z c r h q e g = record {
+      beyond = beyond-trans (l .beyond) (q .beyond);
+      rest = λ seen m.
+          let s = l .rest seen m in
+          let y = subst (Answers D n (claim 512 D n [] b) W Z) e (q .answer) (s .0) (s .1) in
+          let w : left ≡ suc (left - 1) = omega arith in (
+            y .0,
+            y .2,
+            s .2 ∙ ap (λ (j : ℕ). seenOf (cellsOf 512 D n I j b (s .0))) w ∙ seen-next 512 D n I (left - 1) b (s .0) (y .0) (y .1)
+                ∙ ap (λ (x : ℕ). seenOf (cellsOf 512 D n I (left - 1) x (y .0))) (sym g),
+          );
+    }
+
+    pub left-stop : (Z : List ℕ) (r : Bool) → 0 < left → Checks D n (claim 512 D n [] b) W Z r → r ≡ false → Checks D n f W₀ Z false
+    left-stop Z r h q e = record {
+      beyond = beyond-trans (l .beyond) (q .beyond);
+      answer = λ seen m.
+          let s = l .rest seen m in
+          let y = subst (Answers D n (claim 512 D n [] b) W Z) e (q .answer) (s .0) (s .1) in
+          let w : left ≡ suc (left - 1) = omega arith in
+          s .2 ∙ ap (λ (j : ℕ). seenOf (cellsOf 512 D n I j b (s .0))) w ∙ seen-stop 512 D n I (left - 1) b (s .0) y;
+    }
+
+    pub left-end : left ≤ 0 → b ≡ 0 → Checks D n f W₀ W true
+    left-end h e = record {
+      beyond = l .beyond;
+      answer = λ seen m.
+          let s = l .rest seen m in
+          let w : left ≡ 0 = omega arith in
+          (s .0, s .2 ∙ ap (λ (j : ℕ). seenOf (cellsOf 512 D n I j b (s .0))) w ∙ seen-done 512 D n I b (s .0) e, s .1);
+    }
+
+    pub left-over : left ≤ 0 → (b ≡ 0 → ⊥) → Checks D n f W₀ W false
+    left-over h e = record {
+      beyond = l .beyond;
+      answer = λ seen m.
+          let s = l .rest seen m in
+          let w : left ≡ 0 = omega arith in
+          s .2 ∙ ap (λ (j : ℕ). seenOf (cellsOf 512 D n I j b (s .0))) w ∙ seen-over 512 D n I b (s .0) e;
+    }

@@ -1,0 +1,14 @@
+pub mod Claims
+pub mod Chains
+pub mod SoundLaws
+pub mod SoundCells
+pub mod SoundRaws
+pub mod SoundDirs
+pub mod Sound
+pub mod CompleteLaws
+pub mod CompleteCells
+pub mod CompleteRaws
+pub mod CompleteNames
+pub mod CompleteBlocks
+pub mod CompleteDirs
+pub mod Complete
