@@ -93,12 +93,7 @@ fn build(img: &mut [u8]) {
     lay(img, 6148, b"abcdefgh");
 }
 
-fn open(img: &[u8], cwd: &[u8], path: &[u8]) {
-    put(b"open ");
-    put(path);
-    put(b" from ");
-    put(cwd);
-    put(b": ");
+fn put_opened(img: &[u8], cwd: &[u8], path: &[u8]) {
     let o = mfs::open(img, K, cwd, path);
     let a = o.answer;
     match a {
@@ -109,6 +104,23 @@ fn open(img: &[u8], cwd: &[u8], path: &[u8]) {
         Answer::Refused(r) => put_refusal(r),
     }
     put(b"\n");
+}
+
+fn open(img: &[u8], cwd: &[u8], path: &[u8]) {
+    put(b"open ");
+    put(path);
+    put(b" from ");
+    put(cwd);
+    put(b": ");
+    put_opened(img, cwd, path);
+}
+
+// The same with a path that is not to be printed.
+fn open_unseen(what: &[u8], img: &[u8], path: &[u8]) {
+    put(b"open, ");
+    put(what);
+    put(b": ");
+    put_opened(img, b"/", path);
 }
 
 fn info(img: &[u8], cwd: &[u8], path: &[u8]) {
@@ -187,23 +199,40 @@ fn list(img: &[u8], path: &[u8], i: u32, cap: usize) {
     put_changed(&buf);
 }
 
-fn read(what: &[u8], img: &[u8], h: Handle) -> Handle {
-    put(b"read, ");
-    put(what);
-    put(b": ");
-    let mut buf = [46u8; 8];
-    let o = mfs::read(img, K, h, &mut buf);
+fn read_into(img: &[u8], h: Handle, buf: &mut [u8]) -> Handle {
+    let o = mfs::read(img, K, h, buf);
     let a = o.answer;
     match a {
         Counted::Bytes(n) => put_number(n as u64),
         Counted::Refused(r) => put_refusal(r),
     }
+    o.handle
+}
+
+// A read into the first cap bytes of buf.
+fn read_first(img: &[u8], h: Handle, cap: usize, buf: &mut [u8]) -> Handle {
+    if cap <= buf.len() {
+        return read_into(img, h, &mut buf[..cap]);
+    }
+    h
+}
+
+// A read into a fresh buffer of cap bytes, 8 at most.
+fn read_few(what: &[u8], img: &[u8], h: Handle, cap: usize) -> Handle {
+    put(b"read, ");
+    put(what);
+    put(b": ");
+    let mut buf = [46u8; 8];
+    let g = read_first(img, h, cap, &mut buf);
     put(&buf);
-    let g = o.handle;
     put(b" position ");
     put_number(g.position as u64);
     put(b"\n");
     g
+}
+
+fn read(what: &[u8], img: &[u8], h: Handle) -> Handle {
+    read_few(what, img, h, 8)
 }
 
 fn seek(what: &[u8], h: Handle, from: SeekFrom) -> Handle {
@@ -359,6 +388,110 @@ fn large(img: &mut [u8]) {
     open(img, b"/", b"/m1");
 }
 
+// A chain that leads out of the data area.
+fn chain_outside(img: &mut [u8]) {
+    build(img);
+    set(img, 5635, 1);
+    open(img, b"/", b"/m1");
+    open(img, b"/", b"/none");
+    list(img, b"/", 0, 64);
+    lay(img, 5632, b"\xff\xff\xff\xff");
+    open(img, b"/", b"/none");
+}
+
+// Where a block's entries stop: a second entry whose name runs past the block, a first of kind 3, a second without a name.
+fn name_past_block(img: &mut [u8]) {
+    build(img);
+    set(img, 5653, 255);
+    lay(
+        img,
+        5909,
+        b"\x01\x00\x00\x00\x0c\x00\x00\x00\x03\x00\x00\x00\x00\x65\x53\xf1\x00\xff",
+    );
+    info(img, b"/", b"/");
+    open(img, b"/", b"/m1");
+}
+
+fn kind_three(img: &mut [u8]) {
+    build(img);
+    set(img, 5636, 3);
+    info(img, b"/", b"/");
+    open(img, b"/", b"/m1");
+}
+
+fn name_of_none(img: &mut [u8]) {
+    build(img);
+    set(img, 5673, 0);
+    info(img, b"/", b"/");
+    info(img, b"/", b"/old");
+}
+
+// A directory that names itself is walked as often as the path says.
+fn names_itself(img: &mut [u8]) {
+    build(img);
+    set(img, 5660, 11);
+    open(img, b"/", b"/old/old/m1");
+    info(img, b"/", b"/old/old/old");
+}
+
+fn all_ones() -> Handle {
+    Handle {
+        dir: Addr(4_294_967_295),
+        name: [255u8; 255],
+        len: 18_446_744_073_709_551_615,
+        addr: Addr(4_294_967_295),
+        size: 4_294_967_295,
+        position: 4_294_967_295,
+    }
+}
+
+fn ones(img: &[u8]) {
+    read(b"a handle of all ones", img, all_ones());
+    seek(b"a handle of all ones", all_ones(), SeekFrom::Start(0));
+}
+
+// Paths of the greatest length and of one byte more, and bytes around the allowed ones.
+fn long_paths(img: &[u8]) {
+    let mut longest = [97u8; 1024];
+    longest[0] = 47;
+    open_unseen(b"a path of 1024 bytes", img, &longest);
+    let mut over = [97u8; 1025];
+    over[0] = 47;
+    open_unseen(b"a path of 1025 bytes", img, &over);
+}
+
+fn path_bytes(img: &[u8]) {
+    open_unseen(b"byte 0x1F", img, b"/\x1f");
+    open_unseen(b"byte 0x20", img, b"/\x20");
+    open_unseen(b"byte 0x7E", img, b"/\x7e");
+    open_unseen(b"byte 0x7F", img, b"/\x7f");
+    open_unseen(b"byte 0x80", img, b"/\x80");
+}
+
+fn small_buffers(img: &[u8]) {
+    list(img, b"/", 0, 0);
+    list(img, b"/", 0, 1);
+    read_few(b"no byte", img, made_up(11, 2, 12, 3, 0), 0);
+    read_few(b"one byte", img, made_up(11, 2, 12, 3, 0), 1);
+}
+
+// Any image, path, handle and buffer gets its answer.
+fn odd_images(img: &mut [u8]) {
+    chain_outside(img);
+    name_past_block(img);
+    kind_three(img);
+    name_of_none(img);
+    names_itself(img);
+}
+
+fn odd_calls(img: &mut [u8]) {
+    build(img);
+    ones(img);
+    long_paths(img);
+    path_bytes(img);
+    small_buffers(img);
+}
+
 fn run(img: &mut [u8]) {
     build(img);
     opens(img);
@@ -369,6 +502,8 @@ fn run(img: &mut [u8]) {
     circle(img);
     short_chain(img);
     large(img);
+    odd_images(img);
+    odd_calls(img);
 }
 
 fn main() {
