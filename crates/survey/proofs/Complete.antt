@@ -16,7 +16,7 @@ use Rattle.survey.specs.Survey.{survey}
 use Rattle.survey.proofs.CompleteLaws.{Free, Yields, free-as, free-left, one-self, Ground, few-blocks}
 use Rattle.survey.proofs.CompleteCells.{free-few}
 use Rattle.survey.proofs.CompleteBlocks.{own, ownCount, own-long}
-use Rattle.survey.proofs.CompleteDirs.{inside, inner, dir-parts, check-found}
+use Rattle.survey.proofs.CompleteDirs.{inside, inner, dir-parts, find-check}
 
 -- ---- a directory's size fits its field
 
@@ -45,10 +45,10 @@ module _ {B D n : ℕ} {I : List ℕ} (g : Ground B D n I) where
       → Yields (survey B D n I d (blocksAt t) seen) t seen (inside (render B d t))
   unfolding survey render view GoodBelow
   found-below zero t seen a s r =
-      check-found g (view B zero) (GoodBelow B zero) (λ _ _. none) (λ x. absurd x)
+      find-check g (view B zero) (GoodBelow B zero) (λ _ _. none) (λ x. absurd x)
       (record { sum-is = λ x. absurd x; fits = λ x. absurd x; finds = λ x. absurd x }) t seen a s r
   found-below (suc d) t seen a s r =
-      check-found g (view B (suc d)) (GoodBelow B (suc d)) (survey B D n I d) sum
+      find-check g (view B (suc d)) (GoodBelow B (suc d)) (survey B D n I d) sum
       (record {
         sum-is = λ x. refl;
         fits = λ x z b f. dir-fits g (view B d) (GoodBelow B d) x z b f;

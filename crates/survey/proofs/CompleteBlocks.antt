@@ -22,7 +22,7 @@ use Rattle.dir_entry.specs.Entry.{placeAt}
 use Rattle.survey.specs.Survey.{Raw, RawBlock, hasSome, Claimed, withFound, claim, rawsFrom, laterOf, blocksOf}
 use Rattle.survey.proofs.CompleteLaws.{Free, Yields, free-as, free-right, finds-end, finds-as, finds-same, finds-test, finds-with, finds-claim, one, one-self, Ground, block-inside, few-blocks}
 use Rattle.survey.proofs.CompleteCells.{next-shown, free-few}
-use Rattle.survey.proofs.CompleteRaws.{rawsOf, Legible, raws-found}
+use Rattle.survey.proofs.CompleteRaws.{rawsOf, Legible, find-raws}
 use Rattle.survey.proofs.CompleteNames.{rawBlocks}
 
 -- The addresses of a directory's own blocks, and how often i is one.
@@ -58,7 +58,7 @@ module _ {X : Type 0} {B D n : ℕ} {I : List ℕ} (g : Ground B D n I) (v : Vie
       let t : Shows I (placeAt B (b .at) 0) (padded (B - 4 - 0) (entriesBytes v (b .entries)))
       = subst (λ (j : ℕ). Shows I (placeAt B (b .at) 0) (padded j (entriesBytes v (b .entries)))) y
       (subst (λ (j : ℕ). Shows I j m) x (shows-two I (B * b .at) (bytes 4 z) m s)) in
-      raws-found B D n I v (b .at) (g .large) (block-inside g (b .at) h) (b .entries) B 0 (omega arith) (omega (arith, a .fits)) l t
+      find-raws B D n I v (b .at) (g .large) (block-inside g (b .at) h) (b .entries) B 0 (omega arith) (omega (arith, a .fits)) l t
 
   -- a next address fits its field
   own-small : (bs : List (Block X)) (seen : List ℕ) → Free D n seen (ownCount bs) → blocksAt bs < 2 ^ 32
@@ -71,12 +71,12 @@ module _ {X : Type 0} {B D n : ℕ} {I : List ℕ} (g : Ground B D n I) (v : Vie
   after b bs s = shows-right B I (entryPieces v (b .entries)) (dirPieces B v bs) (s .1)
 
   -- one block is claimed and read, then a step that knows its entries and the next address
-  block-found : {Y : Type 0} (b : Block X) (bs : List (Block X)) (seen : List ℕ) (f : List Raw → ℕ → List ℕ → Option (Claimed Y)) (y : Y)
+  find-block : {Y : Type 0} (b : Block X) (bs : List (Block X)) (seen : List ℕ) (f : List Raw → ℕ → List ℕ → Option (Claimed Y)) (y : Y)
       → GoodBlock B S b → Clear v b → ShowsAll B I (dirPieces B v (b ∷ bs)) → Free D n seen (ownCount (b ∷ bs))
       → (Free D n (b .at ∷ seen) (ownCount bs) → Yields (f (rawsOf v (b .entries)) (blocksAt bs) (b .at ∷ seen)) y (b .at ∷ seen) (ownCount bs))
       → Yields (then (claim B D n I (b .at) seen) (λ s. then (rawsFrom B D n I B (b .at) 0) (λ rs. f rs (next B I (b .at)) s))) y seen (ownCount (b ∷ bs))
   unfolding dirPieces own then
-  block-found b bs seen f y a l s r go =
+  find-block b bs seen f y a l s r go =
       let q : Free D n seen (λ i. one (b .at) i + ownCount bs i) = free-as (ownCount (b ∷ bs)) (λ i. one (b .at) i + ownCount bs i) (λ i. count-cons i (b .at) (own bs)) r in
       let h : (D ≤ b .at) × (b .at < n) = q .range (b .at) (omega (arith, one-self (b .at))) in
       let rest : Free D n (b .at ∷ seen) (ownCount bs) = free-right (one (b .at)) (ownCount bs) (b .at ∷ seen) (λ i. omega (arith, count-cons i (b .at) seen)) q in
@@ -93,27 +93,27 @@ module _ {X : Type 0} {B D n : ℕ} {I : List ℕ} (g : Ground B D n I) (v : Vie
   with a rs bs = record { at = a; raws = rs } ∷ bs
 
   -- The later blocks, at most k.
-  later-found : (bs : List (Block X)) (k : ℕ) (seen : List ℕ) → length bs ≤ k → Filled bs → All (GoodBlock B S) bs → All (Clear v) bs → ShowsAll B I (dirPieces B v bs)
+  find-later : (bs : List (Block X)) (k : ℕ) (seen : List ℕ) → length bs ≤ k → Filled bs → All (GoodBlock B S) bs → All (Clear v) bs → ShowsAll B I (dirPieces B v bs)
       → Free D n seen (ownCount bs) → Yields (laterOf B D n I k (blocksAt bs) seen) (rawBlocks v bs) seen (ownCount bs)
   unfolding laterOf blocksAt rawBlocks own with
-  later-found [] zero seen h p a l s r = finds-test _ _ [] seen _ (eq-eqb 0 0 refl) (finds-end [] seen _ (λ i. count-none i))
-  later-found [] (suc k) seen h p a l s r = finds-same _ _ [] seen _ (pick-true _ _ (eq-eqb 0 0 refl)) (finds-end [] seen _ (λ i. count-none i))
-  later-found (b ∷ bs) zero seen h p a l s r = absurd (omega arith)
-  later-found (b ∷ bs) (suc k) seen h p a l s r =
+  find-later [] zero seen h p a l s r = finds-test _ _ [] seen _ (eq-eqb 0 0 refl) (finds-end [] seen _ (λ i. count-none i))
+  find-later [] (suc k) seen h p a l s r = finds-same _ _ [] seen _ (pick-true _ _ (eq-eqb 0 0 refl)) (finds-end [] seen _ (λ i. count-none i))
+  find-later (b ∷ bs) zero seen h p a l s r = absurd (omega arith)
+  find-later (b ∷ bs) (suc k) seen h p a l s r =
       let m : (D ≤ b .at) × (b .at < n) = r .range (b .at) (omega (arith, count-cons (b .at) (b .at) (own bs), one-self (b .at))) in
       finds-same _ _ (rawBlocks v (b ∷ bs)) seen _ (pick-false _ _ (ne-eqb (b .at) 0 (λ z. omega (arith, m .0, g .first))))
-      (block-found b bs seen (λ rs z t. pick (hasSome rs) (withFound (with (b .at) rs) (laterOf B D n I k z t)) none) (rawBlocks v (b ∷ bs)) (a .0) (l .0) s r
+      (find-block b bs seen (λ rs z t. pick (hasSome rs) (withFound (with (b .at) rs) (laterOf B D n I k z t)) none) (rawBlocks v (b ∷ bs)) (a .0) (l .0) s r
       (λ q. finds-test _ _ _ (b .at ∷ seen) _ (has-some v (b .entries) (p .0))
       (finds-with (with (b .at) (rawsOf v (b .entries))) _ (rawBlocks v bs) (b .at ∷ seen) _
-      (later-found bs k (b .at ∷ seen) (omega arith) (p .1) (a .1) (l .1) (after b bs s) q))))
+      (find-later bs k (b .at ∷ seen) (omega arith) (p .1) (a .1) (l .1) (after b bs s) q))))
 
   -- A directory's blocks, with what stands in them.
-  pub blocks-found : (bs : List (Block X)) (seen : List ℕ) → Packed bs → All (GoodBlock B S) bs → All (Clear v) bs → ShowsAll B I (dirPieces B v bs)
+  pub find-blocks : (bs : List (Block X)) (seen : List ℕ) → Packed bs → All (GoodBlock B S) bs → All (Clear v) bs → ShowsAll B I (dirPieces B v bs)
       → Free D n seen (ownCount bs) → Yields (blocksOf B D n I (blocksAt bs) seen) (rawBlocks v bs) seen (ownCount bs)
   unfolding blocksOf blocksAt rawBlocks with
-  blocks-found [] seen p a l s r = absurd p
-  blocks-found (b ∷ bs) seen p a l s r =
+  find-blocks [] seen p a l s r = absurd p
+  find-blocks (b ∷ bs) seen p a l s r =
       let h : length (b ∷ bs) ≤ n - D = omega (arith, own-long (b ∷ bs), free-few seen (own (b ∷ bs)) r) in
-      block-found b bs seen (λ rs z t. withFound (with (b .at) rs) (laterOf B D n I (n - D) z t)) (rawBlocks v (b ∷ bs)) (a .0) (l .0) s r
+      find-block b bs seen (λ rs z t. withFound (with (b .at) rs) (laterOf B D n I (n - D) z t)) (rawBlocks v (b ∷ bs)) (a .0) (l .0) s r
       (λ q. finds-with (with (b .at) (rawsOf v (b .entries))) _ (rawBlocks v bs) (b .at ∷ seen) _
-      (later-found bs (n - D) (b .at ∷ seen) (omega arith) p (a .1) (l .1) (after b bs s) q))
+      (find-later bs (n - D) (b .at ∷ seen) (omega arith) p (a .1) (l .1) (after b bs s) q))

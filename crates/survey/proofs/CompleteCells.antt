@@ -29,8 +29,8 @@ unfolding next
 next-shown B I a z l h s = be-shown I (B * a) 4 z h (shows-one I (B * a) (bytes 4 z) l s)
 
 -- bytes that the image shows are read
-pub part-shown : (I : List ℕ) (at k : ℕ) (l : List ℕ) → length l ≡ k → at + k ≤ length I → Shows I at l → take k (drop at I) ≡ l
-part-shown I at k l e h s =
+pub shown-part : (I : List ℕ) (at k : ℕ) (l : List ℕ) → length l ≡ k → at + k ≤ length I → Shows I at l → take k (drop at I) ≡ l
+shown-part I at k l e h s =
     ext-getD 0 (take k (drop at I)) l (simp (length-take, length-drop) (omega arith))
     (λ i q.
     let m : i < k = omega (arith, simp length-take at q) in
@@ -57,14 +57,14 @@ module _ {B D n : ℕ} {I : List ℕ} (g : Ground B D n I) where
       → (next B I (c .at) ≡ cellsAt cs) × (bodyAt B D n I (c .at) ≡ c .body)
   cell-is c cs h m k s =
       let z : Shows I (B * c .at + 4) (c .body) = subst (λ (j : ℕ). Shows I (B * c .at + j) (c .body)) (length-bytes 4 (cellsAt cs)) (shows-two I (B * c .at) (bytes 4 (cellsAt cs)) (c .body) s) in
-      (next-shown B I (c .at) (cellsAt cs) (c .body) m s, part-shown I (B * c .at + 4) (B - 4) (c .body) (k .whole) (omega (arith, block-inside g (c .at) h, g .large)) z)
+      (next-shown B I (c .at) (cellsAt cs) (c .body) m s, shown-part I (B * c .at + 4) (B - 4) (c .body) (k .whole) (omega (arith, block-inside g (c .at) h, g .large)) z)
 
   -- one block is claimed and found, then the others
-  cell-found : (c : Cell) (cs : List Cell) (seen : List ℕ) (f : List ℕ → ℕ → Option (Claimed (List Cell))) → GoodCell B c → ShowsAll B I (cellPieces (c ∷ cs)) → Free D n seen (chain (c ∷ cs))
+  find-cell : (c : Cell) (cs : List Cell) (seen : List ℕ) (f : List ℕ → ℕ → Option (Claimed (List Cell))) → GoodCell B c → ShowsAll B I (cellPieces (c ∷ cs)) → Free D n seen (chain (c ∷ cs))
       → (Free D n (c .at ∷ seen) (chain cs) → Yields (f (c .at ∷ seen) (cellsAt cs)) cs (c .at ∷ seen) (chain cs))
       → Yields (then (claim B D n I (c .at) seen) (λ s. withFound (λ xs. record { at = c .at; body = bodyAt B D n I (c .at) } ∷ xs) (f s (next B I (c .at))))) (c ∷ cs) seen (chain (c ∷ cs))
   unfolding cellPieces
-  cell-found c cs seen f k s r go =
+  find-cell c cs seen f k s r go =
       let q : Free D n seen (λ i. one (c .at) i + chain cs i) = free-as (chain (c ∷ cs)) (λ i. one (c .at) i + chain cs i) (λ i. cells-tally i c cs) r in
       let h : (D ≤ c .at) × (c .at < n) = q .range (c .at) (omega (arith, one-self (c .at))) in
       let after : Free D n (c .at ∷ seen) (chain cs) = free-right (one (c .at)) (chain cs) (c .at ∷ seen) (λ i. omega (arith, count-cons i (c .at) seen)) q in
@@ -79,31 +79,31 @@ module _ {B D n : ℕ} {I : List ℕ} (g : Ground B D n I) where
       (finds-same (f (c .at ∷ seen) (cellsAt cs)) (f (c .at ∷ seen) (next B I (c .at))) cs (c .at ∷ seen) (chain cs) (ap (f (c .at ∷ seen)) (e .0)) (go a)))))
 
   -- A file's chain, which has exactly its blocks.
-  pub cells-found : (cs : List Cell) (seen : List ℕ) → All (GoodCell B) cs → ShowsAll B I (cellPieces cs) → Free D n seen (λ i. tally i (cellPieces cs))
+  pub find-cells : (cs : List Cell) (seen : List ℕ) → All (GoodCell B) cs → ShowsAll B I (cellPieces cs) → Free D n seen (λ i. tally i (cellPieces cs))
       → Yields (cellsOf B D n I (length cs) (cellsAt cs) seen) cs seen (λ i. tally i (cellPieces cs))
   unfolding cellsOf cellPieces cellsAt
-  cells-found [] seen k s r = finds-test _ _ [] seen _ (eq-eqb 0 0 refl) (finds-end [] seen _ (λ i. tally-none i))
-  cells-found (c ∷ cs) seen k s r =
-      cell-found c cs seen (λ z a. cellsOf B D n I (length cs) a z) (k .0) s r (λ q. cells-found cs (c .at ∷ seen) (k .1) (s .1) q)
+  find-cells [] seen k s r = finds-test _ _ [] seen _ (eq-eqb 0 0 refl) (finds-end [] seen _ (λ i. tally-none i))
+  find-cells (c ∷ cs) seen k s r =
+      find-cell c cs seen (λ z a. cellsOf B D n I (length cs) a z) (k .0) s r (λ q. find-cells cs (c .at ∷ seen) (k .1) (s .1) q)
 
   -- the rest of a device's chain
   more : ℕ → List ℕ → ℕ → Option (Claimed (List Cell))
   more k s a = pick (eqb a 0) (some (record { found = []; seen = s })) (chainOf B D n I k a s)
 
   -- A device's chain of at most k blocks.
-  pub chain-found : (k : ℕ) (c : Cell) (cs : List Cell) (seen : List ℕ) → length cs ≤ k → All (GoodCell B) (c ∷ cs) → ShowsAll B I (cellPieces (c ∷ cs))
+  pub find-chain : (k : ℕ) (c : Cell) (cs : List Cell) (seen : List ℕ) → length cs ≤ k → All (GoodCell B) (c ∷ cs) → ShowsAll B I (cellPieces (c ∷ cs))
       → Free D n seen (λ i. tally i (cellPieces (c ∷ cs))) → Yields (chainOf B D n I (suc k) (c .at) seen) (c ∷ cs) seen (λ i. tally i (cellPieces (c ∷ cs)))
   unfolding chainOf cellPieces cellsAt more
-  chain-found k c [] seen l m s r =
-      cell-found c [] seen (more k) (m .0) s r
+  find-chain k c [] seen l m s r =
+      find-cell c [] seen (more k) (m .0) s r
       (λ q. finds-same _ _ [] (c .at ∷ seen) _ (pick-true _ _ (eq-eqb 0 0 refl)) (finds-end [] (c .at ∷ seen) _ (λ i. tally-none i)))
-  chain-found zero c (b ∷ cs) seen l m s r = absurd (omega arith)
-  chain-found (suc k) c (b ∷ cs) seen l m s r =
-      cell-found c (b ∷ cs) seen (more (suc k)) (m .0) s r
+  find-chain zero c (b ∷ cs) seen l m s r = absurd (omega arith)
+  find-chain (suc k) c (b ∷ cs) seen l m s r =
+      find-cell c (b ∷ cs) seen (more (suc k)) (m .0) s r
       (λ q.
       let h : (D ≤ b .at) × (b .at < n) = q .range (b .at) (omega (arith, cells-tally (b .at) b cs, one-self (b .at))) in
       finds-same _ _ (b ∷ cs) (c .at ∷ seen) _ (pick-false _ _ (ne-eqb (b .at) 0 (λ z. omega (arith, h .0, g .first))))
-      (chain-found k b cs (c .at ∷ seen) (omega arith) (m .1) (s .1) q))
+      (find-chain k b cs (c .at ∷ seen) (omega arith) (m .1) (s .1) q))
 
 -- Free blocks are no more than the area has.
 pub free-few : {D n : ℕ} (seen l : List ℕ) → Free D n seen (λ i. count i l) → length l ≤ n - D
@@ -116,11 +116,11 @@ cells-long (c ∷ cs) = ap suc (cells-long cs)
 
 module _ {B D n : ℕ} {I : List ℕ} (g : Ground B D n I) where
   -- A device's chain, which has a block.
-  pub device-found : (cs : List Cell) (seen : List ℕ) → 1 ≤ length cs → All (GoodCell B) cs → ShowsAll B I (cellPieces cs) → Free D n seen (λ i. tally i (cellPieces cs))
+  pub find-device : (cs : List Cell) (seen : List ℕ) → 1 ≤ length cs → All (GoodCell B) cs → ShowsAll B I (cellPieces cs) → Free D n seen (λ i. tally i (cellPieces cs))
       → Yields (chainOf B D n I (n - D) (cellsAt cs) seen) cs seen (λ i. tally i (cellPieces cs))
   unfolding cellsAt tally
-  device-found [] seen h k s r = absurd (omega arith)
-  device-found (c ∷ cs) seen h k s r =
+  find-device [] seen h k s r = absurd (omega arith)
+  find-device (c ∷ cs) seen h k s r =
       let m : length (c ∷ cs) ≤ n - D = omega (arith, cells-long (c ∷ cs), free-few seen (ats (cellPieces (c ∷ cs))) r) in
       let e : n - D ≡ suc (n - D - 1) = omega arith in
-      finds-same _ _ (c ∷ cs) seen _ (ap (λ (z : ℕ). chainOf B D n I z (c .at) seen) e) (chain-found g (n - D - 1) c cs seen (omega arith) k s r)
+      finds-same _ _ (c ∷ cs) seen _ (ap (λ (z : ℕ). chainOf B D n I z (c .at) seen) e) (find-chain g (n - D - 1) c cs seen (omega arith) k s r)

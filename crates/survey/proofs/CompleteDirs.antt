@@ -14,10 +14,10 @@ use Rattle.model.proofs.Frame.{shows-left, shows-right}
 use Rattle.dir_entry.specs.declared.DirEntry.{DirEntry}
 use Rattle.survey.specs.Survey.{Claimed, withFound, cellsOf, chainOf, subOf, nodeOf, entriesOf, dirOf, checkDir, distinct, blocksOf}
 use Rattle.survey.proofs.CompleteLaws.{Free, Yields, free-as, free-part, free-left, free-right, finds-end, finds-as, finds-same, finds-test, finds-with, finds-then, Ground}
-use Rattle.survey.proofs.CompleteCells.{cells-small, cells-found, device-found}
+use Rattle.survey.proofs.CompleteCells.{cells-small, find-cells, find-device}
 use Rattle.survey.proofs.CompleteRaws.{kindIs, headOf, rawsOf, Legible}
 use Rattle.survey.proofs.CompleteNames.{rawBlocks, names-pass}
-use Rattle.survey.proofs.CompleteBlocks.{own, ownCount, Clear, blocks-found}
+use Rattle.survey.proofs.CompleteBlocks.{own, ownCount, Clear, find-blocks}
 
 -- how often block i is in the pieces
 abbrev pub inside : List Piece → ℕ → ℕ
@@ -54,60 +54,60 @@ pub record Sub {X : Type 0} (B D n : ℕ) (I : List ℕ) (v : View X) (S : X →
 module _ {X : Type 0} {B D n : ℕ} {I : List ℕ} (g : Ground B D n I) (v : View X) (S : X → Type 0) (below : ℕ → List ℕ → Option (Claimed X)) (size : X → ℕ) (sb : Sub B D n I v S below size) where
   -- ---- what an entry stands for
 
-  sub-found : (x : X) (e : DirEntry) (seen : List ℕ) → e .addr .0 ≡ v .from x → e .size ≡ v .size x → S x → ShowsAll B I (v .pieces x) → Free D n seen (inside (v .pieces x))
+  find-sub : (x : X) (e : DirEntry) (seen : List ℕ) → e .addr .0 ≡ v .from x → e .size ≡ v .size x → S x → ShowsAll B I (v .pieces x) → Free D n seen (inside (v .pieces x))
       → Yields (subOf B D n I below size e seen) (sub x) seen (inside (v .pieces x))
   unfolding subOf
-  sub-found x e seen ea es a s r =
+  find-sub x e seen ea es a s r =
       finds-as _ (sub x) seen (λ i. inside (v .pieces x) i + 0) (inside (v .pieces x)) (λ i. omega arith)
       (finds-then (below (e .addr .0) seen) _ x (sub x) seen (inside (v .pieces x)) (λ i. 0)
       (finds-same (below (v .from x) seen) _ x seen _ (ap (λ (z : ℕ). below z seen) ea) (sb .finds x seen a s r))
       (λ t q. finds-test _ _ (sub x) t (λ i. 0) (eq-eqb (e .size) (size x) (es ∙ sym (sb .sum-is x))) (finds-end (sub x) t (λ i. 0) (λ i. refl))))
 
-  node-found : (x : Node X) (e : DirEntry) (seen : List ℕ) → e .addr .0 ≡ addressOf v x → e .size ≡ sizeOf v x → GoodNode B S x → ShowsAll B I (nodePieces v x)
+  find-node : (x : Node X) (e : DirEntry) (seen : List ℕ) → e .addr .0 ≡ addressOf v x → e .size ≡ sizeOf v x → GoodNode B S x → ShowsAll B I (nodePieces v x)
       → Free D n seen (inside (nodePieces v x)) → Yields (nodeOf B D n I below size (kindIs x) e seen) x seen (inside (nodePieces v x))
   unfolding nodeOf nodePieces addressOf sizeOf
-  node-found (file z cs) e seen ea es a s r =
+  find-node (file z cs) e seen ea es a s r =
       finds-test _ _ (file z cs) seen _ (le-leb (e .size) 2147483647 (omega (arith, es, a .limit)))
       (subst (λ (y : ℕ). Yields {X = Node X} (withFound (file y) (cellsOf B D n I (blocksFor B y) (e .addr .0) seen)) (file z cs) seen (inside (cellPieces cs))) (sym es)
       (finds-with (file z) _ cs seen _
       (finds-same (cellsOf B D n I (length cs) (cellsAt cs) seen) _ cs seen _
       (ap (λ (y : ℕ). cellsOf B D n I y (e .addr .0) seen) (sym (a .long)) ∙ ap (λ (y : ℕ). cellsOf B D n I (length cs) y seen) ea)
-      (cells-found g cs seen (a .cells) s r))))
-  node-found (device z cs) e seen ea es a s r =
+      (find-cells g cs seen (a .cells) s r))))
+  find-node (device z cs) e seen ea es a s r =
       subst (λ (y : ℕ). Yields {X = Node X} (withFound (device y) (chainOf B D n I (n - D) (e .addr .0) seen)) (device z cs) seen (inside (cellPieces cs))) (sym es)
       (finds-with (device z) _ cs seen _
       (finds-same (chainOf B D n I (n - D) (cellsAt cs) seen) _ cs seen _ (ap (λ (y : ℕ). chainOf B D n I (n - D) y seen) ea)
-      (device-found g cs seen (a .some-block) (a .cells) s r)))
-  node-found (sub x) e seen ea es a s r = sub-found x e seen ea es a s r
+      (find-device g cs seen (a .some-block) (a .cells) s r)))
+  find-node (sub x) e seen ea es a s r = find-sub x e seen ea es a s r
 
   -- ---- the entries of a block, and of a directory
 
-  entries-found : (es : List (Entry X)) (seen : List ℕ) → All (GoodEntry B S) es → ShowsAll B I (entryPieces v es) → Free D n seen (inside (entryPieces v es))
+  find-entries : (es : List (Entry X)) (seen : List ℕ) → All (GoodEntry B S) es → ShowsAll B I (entryPieces v es) → Free D n seen (inside (entryPieces v es))
       → Yields (entriesOf B D n I below size (rawsOf v es) seen) es seen (inside (entryPieces v es))
   unfolding entriesOf rawsOf headOf entryPieces
-  entries-found [] seen a s r = finds-end [] seen _ (λ i. tally-none i)
-  entries-found (e ∷ es) seen a s r =
+  find-entries [] seen a s r = finds-end [] seen _ (λ i. tally-none i)
+  find-entries (e ∷ es) seen a s r =
       let c : ℕ → ℕ = inside (nodePieces v (e .node)) in
       let m : ℕ → ℕ = inside (entryPieces v es) in
       let q : Free D n seen (λ i. c i + m i) = free-as (inside (entryPieces v (e ∷ es))) (λ i. c i + m i) (λ i. tally-append i (nodePieces v (e .node)) (entryPieces v es)) r in
       finds-as _ (e ∷ es) seen (λ i. c i + m i) (inside (entryPieces v (e ∷ es))) (λ i. sym (tally-append i (nodePieces v (e .node)) (entryPieces v es)))
       (finds-then (nodeOf B D n I below size (kindIs (e .node)) (headOf v e) seen) _ (e .node) (e ∷ es) seen c m
-      (node-found (e .node) (headOf v e) seen refl refl (a .0 .below) (shows-left B I (nodePieces v (e .node)) (entryPieces v es) s) (free-left c m q))
+      (find-node (e .node) (headOf v e) seen refl refl (a .0 .below) (shows-left B I (nodePieces v (e .node)) (entryPieces v es) s) (free-left c m q))
       (λ t w. finds-with (λ xs. e ∷ xs) _ es t m
-      (entries-found es t (a .1) (shows-right B I (nodePieces v (e .node)) (entryPieces v es) s) (free-right c m t w q))))
+      (find-entries es t (a .1) (shows-right B I (nodePieces v (e .node)) (entryPieces v es) s) (free-right c m t w q))))
 
-  dir-found : (bs : List (Block X)) (seen : List ℕ) → All (GoodBlock B S) bs → All (λ b. ShowsAll B I (entryPieces v (b .entries))) bs → Free D n seen (inside (inner v bs))
+  find-dir : (bs : List (Block X)) (seen : List ℕ) → All (GoodBlock B S) bs → All (λ b. ShowsAll B I (entryPieces v (b .entries))) bs → Free D n seen (inside (inner v bs))
       → Yields (dirOf B D n I below size (rawBlocks v bs) seen) bs seen (inside (inner v bs))
   unfolding dirOf rawBlocks inner
-  dir-found [] seen a s r = finds-end [] seen _ (λ i. tally-none i)
-  dir-found (b ∷ bs) seen a s r =
+  find-dir [] seen a s r = finds-end [] seen _ (λ i. tally-none i)
+  find-dir (b ∷ bs) seen a s r =
       let c : ℕ → ℕ = inside (entryPieces v (b .entries)) in
       let m : ℕ → ℕ = inside (inner v bs) in
       let q : Free D n seen (λ i. c i + m i) = free-as (inside (inner v (b ∷ bs))) (λ i. c i + m i) (λ i. tally-append i (entryPieces v (b .entries)) (inner v bs)) r in
       finds-as _ (b ∷ bs) seen (λ i. c i + m i) (inside (inner v (b ∷ bs))) (λ i. sym (tally-append i (entryPieces v (b .entries)) (inner v bs)))
       (finds-then (entriesOf B D n I below size (rawsOf v (b .entries)) seen) _ (b .entries) (b ∷ bs) seen c m
-      (entries-found (b .entries) seen (a .0 .each) (s .0) (free-left c m q))
-      (λ t w. finds-with (λ xs. b ∷ xs) _ bs t m (dir-found bs t (a .1) (s .1) (free-right c m t w q))))
+      (find-entries (b .entries) seen (a .0 .each) (s .0) (free-left c m q))
+      (λ t w. finds-with (λ xs. b ∷ xs) _ bs t m (find-dir bs t (a .1) (s .1) (free-right c m t w q))))
 
   -- ---- numbers fit their fields
 
@@ -134,14 +134,14 @@ module _ {X : Type 0} {B D n : ℕ} {I : List ℕ} (g : Ground B D n I) (v : Vie
   )
 
   -- A directory: its blocks, its names, its entries.
-  pub check-found : (bs : List (Block X)) (seen : List ℕ) → GoodDir B S bs → ShowsAll B I (dirPieces B v bs) → Free D n seen (inside (dirPieces B v bs))
+  pub find-check : (bs : List (Block X)) (seen : List ℕ) → GoodDir B S bs → ShowsAll B I (dirPieces B v bs) → Free D n seen (inside (dirPieces B v bs))
       → Yields (checkDir B D n I below size (blocksAt bs) seen) bs seen (inside (dirPieces B v bs))
   unfolding checkDir
-  check-found bs seen a s r =
+  find-check bs seen a s r =
       let c : ℕ → ℕ = ownCount bs in
       let m : ℕ → ℕ = inside (inner v bs) in
       let q : Free D n seen (λ i. c i + m i) = free-as (inside (dirPieces B v bs)) (λ i. c i + m i) (λ i. dir-parts B v i bs) r in
       let l : All (Clear v) bs = dir-clear bs seen (a .all) (free-part (λ i. c i + m i) m (λ i. omega arith) q) in
       finds-as _ bs seen (λ i. c i + m i) (inside (dirPieces B v bs)) (λ i. sym (dir-parts B v i bs))
-      (finds-then (blocksOf B D n I (blocksAt bs) seen) _ (rawBlocks v bs) bs seen c m (blocks-found g v S bs seen (a .packed) (a .all) l s (free-left c m q))
-      (λ t w. finds-test _ _ bs t m (names-pass v bs (a .distinct)) (dir-found bs t (a .all) (inner-shown B v I bs s) (free-right c m t w q))))
+      (finds-then (blocksOf B D n I (blocksAt bs) seen) _ (rawBlocks v bs) bs seen c m (find-blocks g v S bs seen (a .packed) (a .all) l s (free-left c m q))
+      (λ t w. finds-test _ _ bs t m (names-pass v bs (a .distinct)) (find-dir bs t (a .all) (inner-shown B v I bs s) (free-right c m t w q))))

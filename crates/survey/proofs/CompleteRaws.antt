@@ -144,14 +144,14 @@ module _ {X : Type 0} (B D n : ℕ) (I : List ℕ) (v : View X) (a : ℕ) (large
       ∙ ap (λ (z : Option (List Raw)). then z (λ rs. some (rawOf v e ∷ rs))) (ap (rawsFrom B D n I f a) w ∙ r)
 
   -- A block that shows entries from offset o on, and zeros after them: they are read, with any bound that the block's rest does not pass.
-  pub raws-found : (es : List (Entry X)) (f o : ℕ) → B - o ≤ f → o + used es ≤ B - 5 → All (Legible v) es
+  pub find-raws : (es : List (Entry X)) (f o : ℕ) → B - o ≤ f → o + used es ≤ B - 5 → All (Legible v) es
       → Shows I (placeAt B a o) (padded (B - 4 - o) (entriesBytes v es)) → rawsFrom B D n I f a o ≡ some (rawsOf v es)
   unfolding rawsFrom rawsOf onSlot used entriesBytes reads stops
-  raws-found es zero o k h l s = absurd (omega arith)
-  raws-found [] (suc f) o k h l s =
+  find-raws es zero o k h l s = absurd (omega arith)
+  find-raws [] (suc f) o k h l s =
       ap (λ (z : Slot). onSlot z (reads f o) (stops o)) (block-stops o (omega arith) s)
       ∙ pick-true _ _ (zeros-pass I (B - 4 - o) (placeAt B a o) (zero-at o s))
-  raws-found (e ∷ es) (suc f) o k h l s =
+  find-raws (e ∷ es) (suc f) o k h l s =
       let p : Shows I (placeAt B a o) (entryBytes v e ++ padded (B - 4 - o - length (entryBytes v e)) (entriesBytes v es))
       = subst (Shows I (placeAt B a o)) (padded-after (B - 4 - o) (entryBytes v e) (entriesBytes v es)) s in
       let q : Shows I (placeAt B a o) (entryBytes v e) = shows-one I (placeAt B a o) (entryBytes v e) _ p in
@@ -160,6 +160,6 @@ module _ {X : Type 0} (B D n : ℕ) (I : List ℕ) (v : View X) (a : ℕ) (large
       let r : Shows I (placeAt B a (o + weight e)) (padded (B - 4 - (o + weight e)) (entriesBytes v es))
       = rw (x, y) at (shows-two I (placeAt B a o) (entryBytes v e) _ p) in
       let g : 18 ≤ weight e = unfold weight in omega arith in
-      let m : rawsFrom B D n I f a (o + weight e) ≡ some (rawsOf v es) = raws-found es f (o + weight e) (less-left B o f (weight e) k (omega arith)) (omega arith) (l .1) r in
+      let m : rawsFrom B D n I f a (o + weight e) ≡ some (rawsOf v es) = find-raws es f (o + weight e) (less-left B o f (weight e) k (omega arith)) (omega arith) (l .1) r in
       ap (λ (z : Slot). onSlot z (reads f o) (stops o)) (slot-is o e (l .0) (omega arith) q)
       ∙ reads-entry f o e (rawsOf v es) (l .0) (omega arith) q m
