@@ -76,58 +76,87 @@ claimed-inside s I a b r f q e g =
     let w : Inside (s .area .0) (s .blocks) b true = subst (Inside (s .area .0) (s .blocks) b) e q in
     omega (arith, placed f .inside, w .1)
 
--- ---- the loop: what is left to claim from W on is what was to be claimed from W₀ on
+-- ---- the loop, whatever check g (of at most so many blocks, from an address on) it computes: what is left to claim from W on is
+-- what was to be claimed from W₀ on
 
-pub record Left (D n : ℕ) (I W₀ : List ℕ) (k a : ℕ) (W : List ℕ) (b left : ℕ) : Type 0 where
+abbrev pub Check : Type 0
+Check = ℕ → ℕ → List ℕ → Option (List ℕ)
+
+pub record Left (D n : ℕ) (g : Check) (W₀ : List ℕ) (k a : ℕ) (W : List ℕ) (b left : ℕ) : Type 0 where
   pub beyond : Beyond D n W₀ W
-  pub rest : (seen : List ℕ) → Marks D n W₀ seen → (s : List ℕ) × Marks D n W s × (seenOf (cellsOf 512 D n I k a seen) ≡ seenOf (cellsOf 512 D n I left b s))
+  pub rest : (seen : List ℕ) → Marks D n W₀ seen → (s : List ℕ) × Marks D n W s × (g k a seen ≡ g left b s)
 
-module _ (D n : ℕ) (I W₀ : List ℕ) (k a : ℕ) where
-  abbrev f : List ℕ → Option (List ℕ)
-  f seen = seenOf (cellsOf 512 D n I k a seen)
-
-  pub left-start : Left D n I W₀ k a W₀ a k
+module _ (D n : ℕ) (g : Check) (W₀ : List ℕ) (k a : ℕ) where
+  pub left-start : Left D n g W₀ k a W₀ a k
   left-start = record { beyond = beyond-refl D n W₀; rest = λ seen m. (seen, m, refl) }
 
-  module _ (W : List ℕ) (b left : ℕ) (l : Left D n I W₀ k a W b left) where
-    pub left-step : (Z : List ℕ) (c : ℕ) (r : Bool) → 0 < left → Checks D n (claim 512 D n [] b) W Z r → r ≡ true → c ≡ next 512 I b → Left D n I W₀ k a Z c (left - 1)
-    left-step Z c r h q e g = record {
-      beyond = beyond-trans (l .beyond) (q .beyond);
-      rest = λ seen m.
-          let s = l .rest seen m in
-          let y = subst (Answers D n (claim 512 D n [] b) W Z) e (q .answer) (s .0) (s .1) in
-          let w : left ≡ suc (left - 1) = omega arith in (
-            y .0,
-            y .2,
-            s .2 ∙ ap (λ (j : ℕ). seenOf (cellsOf 512 D n I j b (s .0))) w ∙ seen-next 512 D n I (left - 1) b (s .0) (y .0) (y .1)
-                ∙ ap (λ (x : ℕ). seenOf (cellsOf 512 D n I (left - 1) x (y .0))) (sym g),
-          );
-    }
-
-    pub left-stop : (Z : List ℕ) (r : Bool) → 0 < left → Checks D n (claim 512 D n [] b) W Z r → r ≡ false → Checks D n f W₀ Z false
-    left-stop Z r h q e = record {
-      beyond = beyond-trans (l .beyond) (q .beyond);
-      answer = λ seen m.
-          let s = l .rest seen m in
-          let y = subst (Answers D n (claim 512 D n [] b) W Z) e (q .answer) (s .0) (s .1) in
-          let w : left ≡ suc (left - 1) = omega arith in
-          s .2 ∙ ap (λ (j : ℕ). seenOf (cellsOf 512 D n I j b (s .0))) w ∙ seen-stop 512 D n I (left - 1) b (s .0) y;
-    }
-
-    pub left-end : left ≤ 0 → b ≡ 0 → Checks D n f W₀ W true
+  module _ (W : List ℕ) (b left : ℕ) (l : Left D n g W₀ k a W b left) where
+    -- nothing is left
+    pub left-end : left ≤ 0 → ((seen : List ℕ) → g 0 b seen ≡ some seen) → Checks D n (g k a) W₀ W true
     left-end h e = record {
-      beyond = l .beyond;
-      answer = λ seen m.
+        beyond = l .beyond;
+        answer = λ seen m.
           let s = l .rest seen m in
           let w : left ≡ 0 = omega arith in
-          (s .0, s .2 ∙ ap (λ (j : ℕ). seenOf (cellsOf 512 D n I j b (s .0))) w ∙ seen-done 512 D n I b (s .0) e, s .1);
-    }
+          (s .0, s .2 ∙ ap (λ (j : ℕ). g j b (s .0)) w ∙ e (s .0), s .1)
+      }
 
-    pub left-over : left ≤ 0 → (b ≡ 0 → ⊥) → Checks D n f W₀ W false
+    pub left-over : left ≤ 0 → ((seen : List ℕ) → g 0 b seen ≡ none) → Checks D n (g k a) W₀ W false
     left-over h e = record {
-      beyond = l .beyond;
-      answer = λ seen m.
+        beyond = l .beyond;
+        answer = λ seen m.
           let s = l .rest seen m in
           let w : left ≡ 0 = omega arith in
-          s .2 ∙ ap (λ (j : ℕ). seenOf (cellsOf 512 D n I j b (s .0))) w ∙ seen-over 512 D n I b (s .0) e;
-    }
+          s .2 ∙ ap (λ (j : ℕ). g j b (s .0)) w ∙ e (s .0)
+      }
+
+    -- block b is claimed, or not
+    module _ (Z : List ℕ) (r : Bool) (more : 0 < left) (q : Checks D n (claim 512 D n [] b) W Z r) where
+      pub left-stop : r ≡ false → ((j : ℕ) (seen : List ℕ) → claim 512 D n [] b seen ≡ none → g (suc j) b seen ≡ none) → Checks D n (g k a) W₀ Z false
+      left-stop e f = record {
+          beyond = beyond-trans (l .beyond) (q .beyond);
+          answer = λ seen m.
+            let s = l .rest seen m in
+            let y = subst (Answers D n (claim 512 D n [] b) W Z) e (q .answer) (s .0) (s .1) in
+            let w : left ≡ suc (left - 1) = omega arith in
+            s .2 ∙ ap (λ (j : ℕ). g j b (s .0)) w ∙ f (left - 1) (s .0) y
+        }
+
+      pub left-step : (c : ℕ) → r ≡ true → ((j : ℕ) (seen s : List ℕ) → claim 512 D n [] b seen ≡ some s → g (suc j) b seen ≡ g j c s) → Left D n g W₀ k a Z c (left - 1)
+      left-step c e f = record {
+          beyond = beyond-trans (l .beyond) (q .beyond);
+          rest = λ seen m.
+            let s = l .rest seen m in
+            let y = subst (Answers D n (claim 512 D n [] b) W Z) e (q .answer) (s .0) (s .1) in
+            let w : left ≡ suc (left - 1) = omega arith in
+            (y .0, y .2, s .2 ∙ ap (λ (j : ℕ). g j b (s .0)) w ∙ f (left - 1) (s .0) (y .0) (y .1))
+        }
+
+      -- the chain ends with b
+      pub left-last : r ≡ true → ((j : ℕ) (seen s : List ℕ) → claim 512 D n [] b seen ≡ some s → g (suc j) b seen ≡ some s) → Checks D n (g k a) W₀ Z true
+      left-last e f = record {
+          beyond = beyond-trans (l .beyond) (q .beyond);
+          answer = λ seen m.
+            let s = l .rest seen m in
+            let y = subst (Answers D n (claim 512 D n [] b) W Z) e (q .answer) (s .0) (s .1) in
+            let w : left ≡ suc (left - 1) = omega arith in
+            (y .0, s .2 ∙ ap (λ (j : ℕ). g j b (s .0)) w ∙ f (left - 1) (s .0) (y .0) (y .1), y .2)
+        }
+
+-- ---- a file's chain
+
+module _ (D n : ℕ) (I : List ℕ) where
+  abbrev pub fileCheck : Check
+  fileCheck k a seen = seenOf (cellsOf 512 D n I k a seen)
+
+  pub file-done : (b : ℕ) → b ≡ 0 → (seen : List ℕ) → fileCheck 0 b seen ≡ some seen
+  file-done b e seen = seen-done 512 D n I b seen e
+
+  pub file-over : (b : ℕ) → (b ≡ 0 → ⊥) → (seen : List ℕ) → fileCheck 0 b seen ≡ none
+  file-over b e seen = seen-over 512 D n I b seen e
+
+  pub file-stop : (b j : ℕ) (seen : List ℕ) → claim 512 D n [] b seen ≡ none → fileCheck (suc j) b seen ≡ none
+  file-stop b j seen e = seen-stop 512 D n I j b seen e
+
+  pub file-next : (b c : ℕ) → c ≡ next 512 I b → (j : ℕ) (seen s : List ℕ) → claim 512 D n [] b seen ≡ some s → fileCheck (suc j) b seen ≡ fileCheck j c s
+  file-next b c h j seen s e = seen-next 512 D n I j b seen s e ∙ ap (λ (x : ℕ). fileCheck j x s) (sym h)

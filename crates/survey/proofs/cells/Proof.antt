@@ -6,7 +6,7 @@ use borrow.Author.Tests.{not-true, not-false}
 use lib.ListN.{length}
 use Rattle.block.specs.Block.{next}
 use Rattle.survey.specs.Marks.{markBytes}
-use Rattle.survey.proofs.Chains.{Left, left-start, left-step, left-stop, left-end, left-over, few-blocks, still-long, claimed-inside}
+use Rattle.survey.proofs.Chains.{Left, left-start, left-step, left-stop, left-end, left-over, fileCheck, file-done, file-over, file-stop, file-next, few-blocks, still-long, claimed-inside}
 use Rattle.survey.proofs.cells.Statement.{statement}
 use Rattle.survey.proofs.cells.Tie as tie
 use Rattle.survey.proofs.cells.Reads as reads
@@ -16,7 +16,7 @@ use Rattle.block.proofs.LinkedBlock.next_addr.Reads as next-addr-reads
 use Rattle.survey.proofs.claim.Reads as claim-reads
 
 abbrev Inv-loop : tie.InvT-loop
-Inv-loop img work₀ s k b₀ left₀ work b left = (left ≤ k) × (length work ≡ length work₀) × Left (s .area .0) (s .blocks) img work₀ k (b₀ .0) work (b .0) left
+Inv-loop img work₀ s k b₀ left₀ work b left = (left ≤ k) × (length work ≡ length work₀) × Left (s .area .0) (s .blocks) (fileCheck (s .area .0) (s .blocks) img) work₀ k (b₀ .0) work (b .0) left
 
 abbrev μ-loop : tie.MeasureT-loop
 μ-loop img work₀ s k b₀ left₀ work b left = left
@@ -37,7 +37,7 @@ same-length c = search needs
 returns : tie.Need-returns Inv-loop μ-loop
 returns c =
     let past = c .before .before .before in
-    left-stop _ _ _ _ _ _ _ _ _ (past .before .before .before .loop .inv .2) _ _ (past .before .before .loop-test .taken) (past .claim .ensures .0) (not-true _ (c .if1 .taken))
+    left-stop _ _ _ _ _ _ _ _ _ (past .before .before .before .loop .inv .2) _ _ (past .before .before .loop-test .taken) (past .claim .ensures .0) (not-true _ (c .if1 .taken)) (file-stop _ _ _ _)
 
 -- src/lib.rt:52:13
 new-requires : tie.Need-new-requires Inv-loop μ-loop
@@ -60,7 +60,7 @@ loop-again : tie.Need-loop-again Inv-loop μ-loop
 loop-again c =
     let past = c .before .before .before .before .before in
     let to = c .next-addr .ensures ∙ ap (next 512 _) (c .before .new .ensures) in
-    (search needs, search needs, left-step _ _ _ _ _ _ _ _ _ (past .before .before .before .loop .inv .2) _ _ _ (past .before .before .loop-test .taken) (past .claim .ensures .0) (not-false _ (c .before .before .if1 .left)) to)
+    (search needs, search needs, left-step _ _ _ _ _ _ _ _ _ (past .before .before .before .loop .inv .2) _ _ (past .before .before .loop-test .taken) (past .claim .ensures .0) _ (not-false _ (c .before .before .if1 .left)) (file-next _ _ _ _ _ to))
 
 -- src/lib.rt:56:9
 same-length-2 : tie.Need-same-length-2 Inv-loop μ-loop
@@ -68,7 +68,7 @@ same-length-2 c = search needs
 
 -- src/lib.rt:56:9
 returns-2 : tie.Need-returns-2 Inv-loop μ-loop
-returns-2 c = left-end _ _ _ _ _ _ _ _ _ (c .before .before .before .loop .inv .2) (c .before .before .loop-test .left) (c .if2 .taken)
+returns-2 c = left-end _ _ _ _ _ _ _ _ _ (c .before .before .before .loop .inv .2) (c .before .before .loop-test .left) (file-done _ _ _ _ (c .if2 .taken))
 
 -- src/lib.rt:41:1
 same-length-3 : tie.Need-same-length-3 Inv-loop μ-loop
@@ -76,7 +76,7 @@ same-length-3 c = search needs
 
 -- src/lib.rt:41:1
 returns-3 : tie.Need-returns-3 Inv-loop μ-loop
-returns-3 c = left-over _ _ _ _ _ _ _ _ _ (c .before .before .before .loop .inv .2) (c .before .before .loop-test .left) (c .if2 .left)
+returns-3 c = left-over _ _ _ _ _ _ _ _ _ (c .before .before .before .loop .inv .2) (c .before .before .loop-test .left) (file-over _ _ _ _ (c .if2 .left))
 
 pub cells-spec : {M : Type 1} → statement M
 cells-spec =
