@@ -16,7 +16,7 @@ use Rattle.model.proofs.Lists.{then-some}
 use Rattle.super_block.specs.declared.SuperBlock.{SuperBlock}
 use Rattle.super_block.specs.Super.{Fit}
 use Rattle.super_block.proofs.Fits.{placed}
-use Rattle.survey.specs.Survey.{Claimed, withFound, claim, cellsOf}
+use Rattle.survey.specs.Survey.{Claimed, withFound, claim, cellsOf, chainOf}
 use Rattle.survey.specs.Marks.{Marks, markBytes, Beyond, seenOf, Answers, Checks, Inside}
 use Rattle.survey.proofs.Claims.{beyond-refl}
 
@@ -68,6 +68,9 @@ module _ (B D n : ℕ) (I : List ℕ) where
 pub few-blocks : (s : SuperBlock) (I : List ℕ) → Fit s I → s .blocks ≤ 8388608
 few-blocks s I f = placed f .few
 
+pub area-inside : (s : SuperBlock) (I : List ℕ) → Fit s I → s .area .0 ≤ s .blocks
+area-inside s I f = omega (arith, placed f .some-data)
+
 pub still-long : (s : SuperBlock) (W₀ W : List ℕ) → markBytes (s .area .0) (s .blocks) ≤ length W₀ → length W ≡ length W₀ → markBytes (s .area .0) (s .blocks) ≤ length W
 still-long s W₀ W h e = omega arith
 
@@ -94,54 +97,54 @@ module _ (D n : ℕ) (g : Check) (W₀ : List ℕ) (k a : ℕ) where
     -- nothing is left
     pub left-end : left ≤ 0 → ((seen : List ℕ) → g 0 b seen ≡ some seen) → Checks D n (g k a) W₀ W true
     left-end h e = record {
-        beyond = l .beyond;
-        answer = λ seen m.
+      beyond = l .beyond;
+      answer = λ seen m.
           let s = l .rest seen m in
           let w : left ≡ 0 = omega arith in
-          (s .0, s .2 ∙ ap (λ (j : ℕ). g j b (s .0)) w ∙ e (s .0), s .1)
-      }
+          (s .0, s .2 ∙ ap (λ (j : ℕ). g j b (s .0)) w ∙ e (s .0), s .1);
+    }
 
     pub left-over : left ≤ 0 → ((seen : List ℕ) → g 0 b seen ≡ none) → Checks D n (g k a) W₀ W false
     left-over h e = record {
-        beyond = l .beyond;
-        answer = λ seen m.
+      beyond = l .beyond;
+      answer = λ seen m.
           let s = l .rest seen m in
           let w : left ≡ 0 = omega arith in
-          s .2 ∙ ap (λ (j : ℕ). g j b (s .0)) w ∙ e (s .0)
-      }
+          s .2 ∙ ap (λ (j : ℕ). g j b (s .0)) w ∙ e (s .0);
+    }
 
     -- block b is claimed, or not
     module _ (Z : List ℕ) (r : Bool) (more : 0 < left) (q : Checks D n (claim 512 D n [] b) W Z r) where
       pub left-stop : r ≡ false → ((j : ℕ) (seen : List ℕ) → claim 512 D n [] b seen ≡ none → g (suc j) b seen ≡ none) → Checks D n (g k a) W₀ Z false
       left-stop e f = record {
-          beyond = beyond-trans (l .beyond) (q .beyond);
-          answer = λ seen m.
+        beyond = beyond-trans (l .beyond) (q .beyond);
+        answer = λ seen m.
             let s = l .rest seen m in
             let y = subst (Answers D n (claim 512 D n [] b) W Z) e (q .answer) (s .0) (s .1) in
             let w : left ≡ suc (left - 1) = omega arith in
-            s .2 ∙ ap (λ (j : ℕ). g j b (s .0)) w ∙ f (left - 1) (s .0) y
-        }
+            s .2 ∙ ap (λ (j : ℕ). g j b (s .0)) w ∙ f (left - 1) (s .0) y;
+      }
 
       pub left-step : (c : ℕ) → r ≡ true → ((j : ℕ) (seen s : List ℕ) → claim 512 D n [] b seen ≡ some s → g (suc j) b seen ≡ g j c s) → Left D n g W₀ k a Z c (left - 1)
       left-step c e f = record {
-          beyond = beyond-trans (l .beyond) (q .beyond);
-          rest = λ seen m.
+        beyond = beyond-trans (l .beyond) (q .beyond);
+        rest = λ seen m.
             let s = l .rest seen m in
             let y = subst (Answers D n (claim 512 D n [] b) W Z) e (q .answer) (s .0) (s .1) in
             let w : left ≡ suc (left - 1) = omega arith in
-            (y .0, y .2, s .2 ∙ ap (λ (j : ℕ). g j b (s .0)) w ∙ f (left - 1) (s .0) (y .0) (y .1))
-        }
+            (y .0, y .2, s .2 ∙ ap (λ (j : ℕ). g j b (s .0)) w ∙ f (left - 1) (s .0) (y .0) (y .1));
+      }
 
       -- the chain ends with b
       pub left-last : r ≡ true → ((j : ℕ) (seen s : List ℕ) → claim 512 D n [] b seen ≡ some s → g (suc j) b seen ≡ some s) → Checks D n (g k a) W₀ Z true
       left-last e f = record {
-          beyond = beyond-trans (l .beyond) (q .beyond);
-          answer = λ seen m.
+        beyond = beyond-trans (l .beyond) (q .beyond);
+        answer = λ seen m.
             let s = l .rest seen m in
             let y = subst (Answers D n (claim 512 D n [] b) W Z) e (q .answer) (s .0) (s .1) in
             let w : left ≡ suc (left - 1) = omega arith in
-            (y .0, s .2 ∙ ap (λ (j : ℕ). g j b (s .0)) w ∙ f (left - 1) (s .0) (y .0) (y .1), y .2)
-        }
+            (y .0, s .2 ∙ ap (λ (j : ℕ). g j b (s .0)) w ∙ f (left - 1) (s .0) (y .0) (y .1), y .2);
+      }
 
 -- ---- a file's chain
 
@@ -160,3 +163,35 @@ module _ (D n : ℕ) (I : List ℕ) where
 
   pub file-next : (b c : ℕ) → c ≡ next 512 I b → (j : ℕ) (seen s : List ℕ) → claim 512 D n [] b seen ≡ some s → fileCheck (suc j) b seen ≡ fileCheck j c s
   file-next b c h j seen s e = seen-next 512 D n I j b seen s e ∙ ap (λ (x : ℕ). fileCheck j x s) (sym h)
+
+-- ---- a device's chain
+
+module _ (D n : ℕ) (I : List ℕ) where
+  abbrev pub deviceCheck : Check
+  deviceCheck k a seen = seenOf (chainOf 512 D n I k a seen)
+
+  pub device-over : (b : ℕ) (seen : List ℕ) → deviceCheck 0 b seen ≡ none
+  unfolding chainOf
+  device-over b seen = seen-none (List Cell)
+
+  pub device-stop : (b j : ℕ) (seen : List ℕ) → claim 512 D n [] b seen ≡ none → deviceCheck (suc j) b seen ≡ none
+  unfolding chainOf
+  device-stop b j seen e =
+      ap seenOf (then-none (λ s. withFound (λ cs. record { at = b; body = _ } ∷ cs) (pick (eqb (next 512 I b) 0) (some (record { found = []; seen = s })) (chainOf 512 D n I j (next 512 I b) s))) (claim-any 512 D n I b seen ∙ e))
+      ∙ seen-none (List Cell)
+
+  device-claimed : (b j : ℕ) (seen s : List ℕ) → claim 512 D n [] b seen ≡ some s
+      → deviceCheck (suc j) b seen ≡ seenOf (pick (eqb (next 512 I b) 0) (some (record { found = []; seen = s })) (chainOf 512 D n I j (next 512 I b) s))
+  unfolding chainOf
+  device-claimed b j seen s e =
+      ap seenOf (then-some (λ t. withFound (λ cs. record { at = b; body = _ } ∷ cs) (pick (eqb (next 512 I b) 0) (some (record { found = []; seen = t })) (chainOf 512 D n I j (next 512 I b) t))) (claim-any 512 D n I b seen ∙ e))
+      ∙ seen-with (λ cs. record { at = b; body = _ } ∷ cs) (pick (eqb (next 512 I b) 0) (some (record { found = []; seen = s })) (chainOf 512 D n I j (next 512 I b) s))
+
+  pub device-last : (b c : ℕ) → c ≡ next 512 I b → c ≡ 0 → (j : ℕ) (seen s : List ℕ) → claim 512 D n [] b seen ≡ some s → deviceCheck (suc j) b seen ≡ some s
+  unfolding seenOf then
+  device-last b c h z j seen s e =
+      device-claimed b j seen s e ∙ ap (λ (o : Option (Claimed (List Cell))). then o (λ x. some (x .seen))) (pick-true _ _ (eq-eqb (next 512 I b) 0 (sym h ∙ z)))
+
+  pub device-next : (b c : ℕ) → c ≡ next 512 I b → (c ≡ 0 → ⊥) → (j : ℕ) (seen s : List ℕ) → claim 512 D n [] b seen ≡ some s → deviceCheck (suc j) b seen ≡ deviceCheck j c s
+  device-next b c h z j seen s e =
+      device-claimed b j seen s e ∙ ap seenOf (pick-false _ _ (ne-eqb (next 512 I b) 0 (λ w. z (h ∙ w)))) ∙ ap (λ (x : ℕ). deviceCheck j x s) (sym h)
