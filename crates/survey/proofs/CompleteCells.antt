@@ -19,6 +19,7 @@ use Rattle.model.specs.Volume.{All, GoodCell}
 use Rattle.model.proofs.Commit.{shows-one, shows-two}
 use Rattle.model.proofs.Counts.{count-cons, tally, tally-none}
 use Rattle.model.proofs.Entries.{be-shown}
+use Rattle.model.proofs.OneVolume.{shown-part}
 use Rattle.model.proofs.Sums.{row}
 use Rattle.survey.specs.Survey.{Claimed, withFound, claim, bodyAt, cellsOf, chainOf}
 use Rattle.survey.proofs.CompleteLaws.{Free, Yields, free-as, free-right, finds-end, finds-as, finds-same, finds-test, finds-with, finds-claim, one, one-self, Ground, block-inside, few-blocks}
@@ -28,13 +29,9 @@ pub next-shown : (B : ℕ) (I : List ℕ) (a z : ℕ) (l : List ℕ) → z < 2 ^
 unfolding next
 next-shown B I a z l h s = be-shown I (B * a) 4 z h (shows-one I (B * a) (bytes 4 z) l s)
 
--- bytes that the image shows are read
-pub shown-part : (I : List ℕ) (at k : ℕ) (l : List ℕ) → length l ≡ k → at + k ≤ length I → Shows I at l → take k (drop at I) ≡ l
-shown-part I at k l e h s =
-    ext-getD 0 (take k (drop at I)) l (simp (length-take, length-drop) (omega arith))
-    (λ i q.
-    let m : i < k = omega (arith, simp length-take at q) in
-    getD-take k (drop at I) i 0 m ∙ getD-drop at I i 0 ∙ s i (omega arith))
+-- bytes that the image shows are read, so many as they are
+read-part : (I : List ℕ) (at k : ℕ) (l : List ℕ) → length l ≡ k → at + k ≤ length I → Shows I at l → take k (drop at I) ≡ l
+read-part I at k l e h s = ap (λ (j : ℕ). take j (drop at I)) (sym e) ∙ shown-part I at l (omega arith) s
 
 -- how often block i is in a chain
 cells-tally : (i : ℕ) (c : Cell) (cs : List Cell) → tally i (cellPieces (c ∷ cs)) ≡ one (c .at) i + tally i (cellPieces cs)
@@ -57,7 +54,7 @@ module _ {B D n : ℕ} {I : List ℕ} (g : Ground B D n I) where
       → (next B I (c .at) ≡ cellsAt cs) × (bodyAt B D n I (c .at) ≡ c .body)
   cell-is c cs h m k s =
       let z : Shows I (B * c .at + 4) (c .body) = subst (λ (j : ℕ). Shows I (B * c .at + j) (c .body)) (length-bytes 4 (cellsAt cs)) (shows-two I (B * c .at) (bytes 4 (cellsAt cs)) (c .body) s) in
-      (next-shown B I (c .at) (cellsAt cs) (c .body) m s, shown-part I (B * c .at + 4) (B - 4) (c .body) (k .whole) (omega (arith, block-inside g (c .at) h, g .large)) z)
+      (next-shown B I (c .at) (cellsAt cs) (c .body) m s, read-part I (B * c .at + 4) (B - 4) (c .body) (k .whole) (omega (arith, block-inside g (c .at) h, g .large)) z)
 
   -- one block is claimed and found, then the others
   find-cell : (c : Cell) (cs : List Cell) (seen : List ℕ) (f : List ℕ → ℕ → Option (Claimed (List Cell))) → GoodCell B c → ShowsAll B I (cellPieces (c ∷ cs)) → Free D n seen (chain (c ∷ cs))

@@ -14,6 +14,7 @@ use Rattle.model.specs.Tree.{then}
 use Rattle.model.specs.Render.{count}
 use Rattle.model.proofs.Counts.{count-same, count-cons, count-none}
 use Rattle.survey.specs.Survey.{Claimed, withFound, claim}
+use Rattle.survey.proofs.SoundCells.{block-whole}
 
 -- Blocks, of which i stands c i times: they are in D..n-1, none is there twice, and none is claimed.
 pub record Free (D n : ℕ) (seen : List ℕ) (c : ℕ → ℕ) : Type 0 where
@@ -113,7 +114,7 @@ pub record Ground (B D n : ℕ) (I : List ℕ) : Type 0 where
 module _ {B D n : ℕ} {I : List ℕ} (g : Ground B D n I) where
   -- a block of the volume is in the image, and its address fits four bytes
   pub block-inside : (a : ℕ) → a < n → B * a + B ≤ length I
-  block-inside a h = omega (arith, mul-le-mul-left B h, mul-suc B a, mul-comm B n, g .inside)
+  block-inside a h = block-whole B n I a (g .inside) h
 
   pub few-blocks : (a : ℕ) → a < n → a < 2 ^ 32
   few-blocks a h = omega (arith, g .few, mul-le-mul-left n (g .large))
