@@ -26,7 +26,7 @@ sum-long B S [] a = omega arith
 sum-long B S (b ∷ bs) a = omega (arith, sum-long B S bs (a .1), a .0 .fits, mul-suc (B - 5) (length bs))
 
 module _ {X : Type 0} {B D n : ℕ} {I : List ℕ} (g : Ground B D n I) (v : View X) (S : X → Type 0) where
-  dir-fits : (bs : List (Block X)) (seen : List ℕ) → GoodDir B S bs → Free D n seen (inside (dirPieces B v bs)) → (blocksAt bs < 2 ^ 32) × (sum bs < 2 ^ 32)
+  dir-fits : (bs : List (Block X)) (seen : List ℕ) → GoodDir B S bs → Free D n seen (inside (dirPieces B v bs)) → ((blocksAt bs < 2 ^ 32) × (blocksAt bs ≡ 0 → ⊥)) × (sum bs < 2 ^ 32)
   unfolding blocksAt own
   dir-fits [] seen a f = absurd (a .packed)
   dir-fits (b ∷ bs) seen a f =
@@ -37,7 +37,7 @@ module _ {X : Type 0} {B D n : ℕ} {I : List ℕ} (g : Ground B D n I) (v : Vie
       let k : ℕ = length (b ∷ bs) in
       let l : suc k ≤ n = omega (arith, own-long (b ∷ bs), free-few seen (own (b ∷ bs)) q, g .first) in
       let w : (B - 5) * k ≤ B * k = omega (arith, mul-comm (B - 5) k, mul-comm B k, mul-le-mul-left k (let e : B - 5 ≤ B = omega arith in e)) in
-      (few-blocks g (b .at) (h .1), omega (arith, sum-long B S (b ∷ bs) (a .all), w, mul-le-mul-left B l, mul-suc B k, mul-comm B n, g .few, g .large))
+      ((few-blocks g (b .at) (h .1), λ z. omega (arith, g .first, h .0)), omega (arith, sum-long B S (b ∷ bs) (a .all), w, mul-le-mul-left B l, mul-suc B k, mul-comm B n, g .few, g .large))
 
 module _ {B D n : ℕ} {I : List ℕ} (g : Ground B D n I) where
   -- by depth

@@ -49,6 +49,12 @@ module _ {B D n : ℕ} {I : List ℕ} (g : Ground B D n I) where
   cells-small [] seen f = omega arith
   cells-small (c ∷ cs) seen f = few-blocks g (c .at) (f .range (c .at) (omega (arith, cells-tally (c .at) c cs, one-self (c .at))) .1)
 
+  -- and where there is a block it is not 0
+  pub cells-real : (cs : List Cell) (seen : List ℕ) → 1 ≤ length cs → Free D n seen (λ i. tally i (cellPieces cs)) → cellsAt cs ≡ 0 → ⊥
+  unfolding cellsAt
+  cells-real [] seen h f z = absurd (omega arith)
+  cells-real (c ∷ cs) seen h f z = omega (arith, g .first, f .range (c .at) (omega (arith, cells-tally (c .at) c cs, one-self (c .at))) .0)
+
   -- what a block of a chain shows: its next address and its body
   cell-is : (c : Cell) (cs : List Cell) → c .at < n → cellsAt cs < 2 ^ 32 → GoodCell B c → Shows I (B * c .at) (bytes 4 (cellsAt cs) ++ c .body)
       → (next B I (c .at) ≡ cellsAt cs) × (bodyAt B D n I (c .at) ≡ c .body)

@@ -9,12 +9,13 @@ use borrow.Author.Tests.{le-leb, eq-eqb}
 use Rattle.model.specs.Tree.{Node, file, device, sub, Entry, Block}
 use Rattle.model.specs.Render.{Piece, View, cellsAt, cellPieces, blocksAt, addressOf, sizeOf, nodePieces, entryPieces, dirPieces, ShowsAll}
 use Rattle.model.specs.Volume.{All, GoodNode, GoodEntry, GoodBlock, GoodDir, blocksFor}
+use Rattle.model.proofs.Contents.{blocks-some}
 use Rattle.model.proofs.Counts.{count-cons, count-none, tally, tally-none, tally-append, dir-tally, entries-tally}
 use Rattle.model.proofs.Frame.{shows-left, shows-right}
 use Rattle.dir_entry.specs.declared.DirEntry.{DirEntry}
-use Rattle.survey.specs.Survey.{Claimed, withFound, cellsOf, chainOf, subOf, nodeOf, entriesOf, dirOf, checkDir, distinct, blocksOf}
+use Rattle.survey.specs.Survey.{Claimed, withFound, cellsOf, chainOf, subOf, nodeOf, entriesOf, dirOf, checkDir, blocksOf}
 use Rattle.survey.proofs.CompleteLaws.{Free, Yields, free-as, free-part, free-left, free-right, finds-end, finds-as, finds-same, finds-test, finds-with, finds-then, Ground}
-use Rattle.survey.proofs.CompleteCells.{cells-small, find-cells, find-device}
+use Rattle.survey.proofs.CompleteCells.{cells-small, cells-real, find-cells, find-device}
 use Rattle.survey.proofs.CompleteRaws.{kindIs, headOf, rawsOf, Legible}
 use Rattle.survey.proofs.CompleteNames.{rawBlocks, names-pass}
 use Rattle.survey.proofs.CompleteBlocks.{own, ownCount, Clear, find-blocks}
@@ -48,7 +49,7 @@ module _ {X : Type 0} (B : ℕ) (v : View X) where
 -- What the check of a subdirectory has to find, and that its address and size fit their fields.
 pub record Sub {X : Type 0} (B D n : ℕ) (I : List ℕ) (v : View X) (S : X → Type 0) (below : ℕ → List ℕ → Option (Claimed X)) (size : X → ℕ) : Type 0 where
   pub sum-is : (x : X) → size x ≡ v .size x
-  pub fits : (x : X) (seen : List ℕ) → S x → Free D n seen (inside (v .pieces x)) → (v .from x < 2 ^ 32) × (v .size x < 2 ^ 32)
+  pub fits : (x : X) (seen : List ℕ) → S x → Free D n seen (inside (v .pieces x)) → ((v .from x < 2 ^ 32) × (v .from x ≡ 0 → ⊥)) × (v .size x < 2 ^ 32)
   pub finds : (x : X) (seen : List ℕ) → S x → ShowsAll B I (v .pieces x) → Free D n seen (inside (v .pieces x)) → Yields (below (v .from x) seen) x seen (inside (v .pieces x))
 
 module _ {X : Type 0} {B D n : ℕ} {I : List ℕ} (g : Ground B D n I) (v : View X) (S : X → Type 0) (below : ℕ → List ℕ → Option (Claimed X)) (size : X → ℕ) (sb : Sub B D n I v S below size) where
@@ -111,17 +112,17 @@ module _ {X : Type 0} {B D n : ℕ} {I : List ℕ} (g : Ground B D n I) (v : Vie
 
   -- ---- numbers fit their fields
 
-  node-fits : (x : Node X) (seen : List ℕ) → GoodNode B S x → Free D n seen (inside (nodePieces v x)) → (addressOf v x < 2 ^ 32) × (sizeOf v x < 2 ^ 32)
+  node-fits : (x : Node X) (seen : List ℕ) → GoodNode B S x → Free D n seen (inside (nodePieces v x)) → ((addressOf v x < 2 ^ 32) × (addressOf v x ≡ 0 → ⊥)) × (sizeOf v x < 2 ^ 32)
   unfolding nodePieces addressOf sizeOf
-  node-fits (file z cs) seen a f = (cells-small g cs seen f, omega (arith, a .limit))
-  node-fits (device z cs) seen a f = (cells-small g cs seen f, a .limit)
+  node-fits (file z cs) seen a f = ((cells-small g cs seen f, cells-real g cs seen (omega (arith, a .long, blocks-some B (omega (arith, g .large)) z)) f), omega (arith, a .limit))
+  node-fits (device z cs) seen a f = ((cells-small g cs seen f, cells-real g cs seen (a .some-block) f), a .limit)
   node-fits (sub x) seen a f = sb .fits x seen a f
 
   entries-clear : (es : List (Entry X)) (seen : List ℕ) → All (GoodEntry B S) es → Free D n seen (inside (entryPieces v es)) → All (Legible v) es
   entries-clear [] seen a f = tt
   entries-clear (e ∷ es) seen a f =
       let r = node-fits (e .node) seen (a .0 .below) (free-part _ (inside (nodePieces v (e .node))) (λ i. omega (arith, entries-tally B v i e es)) f) in (
-        record { good-name = a .0 .good-name; address = r .0; size = r .1; time = a .0 .clock },
+        record { good-name = a .0 .good-name; address = r .0 .0; real = r .0 .1; size = r .1; time = a .0 .clock },
         entries-clear es seen (a .1) (free-part _ (inside (entryPieces v es)) (λ i. omega (arith, entries-tally B v i e es)) f),
       )
 

@@ -10,7 +10,8 @@ use Rattle.wire.proofs.Picks.{either, pick-true, pick-false, same-refl}
 use Rattle.model.specs.Tree.{Name, Entry, Block, any, called}
 use Rattle.model.specs.Render.{View}
 use Rattle.model.specs.Volume.{named, namedIn}
-use Rattle.survey.specs.Survey.{among, distinct, RawBlock, namesOf, allNames}
+use Rattle.names.specs.Names.{oneOf, distinct}
+use Rattle.survey.specs.Survey.{RawBlock, namesOf, allNames}
 use Rattle.survey.proofs.CompleteRaws.{rawsOf}
 
 -- The blocks of a directory as their bytes show them.
@@ -29,12 +30,12 @@ times-append x [] zs = omega arith
 times-append x (y ∷ ys) zs = omega (arith, times-append x ys zs)
 
 -- a name that is not there
-not-among : (x : Name) (ys : List Name) → times x ys ≡ 0 → among x ys ≡ false
-unfolding times among any
-not-among x [] z = refl
-not-among x (y ∷ ys) z = go (either (same x y)) (not-among x ys)
+not-one : (x : Name) (ys : List Name) → times x ys ≡ 0 → oneOf x ys ≡ false
+unfolding times oneOf any
+not-one x [] z = refl
+not-one x (y ∷ ys) z = go (either (same x y)) (not-one x ys)
   where
-    go : (same x y ≡ true) ⊎ (same x y ≡ false) → (times x ys ≡ 0 → among x ys ≡ false) → among x (y ∷ ys) ≡ false
+    go : (same x y ≡ true) ⊎ (same x y ≡ false) → (times x ys ≡ 0 → oneOf x ys ≡ false) → oneOf x (y ∷ ys) ≡ false
     go (inl t) r = absurd (omega (arith, pick-true {A = ℕ} 1 0 t))
     go (inr f) r = pick-false _ _ f ∙ r (omega arith)
 
@@ -43,7 +44,7 @@ unfolding times distinct
 distinct-once [] h = refl
 distinct-once (x ∷ xs) h =
     let z : times x xs ≡ 0 = omega (arith, h x, pick-true {A = ℕ} 1 0 (same-refl x)) in
-    rw (not-among x xs z) (distinct-once xs (λ y. omega (arith, h y)))
+    rw (not-one x xs z) (distinct-once xs (λ y. omega (arith, h y)))
 
 module _ {X : Type 0} (v : View X) (x : Name) where
   names-block : (es : List (Entry X)) → times x (namesOf (rawsOf v es)) ≡ named x es

@@ -25,7 +25,8 @@ use Rattle.dir_entry.specs.declared.Slot.the-variants as slot
 use Rattle.dir_entry.specs.Entry.{kindByte, header, headBytes, placeAt, nameAt, slotAt}
 use Rattle.dir_entry.proofs.Heads.{length-head, slot-shown, name-shown}
 use Rattle.dir_entry.proofs.Slots.{stop-offset, stop-empty}
-use Rattle.survey.specs.Survey.{nameBytes, Raw, onSlot, zeroFrom, rawsFrom}
+use Rattle.names.specs.Names.{nameBytes}
+use Rattle.survey.specs.Survey.{Raw, passes, onSlot, zeroFrom, rawsFrom}
 
 -- ---- an entry as its bytes show it
 
@@ -56,6 +57,7 @@ rawsOf v (e ∷ es) = rawOf v e ∷ rawsOf v es
 pub record Legible {X : Type 0} (v : View X) (e : Entry X) : Type 0 where
   pub good-name : GoodName (e .name)
   pub address : addressOf v (e .node) < 2 ^ 32
+  pub real : addressOf v (e .node) ≡ 0 → ⊥
   pub size : sizeOf v (e .node) < 2 ^ 32
   pub time : e .time < 2 ^ 64
 
@@ -76,6 +78,10 @@ pub name-passes : (x : Name) → All NameByte x → nameBytes x ≡ true
 unfolding nameBytes
 name-passes [] a = refl
 name-passes (c ∷ x) a = rw (le-leb 32 c (a .0 .0), le-leb c 126 (a .0 .1), ne-eqb c 47 (a .0 .2)) (name-passes x (a .1))
+
+entry-passes : (e : DirEntry) (x : Name) → (e .addr .0 ≡ 0 → ⊥) → All NameByte x → passes e x ≡ true
+unfolding passes
+entry-passes e x r a = rw (ne-eqb (e .addr .0) 0 r) (name-passes x a)
 
 pub zeros-pass : (I : List ℕ) (k p : ℕ) → ((j : ℕ) → j < k → getD I (p + j) 0 ≡ 0) → zeroFrom I p k ≡ true
 unfolding zeroFrom
@@ -127,7 +133,7 @@ module _ {X : Type 0} (B D n : ℕ) (I : List ℕ) (v : View X) (a : ℕ) (large
   -- what is read where e is at offset o, and where the entries stop there
   reads : ℕ → ℕ → DirEntry → Option (List Raw)
   reads f o e =
-      pick (nameBytes (nameAt I (placeAt B a o) (e .len)))
+      pick (passes e (nameAt I (placeAt B a o) (e .len)))
       (then (rawsFrom B D n I f a (o + header + e .len)) (λ rs. some (record { head = e; name = nameAt I (placeAt B a o) (e .len) } ∷ rs))) none
 
   stops : ℕ → Option (List Raw)
@@ -139,7 +145,7 @@ module _ {X : Type 0} (B D n : ℕ) (I : List ℕ) (v : View X) (a : ℕ) (large
   reads-entry f o e rs l h s r =
       let w : o + 18 + length (e .name) ≡ o + weight e = unfold weight in omega arith in
       let x : nameAt I (placeAt B a o) (length (e .name)) ≡ e .name = name-is o e h s in
-      pick-true _ _ (ap nameBytes x ∙ name-passes (e .name) (l .good-name .allowed))
+      pick-true _ _ (ap (passes (headOf v e)) x ∙ entry-passes (headOf v e) (e .name) (l .real) (l .good-name .allowed))
       ∙ ap (λ (z : List ℕ). then (rawsFrom B D n I f a (o + 18 + length (e .name))) (λ rs. some (record { head = headOf v e; name = z } ∷ rs))) x
       ∙ ap (λ (z : Option (List Raw)). then z (λ rs. some (rawOf v e ∷ rs))) (ap (rawsFrom B D n I f a) w ∙ r)
 

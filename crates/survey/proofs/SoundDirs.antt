@@ -24,7 +24,8 @@ use Rattle.dir_entry.specs.declared.Kind.{Kind}
 use Rattle.dir_entry.specs.declared.Kind.the-variants as kind
 use Rattle.dir_entry.specs.declared.DirEntry.{DirEntry}
 use Rattle.dir_entry.specs.Entry.{kindByte, headBytes, placeAt}
-use Rattle.survey.specs.Survey.{among, distinct, Raw, RawBlock, namesOf, allNames, hasSome, Claimed, cellsOf, chainOf, blocksOf, subOf, nodeOf, entriesOf, dirOf, checkDir}
+use Rattle.names.specs.Names.{oneOf, distinct}
+use Rattle.survey.specs.Survey.{Raw, RawBlock, namesOf, allNames, hasSome, Claimed, cellsOf, chainOf, blocksOf, subOf, nodeOf, entriesOf, dirOf, checkDir}
 use Rattle.survey.proofs.SoundLaws.{Each, each-some, each-then, each-test, each-with, and-both, Claims, claims-none, claims-both, claims-same}
 use Rattle.survey.proofs.SoundCells.{cells-found, chain-found}
 use Rattle.survey.proofs.SoundRaws.{GoodRaw, rawBytes, rawsBytes, rawsUsed, rawsAt, rawAts, BlockFound, ChainFound, RawFilled, RawPacked, blocks-found}
@@ -41,8 +42,8 @@ unfolding times
 times-append x [] zs = omega arith
 times-append x (y ∷ ys) zs = omega (arith, times-append x ys zs)
 
-times-none : (x : Name) (ys : List Name) → among x ys ≡ false → times x ys ≡ 0
-unfolding among any times
+times-none : (x : Name) (ys : List Name) → oneOf x ys ≡ false → times x ys ≡ 0
+unfolding oneOf any times
 times-none x [] h = refl
 times-none x (y ∷ ys) h = go (either (same x y)) (times-none x ys)
   where
@@ -56,12 +57,12 @@ unfolding distinct times
 distinct-once [] h x = omega arith
 distinct-once (y ∷ ys) h x = go (either (same x y)) (distinct-once ys (p .1) x)
   where
-    p : (not (among y ys) ≡ true) × (distinct ys ≡ true)
-    p = and-both (not (among y ys)) (distinct ys) h
+    p : (not (oneOf y ys) ≡ true) × (distinct ys ≡ true)
+    p = and-both (not (oneOf y ys)) (distinct ys) h
 
     go : (same x y ≡ true) ⊎ (same x y ≡ false) → times x ys ≤ 1 → pick (same x y) 1 0 + times x ys ≤ 1
     go (inl e) r =
-        let z : times x ys ≡ 0 = times-none x ys (subst (λ (w : Name). among w ys ≡ false) (sym (same-eq x y e)) (not-true (among y ys) (p .0))) in
+        let z : times x ys ≡ 0 = times-none x ys (subst (λ (w : Name). oneOf w ys ≡ false) (sym (same-eq x y e)) (not-true (oneOf y ys) (p .0))) in
         omega (arith, pick-true {A = ℕ} 1 0 e)
     go (inr e) r = omega (arith, pick-false {A = ℕ} 1 0 e)
 

@@ -23,7 +23,8 @@ use Rattle.dir_entry.specs.declared.Slot.the-variants as slot
 use Rattle.dir_entry.specs.Entry.{header, entryAt, headBytes, placeAt, nameAt, slotAt}
 use Rattle.dir_entry.proofs.Heads.{bytes-shown, head-shown, length-head}
 use Rattle.dir_entry.proofs.Slots.{Stands, slot-stands}
-use Rattle.survey.specs.Survey.{nameBytes, Raw, RawBlock, hasSome, Claimed, onSlot, zeroFrom, claim, rawsFrom, laterOf, blocksOf}
+use Rattle.names.specs.Names.{nameBytes}
+use Rattle.survey.specs.Survey.{Raw, passes, RawBlock, hasSome, Claimed, onSlot, zeroFrom, claim, rawsFrom, laterOf, blocksOf}
 use Rattle.survey.proofs.SoundLaws.{Each, each-none, each-some, each-then, each-pick, each-test, each-with, and-both, Claims, claims-none, claims-both, Claim, each-claim}
 use Rattle.survey.proofs.SoundCells.{part-shown, part-long, block-whole}
 
@@ -38,6 +39,10 @@ name-allowed (c ∷ x) h =
     let q = and-both (leb 32 c && leb c 126) (not (eqb c 47)) (p .0) in
     let r = and-both (leb 32 c) (leb c 126) (q .0) in
     ((leb-true 32 c (r .0), leb-true c 126 (r .1), eqb-false c 47 (not-true (eqb c 47) (q .1))), name-allowed x (p .1))
+
+passes-bytes : (e : DirEntry) (x : Name) → passes e x ≡ true → nameBytes x ≡ true
+unfolding passes
+passes-bytes e x h = and-both (not (eqb (e .addr .0) 0)) (nameBytes x) h .1
 
 -- a number that is read fits its field
 pub be-fits : (n : ℕ) (I : List ℕ) (at : ℕ) → Bytes I → be n I at < 256 ^ n
@@ -169,9 +174,9 @@ module _ (B D n : ℕ) (I : List ℕ) (all-bytes : Bytes I) (a : ℕ) (whole : B
       each-slot (RawsFound B I a o) (slotAt B I a o) _ _
       (λ e q.
       let s : Stands B I a o e = slot-stands B I a o e q in
-      each-test (RawsFound B I a o) (nameBytes (nameAt I (placeAt B a o) (e .len))) _
+      each-test (RawsFound B I a o) (passes e (nameAt I (placeAt B a o) (e .len))) _
       (λ t. each-then (RawsFound B I a o) (rawsFrom B D n I f a (o + header + e .len)) _
-      (λ rs g. each-some (RawsFound B I a o) _ (raws-more o e rs s t (raws-found f (o + header + e .len) (omega (arith, s .ends)) .is rs g)))))
+      (λ rs g. each-some (RawsFound B I a o) _ (raws-more o e rs s (passes-bytes e _ t) (raws-found f (o + header + e .len) (omega (arith, s .ends)) .is rs g)))))
       (each-test (RawsFound B I a o) (zeroFrom I (placeAt B a o) (B - 4 - o)) _
       (λ t. each-some (RawsFound B I a o) [] (last o l t)))
     where

@@ -5,11 +5,11 @@ use mathlib.Core.Bool.{Bool, true, false, not, _&&_}
 use mathlib.Core.Option.{Option, none, some}
 use mathlib.Core.List.{List, [], _∷_, _++_}
 use Prim.Native.Nat.{ℕ, zero, suc, _+_, _-_, _*_}
-use lib.Dec.{ltb, leb, eqb}
+use lib.Dec.{leb, eqb}
 use lib.ListN.{length, getD, take, drop}
-use Rattle.wire.specs.Pick.{pick, same}
+use Rattle.wire.specs.Pick.{pick}
 use Rattle.block.specs.Block.{next}
-use Rattle.model.specs.Tree.{Name, Cell, Node, file, device, sub, Entry, Block, Below, Tree, then, sum, any}
+use Rattle.model.specs.Tree.{Name, Cell, Node, file, device, sub, Entry, Block, Below, Tree, then, sum}
 use Rattle.model.specs.Render.{count}
 use Rattle.model.specs.Volume.{fileLimit, blocksFor}
 use Rattle.dir_entry.specs.declared.Kind.{Kind}
@@ -19,20 +19,7 @@ use Rattle.dir_entry.specs.declared.Slot.{Slot}
 use Rattle.dir_entry.specs.declared.Slot.the-variants as slot
 use Rattle.dir_entry.specs.Entry.{header, placeAt, nameAt, slotAt}
 use Rattle.read_dir.specs.Walk.{inArea}
-
--- ---- names: "1 to 255 bytes of 0x20 to 0x7E without `/`, distinct in a directory"
-
-unfoldable pub nameBytes : Name → Bool
-nameBytes [] = true
-nameBytes (c ∷ x) = ((leb 32 c && leb c 126) && not (eqb c 47)) && nameBytes x
-
--- is the name among these
-unfoldable pub among : Name → List Name → Bool
-among x ys = any (same x) ys
-
-unfoldable pub distinct : List Name → Bool
-distinct [] = true
-distinct (x ∷ xs) = not (among x xs) && distinct xs
+use Rattle.names.specs.Names.{nameBytes, distinct}
 
 -- ---- an entry as its bytes show it: its fixed part and its name; a directory's block of such entries
 
@@ -70,6 +57,10 @@ unfoldable pub onSlot : {X : Type 0} → Slot → (DirEntry → X) → X → X
 onSlot (slot.Entry e) f x = f e
 onSlot slot.Stop f x = x
 
+-- W3, "every entry's address is in D..n-1, so 0 is damage" (that it is in there says the claim of its block), and the name's bytes
+unfoldable pub passes : DirEntry → Name → Bool
+passes e x = not (eqb (e .addr .0) 0) && nameBytes x
+
 -- whether k bytes from byte p on are zero
 unfoldable pub zeroFrom : List ℕ → ℕ → ℕ → Bool
 zeroFrom I p zero = true
@@ -102,7 +93,7 @@ module _ (B D n : ℕ) (I : List ℕ) where
   rawsFrom zero a o = none
   rawsFrom (suc f) a o =
       onSlot (slotAt B I a o)
-      (λ e. pick (nameBytes (nameAt I (placeAt B a o) (e .len)))
+      (λ e. pick (passes e (nameAt I (placeAt B a o) (e .len)))
       (then (rawsFrom f a (o + header + e .len)) (λ rs. some (record { head = e; name = nameAt I (placeAt B a o) (e .len) } ∷ rs))) none)
       (pick (zeroFrom I (placeAt B a o) (B - 4 - o)) (some []) none)
 
