@@ -9,8 +9,9 @@ use native.Mathlib.Decide.{decLt}
 use native.Mathlib.Omega.{arith}
 use lib.ListN.{length, getD, length-append}
 use borrow.Author.Tests.{le-leb, eq-eqb, ne-eqb}
-use Rattle.wire.specs.Pick.{pick}
+use Rattle.wire.specs.Pick.{pick, zeroFrom}
 use Rattle.wire.proofs.Picks.{pick-true}
+use Rattle.wire.proofs.Zeros.{zeros-pass}
 use Rattle.model.specs.Tree.{Name, Node, file, device, sub, Entry, then, weight, used}
 use Rattle.model.specs.Render.{View, padded, kindOf, addressOf, sizeOf, entryBytes, entriesBytes, Shows}
 use Rattle.model.specs.Volume.{All, NameByte, GoodName}
@@ -26,7 +27,7 @@ use Rattle.dir_entry.specs.Entry.{kindByte, header, headBytes, placeAt, nameAt,
 use Rattle.dir_entry.proofs.Heads.{length-head, slot-shown, name-shown}
 use Rattle.dir_entry.proofs.Slots.{stop-offset, stop-empty}
 use Rattle.names.specs.Names.{nameBytes}
-use Rattle.survey.specs.Survey.{Raw, passes, onSlot, zeroFrom, rawsFrom}
+use Rattle.survey.specs.Survey.{Raw, passes, onSlot, rawsFrom}
 
 -- ---- an entry as its bytes show it
 
@@ -71,7 +72,7 @@ entry-bytes : {X : Type 0} (v : View X) (e : Entry X) → entryBytes v e ≡ hea
 unfolding entryBytes headBytes headOf
 entry-bytes v e = rw (kind-byte (e .node)) (simp append-assoc)
 
--- ---- names and zeros
+-- ---- names
 
 -- Allowed bytes pass the test.
 pub name-passes : (x : Name) → All NameByte x → nameBytes x ≡ true
@@ -82,14 +83,6 @@ name-passes (c ∷ x) a = rw (le-leb 32 c (a .0 .0), le-leb c 126 (a .0 .1), ne-
 entry-passes : (e : DirEntry) (x : Name) → (e .addr .0 ≡ 0 → ⊥) → All NameByte x → passes e x ≡ true
 unfolding passes
 entry-passes e x r a = rw (ne-eqb (e .addr .0) 0 r) (name-passes x a)
-
-pub zeros-pass : (I : List ℕ) (k p : ℕ) → ((j : ℕ) → j < k → getD I (p + j) 0 ≡ 0) → zeroFrom I p k ≡ true
-unfolding zeroFrom
-zeros-pass I zero p z = refl
-zeros-pass I (suc k) p z =
-    let h : getD I p 0 ≡ 0 = rw add-zero at (z 0 (omega arith)) in
-    rw (eq-eqb (getD I p 0) 0 h)
-    (zeros-pass I k (suc p) (λ j l. let e : suc p + j ≡ p + suc j = omega arith in ap (λ (x : ℕ). getD I x 0) e ∙ z (suc j) (omega arith)))
 
 -- ---- one block
 

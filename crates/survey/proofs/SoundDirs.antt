@@ -13,6 +13,7 @@ use Rattle.wire.specs.Be.{bytes}
 use Rattle.wire.specs.Pick.{pick, same}
 use Rattle.wire.proofs.Laws.{length-bytes}
 use Rattle.wire.proofs.Picks.{either, not-both, pick-true, pick-false, same-eq}
+use Rattle.wire.proofs.Zeros.{and-both}
 use Rattle.model.specs.Tree.{Name, Node, file, device, Entry, Block, any, called, weight, used, Filled, Packed}
 use Rattle.model.specs.Render.{Piece, View, blocksAt, padded, kindOf, addressOf, sizeOf, entryBytes, entriesBytes, nodePieces, entryPieces, dirPieces, ats, count, Shows, ShowsAll}
 use Rattle.model.specs.Volume.{All, named, namedIn, fileLimit, blocksFor, GoodNode, GoodEntry, GoodBlock, GoodDir}
@@ -26,7 +27,7 @@ use Rattle.dir_entry.specs.declared.DirEntry.{DirEntry}
 use Rattle.dir_entry.specs.Entry.{kindByte, headBytes, placeAt}
 use Rattle.names.specs.Names.{oneOf, distinct}
 use Rattle.survey.specs.Survey.{Raw, RawBlock, namesOf, allNames, hasSome, Claimed, cellsOf, chainOf, blocksOf, subOf, nodeOf, entriesOf, dirOf, checkDir}
-use Rattle.survey.proofs.SoundLaws.{Each, each-some, each-then, each-test, each-with, and-both, Claims, claims-none, claims-both, claims-same}
+use Rattle.survey.proofs.SoundLaws.{Each, each-some, each-then, each-test, each-with, Claims, claims-none, claims-both, claims-same}
 use Rattle.survey.proofs.SoundCells.{cells-found, chain-found}
 use Rattle.survey.proofs.SoundRaws.{GoodRaw, rawBytes, rawsBytes, rawsUsed, rawsAt, rawAts, BlockFound, ChainFound, RawFilled, RawPacked, blocks-found}
 

@@ -10,6 +10,7 @@ use lib.Dec.{ltb, leb, eqb}
 use borrow.Author.Tests.{ltb-true, leb-true, eqb-true}
 use Rattle.wire.specs.Pick.{pick}
 use Rattle.wire.proofs.Picks.{not-both}
+use Rattle.wire.proofs.Zeros.{and-both}
 use Rattle.model.specs.Tree.{then}
 use Rattle.model.specs.Render.{count}
 use Rattle.model.proofs.Lists.{not-some}
@@ -54,10 +55,6 @@ unfolding withFound
 each-with P f o h = each-then P o _ (λ c e. each-some P _ (h c e))
 
 -- two tests that both hold
-pub and-both : (a b : Bool) → (a && b) ≡ true → (a ≡ true) × (b ≡ true)
-and-both true b h = (refl, h)
-and-both false b h = absurd (not-both h refl)
-
 -- ---- the blocks that are claimed
 
 -- From `seen` to `now` exactly the blocks xs were claimed, all in D..n-1, and none that was claimed before.

@@ -10,6 +10,8 @@ use lib.Dec.{leb, eqb}
 use lib.ListN.{length, getD, replicate, length-append, getD-replicate}
 use borrow.Author.Tests.{eqb-true, eqb-false, leb-true, not-true}
 use Rattle.wire.specs.Be.{be, bytes}
+use Rattle.wire.specs.Pick.{zeroFrom}
+use Rattle.wire.proofs.Zeros.{and-both, zeros-shown}
 use Rattle.block.specs.Block.{next}
 use Rattle.model.specs.Tree.{Name}
 use Rattle.model.specs.Render.{padded, Shows}
@@ -24,8 +26,8 @@ use Rattle.dir_entry.specs.Entry.{header, entryAt, headBytes, placeAt, nameAt, 
 use Rattle.dir_entry.proofs.Heads.{bytes-shown, head-shown, length-head}
 use Rattle.dir_entry.proofs.Slots.{Stands, slot-stands}
 use Rattle.names.specs.Names.{nameBytes}
-use Rattle.survey.specs.Survey.{Raw, passes, RawBlock, hasSome, Claimed, onSlot, zeroFrom, claim, rawsFrom, laterOf, blocksOf}
-use Rattle.survey.proofs.SoundLaws.{Each, each-none, each-some, each-then, each-pick, each-test, each-with, and-both, Claims, claims-none, claims-both, Claim, each-claim}
+use Rattle.survey.specs.Survey.{Raw, passes, RawBlock, hasSome, Claimed, onSlot, claim, rawsFrom, laterOf, blocksOf}
+use Rattle.survey.proofs.SoundLaws.{Each, each-none, each-some, each-then, each-pick, each-test, each-with, Claims, claims-none, claims-both, Claim, each-claim}
 use Rattle.survey.proofs.SoundCells.{part-shown, part-long, block-whole}
 
 -- ---- one entry
@@ -70,15 +72,6 @@ rawsUsed [] = 0
 rawsUsed (r ∷ rs) = 18 + length (r .name) + rawsUsed rs
 
 -- ---- zeros
-
--- bytes that pass the test are zero
-zeros-shown : (I : List ℕ) (p k : ℕ) → zeroFrom I p k ≡ true → (i : ℕ) → i < k → getD I (p + i) 0 ≡ 0
-unfolding zeroFrom
-zeros-shown I p zero h i q = absurd (omega arith)
-zeros-shown I p (suc k) h zero q = rw add-zero (eqb-true (getD I p 0) 0 (and-both (eqb (getD I p 0) 0) (zeroFrom I (suc p) k) h .0))
-zeros-shown I p (suc k) h (suc i) q =
-    let e : p + suc i ≡ suc p + i = omega arith in
-    ap (λ (j : ℕ). getD I j 0) e ∙ zeros-shown I (suc p) k (and-both (eqb (getD I p 0) 0) (zeroFrom I (suc p) k) h .1) i (omega arith)
 
 padded-none : (k : ℕ) → padded k [] ≡ replicate k 0
 unfolding padded

@@ -6,8 +6,8 @@ use mathlib.Core.Option.{Option, none, some}
 use mathlib.Core.List.{List, [], _∷_, _++_}
 use Prim.Native.Nat.{ℕ, zero, suc, _+_, _-_, _*_}
 use lib.Dec.{leb, eqb}
-use lib.ListN.{length, getD, take, drop}
-use Rattle.wire.specs.Pick.{pick}
+use lib.ListN.{take, drop}
+use Rattle.wire.specs.Pick.{pick, zeroFrom}
 use Rattle.block.specs.Block.{next}
 use Rattle.model.specs.Tree.{Name, Cell, Node, file, device, sub, Entry, Block, Below, Tree, then, sum}
 use Rattle.model.specs.Render.{count}
@@ -60,11 +60,6 @@ onSlot slot.Stop f x = x
 -- W3, "every entry's address is in D..n-1, so 0 is damage" (that it is in there says the claim of its block), and the name's bytes
 unfoldable pub passes : DirEntry → Name → Bool
 passes e x = not (eqb (e .addr .0) 0) && nameBytes x
-
--- whether k bytes from byte p on are zero
-unfoldable pub zeroFrom : List ℕ → ℕ → ℕ → Bool
-zeroFrom I p zero = true
-zeroFrom I p (suc k) = eqb (getD I p 0) 0 && zeroFrom I (suc p) k
 
 module _ (B D n : ℕ) (I : List ℕ) where
   -- W2, "stays in D..n-1 ... no two chains share a block": block a is claimed, if it is in the area and not claimed yet.

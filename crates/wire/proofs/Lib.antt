@@ -1,2 +1,3 @@
 pub mod Laws
 pub mod Picks
+pub mod Zeros

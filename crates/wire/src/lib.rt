@@ -5,7 +5,7 @@ ghost use mathlib.Core.Path.{_≡_};
 ghost use Prim.Native.Nat.{_+_, _≤_, _<_, _^_};
 ghost use lib.ListN.{length, take, drop, replicate};
 ghost use Rattle.wire.specs.Be.{be, bytes, splice};
-ghost use Rattle.wire.specs.Pick.{same};
+ghost use Rattle.wire.specs.Pick.{same, zeroFrom};
 
 // A byte as a wider number, with its bound: what a cast in place would leave to the caller.
 fn wide(x: u8) -> u64
@@ -96,6 +96,21 @@ pub fn same_bytes(s: &[u8], at: usize, t: &[u8]) -> bool
     let mut i: usize = 0;
     while i < t.len() {
         if s[at + i] != t[i] {
+            return false;
+        }
+        i += 1;
+    }
+    true
+}
+
+// Whether n bytes from `at` on are zero.
+pub fn zero_bytes(s: &[u8], at: usize, n: usize) -> bool
+    requires { ⌜ at + n ≤ length (now s) ⌝ }
+    ensures { λ r. ⌜ r ≡ zeroFrom (now (s .entry)) at n ⌝ }
+{
+    let mut i: usize = 0;
+    while i < n {
+        if s[at + i] != 0 {
             return false;
         }
         i += 1;

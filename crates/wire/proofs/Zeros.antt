@@ -1,0 +1,62 @@
+-- The test that bytes are zero.
+use mathlib.Core.Path.{_≡_, refl, sym, ap, _∙_}
+use mathlib.Core.Bool.{Bool, true, false, _&&_}
+use mathlib.Core.List.{List}
+use Prim.Native.Nat.{ℕ, zero, suc, _+_, _-_, _≤_, _<_}
+use native.Mathlib.Nat.{add-zero}
+use native.Mathlib.Omega.{arith}
+use lib.Dec.{eqb}
+use lib.ListN.{getD}
+use borrow.Author.Tests.{eqb-true, eq-eqb, ne-eqb}
+use Rattle.wire.specs.Pick.{zeroFrom}
+use Rattle.wire.proofs.Picks.{not-both}
+
+pub and-both : (a b : Bool) → (a && b) ≡ true → (a ≡ true) × (b ≡ true)
+and-both true b h = (refl, h)
+and-both false b h = absurd (not-both h refl)
+
+-- bytes that pass the test are zero
+pub zeros-shown : (I : List ℕ) (p k : ℕ) → zeroFrom I p k ≡ true → (i : ℕ) → i < k → getD I (p + i) 0 ≡ 0
+unfolding zeroFrom
+zeros-shown I p zero h i q = absurd (omega arith)
+zeros-shown I p (suc k) h zero q = rw add-zero (eqb-true (getD I p 0) 0 (and-both (eqb (getD I p 0) 0) (zeroFrom I (suc p) k) h .0))
+zeros-shown I p (suc k) h (suc i) q =
+    let e : p + suc i ≡ suc p + i = omega arith in
+    ap (λ (j : ℕ). getD I j 0) e ∙ zeros-shown I (suc p) k (and-both (eqb (getD I p 0) 0) (zeroFrom I (suc p) k) h .1) i (omega arith)
+
+pub zeros-pass : (I : List ℕ) (k p : ℕ) → ((j : ℕ) → j < k → getD I (p + j) 0 ≡ 0) → zeroFrom I p k ≡ true
+unfolding zeroFrom
+zeros-pass I zero p z = refl
+zeros-pass I (suc k) p z =
+    let h : getD I p 0 ≡ 0 = rw add-zero at (z 0 (omega arith)) in
+    rw (eq-eqb (getD I p 0) 0 h)
+    (zeros-pass I k (suc p) (λ j l. let e : suc p + j ≡ p + suc j = omega arith in ap (λ (x : ℕ). getD I x 0) e ∙ z (suc j) (omega arith)))
+
+-- ---- the loop that tests them: what is left to test is what was to be tested
+
+abbrev pub Left : List ℕ → ℕ → ℕ → ℕ → Type 0
+Left l at n i = zeroFrom l (at + i) (n - i) ≡ zeroFrom l at n
+
+pub left-start : (l : List ℕ) (at n i : ℕ) → i ≡ 0 → Left l at n i
+left-start l at n i e =
+    let f : at + i ≡ at = omega arith in
+    let g : n - i ≡ n = omega arith in
+    ap (λ (x : ℕ). zeroFrom l x (n - i)) f ∙ ap (zeroFrom l at) g
+
+module _ (l : List ℕ) (at n i : ℕ) (v : Left l at n i) where
+  pub left-more : (x : ℕ) → i < n → x ≡ getD l (at + i) 0 → x ≡ 0 → Left l at n (i + 1)
+  unfolding zeroFrom
+  left-more x h e z =
+      let k : n - i ≡ suc (n - (i + 1)) = omega arith in
+      let f : at + (i + 1) ≡ suc (at + i) = omega arith in
+      ap (λ (y : ℕ). zeroFrom l y (n - (i + 1))) f ∙ ap (λ (b : Bool). b && zeroFrom l (suc (at + i)) (n - (i + 1))) (sym (eq-eqb (getD l (at + i) 0) 0 (sym e ∙ z))) ∙ ap (zeroFrom l (at + i)) (sym k) ∙ v
+
+  pub left-not : (x : ℕ) → i < n → x ≡ getD l (at + i) 0 → (x ≡ 0 → ⊥) → false ≡ zeroFrom l at n
+  unfolding zeroFrom
+  left-not x h e z =
+      let k : n - i ≡ suc (n - (i + 1)) = omega arith in
+      sym (sym v ∙ ap (zeroFrom l (at + i)) k ∙ ap (λ (b : Bool). b && zeroFrom l (suc (at + i)) (n - (i + 1))) (ne-eqb (getD l (at + i) 0) 0 (λ w. z (e ∙ w))))
+
+  pub left-none : n ≤ i → true ≡ zeroFrom l at n
+  unfolding zeroFrom
+  left-none h = let k : n - i ≡ 0 = omega arith in sym (sym v ∙ ap (zeroFrom l (at + i)) k)
