@@ -4,7 +4,7 @@ use mathlib.Core.Bool.{Bool, true, false, _&&_}
 use mathlib.Core.Logic.{_≢_}
 use mathlib.Core.Option.{Option, none, some}
 use mathlib.Core.List.{List, [], _∷_}
-use Prim.Native.Nat.{ℕ, suc, _+_, _-_, _/_, _≤_, _<_}
+use Prim.Native.Nat.{ℕ, suc, _+_, _-_, _*_, _/_, _≤_, _<_}
 use native.Mathlib.Omega.{arith}
 use native.Mathlib.Decide.{ℕ-discrete}
 use lib.Dec.{leb, ltb, eqb}
@@ -53,11 +53,17 @@ module _ (D n a : ℕ) (W : List ℕ) where
   no-above h k = record { beyond = beyond-refl D n W; answer = λ seen m. claim-above 512 D n [] a seen h k }
 
   module _ (x b : ℕ) (e : x ≡ a - D) (f : b ≡ bit W 0 x) where
+    -- the mark of a block of the area says how often it is claimed
+    mark-of : D ≤ a → a < n → (seen : List ℕ) → Marks D n W seen → b ≡ count a seen
+    mark-of h k seen m =
+        let w : D + x ≡ a = omega arith in
+        f ∙ m x (omega arith) ∙ ap (λ (c : ℕ). count c seen) w
+
     pub no-taken : D ≤ a → a < n → b ≡ 1 → Checks D n (claim 512 D n [] a) W W false
     no-taken h k t =
         record {
           beyond = beyond-refl D n W;
-          answer = λ seen m. claim-taken 512 D n [] a seen h k (sym (m a h k) ∙ ap (bit W 0) (sym e) ∙ sym f ∙ t);
+          answer = λ seen m. claim-taken 512 D n [] a seen h k (sym (mark-of h k seen m) ∙ t);
         }
 
     pub yes-free : D ≤ a → a < n → markBytes D n ≤ length W → (b ≡ 1 → ⊥) → b < 2 → (Z : List ℕ) → Z ≡ withBit W 0 x 1 → Checks D n (claim 512 D n [] a) W Z true
@@ -69,12 +75,13 @@ module _ (D n a : ℕ) (W : List ℕ) where
             long = ap length z ∙ length-with W 0 x 1;
             rest = λ j q. ap (λ (y : List ℕ). getD y j 0) z ∙ byte-with-other W 0 x 1 j (omega arith);
           };
-          answer = λ seen m. (a ∷ seen, claim-free 512 D n [] a seen h k (sym (m a h k) ∙ ap (bit W 0) (sym e) ∙ sym f ∙ zero-bit), λ c p q. marks seen m place zero-bit c p q (ℕ-discrete c a));
+          answer = λ seen m. (a ∷ seen, claim-free 512 D n [] a seen h k (sym (mark-of h k seen m) ∙ zero-bit), λ y q. marks seen m place (sym (mark-of h k seen m) ∙ zero-bit) y q (ℕ-discrete y x));
         }
       where
-        marks : (seen : List ℕ) → Marks D n W seen → 0 + x / 8 < length W → b ≡ 0 → (c : ℕ) → D ≤ c → c < n → Dec (c ≡ a) → bit Z 0 (c - D) ≡ count c (a ∷ seen)
-        marks seen m place y c p q (yes g) =
-            ap (λ (v : List ℕ). bit v 0 (c - D)) z ∙ ap (λ (v : ℕ). bit (withBit W 0 x 1) 0 v) (let w : c - D ≡ x = omega arith in w) ∙ bit-with-same W 0 x 1 place (omega arith)
-            ∙ sym (count-same c a seen g ∙ ap suc (sym (m c p q) ∙ ap (bit W 0) (let w : c - D ≡ x = omega arith in w) ∙ sym f ∙ y))
-        marks seen m place y c p q (no g) =
-            ap (λ (v : List ℕ). bit v 0 (c - D)) z ∙ bit-with-other W 0 x 1 (c - D) place (omega arith) (omega arith) ∙ m c p q ∙ sym (count-other c a seen g)
+        marks : (seen : List ℕ) → Marks D n W seen → 0 + x / 8 < length W → count a seen ≡ 0 → (y : ℕ) → y < 8 * markBytes D n → Dec (y ≡ x) → bit Z 0 y ≡ count (D + y) (a ∷ seen)
+        marks seen m place v y q (yes g) =
+            let w : D + y ≡ a = omega arith in
+            ap (λ (r : List ℕ). bit r 0 y) z ∙ ap (λ (r : ℕ). bit (withBit W 0 x 1) 0 r) g ∙ bit-with-same W 0 x 1 place (omega arith)
+            ∙ sym (count-same (D + y) a seen w ∙ ap suc (ap (λ (c : ℕ). count c seen) w ∙ v))
+        marks seen m place v y q (no g) =
+            ap (λ (r : List ℕ). bit r 0 y) z ∙ bit-with-other W 0 x 1 y place (omega arith) g ∙ m y q ∙ sym (count-other (D + y) a seen (λ w. g (omega arith)))

@@ -114,6 +114,6 @@ module _ {X : Type 0} {B D n : ℕ} {I : List ℕ} (g : Ground B D n I) (v : Vie
   find-blocks [] seen p a l s r = absurd p
   find-blocks (b ∷ bs) seen p a l s r =
       let h : length (b ∷ bs) ≤ n - D = omega (arith, own-long (b ∷ bs), free-few seen (own (b ∷ bs)) r) in
-      find-block b bs seen (λ rs z t. withFound (with (b .at) rs) (laterOf B D n I (n - D) z t)) (rawBlocks v (b ∷ bs)) (a .0) (l .0) s r
+      find-block b bs seen (λ rs z t. withFound (with (b .at) rs) (laterOf B D n I (n - D - 1) z t)) (rawBlocks v (b ∷ bs)) (a .0) (l .0) s r
       (λ q. finds-with (with (b .at) (rawsOf v (b .entries))) _ (rawBlocks v bs) (b .at ∷ seen) _
-      (find-later bs (n - D) (b .at ∷ seen) (omega arith) p (a .1) (l .1) (after b bs s) q))
+      (find-later bs (n - D - 1) (b .at ∷ seen) (omega arith) p (a .1) (l .1) (after b bs s) q))

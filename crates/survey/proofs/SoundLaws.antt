@@ -54,7 +54,6 @@ pub each-with : {X Y : Type 0} (P : Claimed Y → Type 0) (f : X → Y) (o : Opt
 unfolding withFound
 each-with P f o h = each-then P o _ (λ c e. each-some P _ (h c e))
 
--- two tests that both hold
 -- ---- the blocks that are claimed
 
 -- From `seen` to `now` exactly the blocks xs were claimed, all in D..n-1, and none that was claimed before.

@@ -267,7 +267,7 @@ module _ (B D n : ℕ) (I : List ℕ) (large : 5 ≤ B) (all-bytes : Bytes I) (f
   blocks-found a seen =
       each-then (BlocksFound a seen) (claim B D n I a seen) _
       (λ now e. each-then (BlocksFound a seen) (rawsFrom B D n I B a 0) _
-      (λ rs g. each-with (BlocksFound a seen) _ (laterOf B D n I (n - D) (next B I a) now)
+      (λ rs g. each-with (BlocksFound a seen) _ (laterOf B D n I (n - D - 1) (next B I a) now)
       (λ c f.
-      let h : LaterFound (next B I a) now c = later-found (n - D) (next B I a) now .is c f in
+      let h : LaterFound (next B I a) now c = later-found (n - D - 1) (next B I a) now .is c f in
       record { blocks = raw-more a seen now rs c e g (h .blocks); packed = h .filled })))

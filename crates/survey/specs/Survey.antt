@@ -92,7 +92,8 @@ module _ (B D n : ℕ) (I : List ℕ) where
       (then (rawsFrom f a (o + header + e .len)) (λ rs. some (record { head = e; name = nameAt I (placeAt B a o) (e .len) } ∷ rs))) none)
       (pick (zeroFrom I (placeAt B a o) (B - 4 - o)) (some []) none)
 
-  -- W4, "each directory block but the first has an entry": the blocks of a directory's chain, at most k, from a later one on and from the first.
+  -- W4, "each directory block but the first has an entry": the blocks of a directory's chain, at most k, from a later one on; and
+  -- from the first on, at most n-D.
   unfoldable pub laterOf : ℕ → ℕ → List ℕ → Option (Claimed (List RawBlock))
   laterOf zero a seen = pick (eqb a 0) (some (record { found = []; seen = seen })) none
   laterOf (suc k) a seen =
@@ -101,7 +102,7 @@ module _ (B D n : ℕ) (I : List ℕ) where
 
   unfoldable pub blocksOf : ℕ → List ℕ → Option (Claimed (List RawBlock))
   blocksOf a seen =
-      then (claim a seen) (λ s. then (rawsFrom B a 0) (λ rs. withFound (λ bs. record { at = a; raws = rs } ∷ bs) (laterOf (n - D) (next B I a) s)))
+      then (claim a seen) (λ s. then (rawsFrom B a 0) (λ rs. withFound (λ bs. record { at = a; raws = rs } ∷ bs) (laterOf (n - D - 1) (next B I a) s)))
 
   -- ---- what the entries stand for; `below` is the check of a subdirectory, and `size` its sum
 
