@@ -17,11 +17,8 @@ use Rattle.super_block.specs.declared.SuperBlock.{SuperBlock}
 use Rattle.super_block.specs.Super.{Fit}
 use Rattle.super_block.proofs.Fits.{placed}
 use Rattle.survey.specs.Survey.{Claimed, withFound, claim, cellsOf, chainOf}
-use Rattle.survey.specs.Marks.{Marks, markBytes, Beyond, seenOf, Answers, Checks, Inside}
-use Rattle.survey.proofs.Claims.{beyond-refl}
-
-pub beyond-trans : {D n : ℕ} {W Z U : List ℕ} → Beyond D n W Z → Beyond D n Z U → Beyond D n W U
-beyond-trans p q = record { long = q .long ∙ p .long; rest = λ j h. q .rest j h ∙ p .rest j h }
+use Rattle.survey.specs.Marks.{markBytes, seenOf, Checks, Inside}
+use Rattle.survey.proofs.Goes.{Check, then-none, Goes, goes-refl, goes-end, goes-stop, goes-no, goes-yes}
 
 -- ---- what is claimed along the chain
 
@@ -29,10 +26,6 @@ seen-with : {X Y : Type 0} (f : X → Y) (o : Option (Claimed X)) → seenOf (wi
 unfolding seenOf withFound then
 seen-with f none = refl
 seen-with f (some c) = refl
-
-then-none : {X Y : Type 0} {o : Option X} (f : X → Option Y) → o ≡ none → then o f ≡ none
-unfolding then
-then-none f e = ap (λ (o : Option _). then o f) e
 
 seen-none : (X : Type 0) → seenOf {X = X} none ≡ none
 unfolding seenOf then
@@ -82,74 +75,48 @@ claimed-inside s I a b r f q e g =
 -- ---- the loop, whatever check g (of at most so many blocks, from an address on) it computes: what is left to claim from W on is
 -- what was to be claimed from W₀ on
 
-abbrev pub Check : Type 0
-Check = ℕ → ℕ → List ℕ → Option (List ℕ)
+abbrev pub Along : Type 0
+Along = ℕ → ℕ → Check
 
-pub record Left (D n : ℕ) (g : Check) (W₀ : List ℕ) (k a : ℕ) (W : List ℕ) (b left : ℕ) : Type 0 where
-  pub beyond : Beyond D n W₀ W
-  pub rest : (seen : List ℕ) → Marks D n W₀ seen → (s : List ℕ) × Marks D n W s × (g k a seen ≡ g left b s)
+pub record Left (D n : ℕ) (g : Along) (W₀ : List ℕ) (k a : ℕ) (W : List ℕ) (b left : ℕ) : Type 0 where
+  pub goes : Goes D n (g k a) (g left b) W₀ W
 
-module _ (D n : ℕ) (g : Check) (W₀ : List ℕ) (k a : ℕ) where
+module _ (D n : ℕ) (g : Along) (W₀ : List ℕ) (k a : ℕ) where
   pub left-start : Left D n g W₀ k a W₀ a k
-  left-start = record { beyond = beyond-refl D n W₀; rest = λ seen m. (seen, m, refl) }
+  left-start = record { goes = goes-refl D n (g k a) W₀ }
 
   module _ (W : List ℕ) (b left : ℕ) (l : Left D n g W₀ k a W b left) where
+    none-left : left ≤ 0 → left ≡ 0
+    none-left h = omega arith
+
+    some-left : 0 < left → left ≡ suc (left - 1)
+    some-left h = omega arith
+
     -- nothing is left
     pub left-end : left ≤ 0 → ((seen : List ℕ) → g 0 b seen ≡ some seen) → Checks D n (g k a) W₀ W true
-    left-end h e = record {
-      beyond = l .beyond;
-      answer = λ seen m.
-          let s = l .rest seen m in
-          let w : left ≡ 0 = omega arith in
-          (s .0, s .2 ∙ ap (λ (j : ℕ). g j b (s .0)) w ∙ e (s .0), s .1);
-    }
+    left-end h e = goes-end D n (g k a) (g left b) W₀ W (l .goes) (λ s. ap (λ (j : ℕ). g j b s) (none-left h) ∙ e s)
 
     pub left-over : left ≤ 0 → ((seen : List ℕ) → g 0 b seen ≡ none) → Checks D n (g k a) W₀ W false
-    left-over h e = record {
-      beyond = l .beyond;
-      answer = λ seen m.
-          let s = l .rest seen m in
-          let w : left ≡ 0 = omega arith in
-          s .2 ∙ ap (λ (j : ℕ). g j b (s .0)) w ∙ e (s .0);
-    }
+    left-over h e = goes-stop D n (g k a) (g left b) W₀ W (l .goes) (λ s. ap (λ (j : ℕ). g j b s) (none-left h) ∙ e s)
 
-    -- block b is claimed, or not
-    module _ (Z : List ℕ) (r : Bool) (more : 0 < left) (q : Checks D n (claim 512 D n [] b) W Z r) where
-      pub left-stop : r ≡ false → ((j : ℕ) (seen : List ℕ) → claim 512 D n [] b seen ≡ none → g (suc j) b seen ≡ none) → Checks D n (g k a) W₀ Z false
-      left-stop e f = record {
-        beyond = beyond-trans (l .beyond) (q .beyond);
-        answer = λ seen m.
-            let s = l .rest seen m in
-            let y = subst (Answers D n (claim 512 D n [] b) W Z) e (q .answer) (s .0) (s .1) in
-            let w : left ≡ suc (left - 1) = omega arith in
-            s .2 ∙ ap (λ (j : ℕ). g j b (s .0)) w ∙ f (left - 1) (s .0) y;
-      }
+    -- block b passes its check h, or not
+    module _ (h : Check) (Z : List ℕ) (r : Bool) (more : 0 < left) (q : Checks D n h W Z r) where
+      pub left-stop : r ≡ false → ((j : ℕ) (seen : List ℕ) → h seen ≡ none → g (suc j) b seen ≡ none) → Checks D n (g k a) W₀ Z false
+      left-stop e f = goes-no D n (g k a) (g left b) W₀ W (l .goes) h Z r q e (λ s y. ap (λ (j : ℕ). g j b s) (some-left more) ∙ f (left - 1) s y)
 
-      pub left-step : (c : ℕ) → r ≡ true → ((j : ℕ) (seen s : List ℕ) → claim 512 D n [] b seen ≡ some s → g (suc j) b seen ≡ g j c s) → Left D n g W₀ k a Z c (left - 1)
-      left-step c e f = record {
-        beyond = beyond-trans (l .beyond) (q .beyond);
-        rest = λ seen m.
-            let s = l .rest seen m in
-            let y = subst (Answers D n (claim 512 D n [] b) W Z) e (q .answer) (s .0) (s .1) in
-            let w : left ≡ suc (left - 1) = omega arith in
-            (y .0, y .2, s .2 ∙ ap (λ (j : ℕ). g j b (s .0)) w ∙ f (left - 1) (s .0) (y .0) (y .1));
-      }
+      pub left-step : (c : ℕ) → r ≡ true → ((j : ℕ) (seen s : List ℕ) → h seen ≡ some s → g (suc j) b seen ≡ g j c s) → Left D n g W₀ k a Z c (left - 1)
+      left-step c e f = record { goes = goes-yes D n (g k a) (g left b) W₀ W (l .goes) h Z r q (g (left - 1) c) e (λ s y z. ap (λ (j : ℕ). g j b s) (some-left more) ∙ f (left - 1) s y z) }
 
       -- the chain ends with b
-      pub left-last : r ≡ true → ((j : ℕ) (seen s : List ℕ) → claim 512 D n [] b seen ≡ some s → g (suc j) b seen ≡ some s) → Checks D n (g k a) W₀ Z true
-      left-last e f = record {
-        beyond = beyond-trans (l .beyond) (q .beyond);
-        answer = λ seen m.
-            let s = l .rest seen m in
-            let y = subst (Answers D n (claim 512 D n [] b) W Z) e (q .answer) (s .0) (s .1) in
-            let w : left ≡ suc (left - 1) = omega arith in
-            (y .0, s .2 ∙ ap (λ (j : ℕ). g j b (s .0)) w ∙ f (left - 1) (s .0) (y .0) (y .1), y .2);
-      }
+      pub left-last : r ≡ true → ((j : ℕ) (seen s : List ℕ) → h seen ≡ some s → g (suc j) b seen ≡ some s) → Checks D n (g k a) W₀ Z true
+      left-last e f =
+          goes-end D n (g k a) some W₀ Z
+          (goes-yes D n (g k a) (g left b) W₀ W (l .goes) h Z r q some e (λ s y z. ap (λ (j : ℕ). g j b s) (some-left more) ∙ f (left - 1) s y z)) (λ s. refl)
 
 -- ---- a file's chain
 
 module _ (D n : ℕ) (I : List ℕ) where
-  abbrev pub fileCheck : Check
+  abbrev pub fileCheck : Along
   fileCheck k a seen = seenOf (cellsOf 512 D n I k a seen)
 
   pub file-done : (b : ℕ) → b ≡ 0 → (seen : List ℕ) → fileCheck 0 b seen ≡ some seen
@@ -167,7 +134,7 @@ module _ (D n : ℕ) (I : List ℕ) where
 -- ---- a device's chain
 
 module _ (D n : ℕ) (I : List ℕ) where
-  abbrev pub deviceCheck : Check
+  abbrev pub deviceCheck : Along
   deviceCheck k a seen = seenOf (chainOf 512 D n I k a seen)
 
   pub device-over : (b : ℕ) (seen : List ℕ) → deviceCheck 0 b seen ≡ none

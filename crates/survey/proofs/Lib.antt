@@ -1,4 +1,5 @@
 pub mod Claims
+pub mod Goes
 pub mod Chains
 pub mod SoundLaws
 pub mod SoundCells

@@ -37,7 +37,7 @@ same-length c = search needs
 returns : tie.Need-returns Inv-loop μ-loop
 returns c =
     let past = c .before .before .before in
-    left-stop _ _ _ _ _ _ _ _ _ (past .before .before .before .loop .inv .2) _ _ (past .before .before .loop-test .taken) (past .claim .ensures .0) (not-true _ (c .if1 .taken)) (file-stop _ _ _ _)
+    left-stop _ _ _ _ _ _ _ _ _ (past .before .before .before .loop .inv .2) _ _ _ (past .before .before .loop-test .taken) (past .claim .ensures .0) (not-true _ (c .if1 .taken)) (file-stop _ _ _ _)
 
 -- src/lib.rt:52:13
 new-requires : tie.Need-new-requires Inv-loop μ-loop
@@ -60,7 +60,7 @@ loop-again : tie.Need-loop-again Inv-loop μ-loop
 loop-again c =
     let past = c .before .before .before .before .before in
     let to = c .next-addr .ensures ∙ ap (next 512 _) (c .before .new .ensures) in
-    (search needs, search needs, left-step _ _ _ _ _ _ _ _ _ (past .before .before .before .loop .inv .2) _ _ (past .before .before .loop-test .taken) (past .claim .ensures .0) _ (not-false _ (c .before .before .if1 .left)) (file-next _ _ _ _ _ to))
+    (search needs, search needs, left-step _ _ _ _ _ _ _ _ _ (past .before .before .before .loop .inv .2) _ _ _ (past .before .before .loop-test .taken) (past .claim .ensures .0) _ (not-false _ (c .before .before .if1 .left)) (file-next _ _ _ _ _ to))
 
 -- src/lib.rt:56:9
 same-length-2 : tie.Need-same-length-2 Inv-loop μ-loop

@@ -41,7 +41,7 @@ same-length c = search needs
 returns : tie.Need-returns Inv-loop μ-loop
 returns c =
     let past = c .before .before .before in
-    left-stop _ _ _ _ _ _ _ _ _ (past .before .before .before .loop .inv .2) _ _ (past .before .before .loop-test .taken) (past .claim .ensures .0) (not-true _ (c .if1 .taken)) (device-stop _ _ _ _)
+    left-stop _ _ _ _ _ _ _ _ _ (past .before .before .before .loop .inv .2) _ _ _ (past .before .before .loop-test .taken) (past .claim .ensures .0) (not-true _ (c .if1 .taken)) (device-stop _ _ _ _)
 
 -- src/lib.rt:74:13
 new-requires : tie.Need-new-requires Inv-loop μ-loop
@@ -60,7 +60,7 @@ returns-2 : tie.Need-returns-2 Inv-loop μ-loop
 returns-2 c =
     let past = c .before .before .before .before .before .before .before in
     let to = c .before .before .next-addr .ensures ∙ ap (next 512 _) (c .before .before .before .new .ensures) in
-    left-last _ _ _ _ _ _ _ _ _ (past .before .before .before .loop .inv .2) _ _ (past .before .before .loop-test .taken) (past .claim .ensures .0) (not-false _ (c .before .before .before .before .if1 .left)) (device-last _ _ _ _ _ to (c .if2 .taken))
+    left-last _ _ _ _ _ _ _ _ _ (past .before .before .before .loop .inv .2) _ _ _ (past .before .before .loop-test .taken) (past .claim .ensures .0) (not-false _ (c .before .before .before .before .if1 .left)) (device-last _ _ _ _ _ to (c .if2 .taken))
 
 -- src/lib.rt:78:9
 sub-left-2 : tie.Need-sub-left-2 Inv-loop μ-loop
@@ -75,7 +75,7 @@ loop-again : tie.Need-loop-again Inv-loop μ-loop
 loop-again c =
     let past = c .before .before .before .before .before .before .before in
     let to = c .before .before .next-addr .ensures ∙ ap (next 512 _) (c .before .before .before .new .ensures) in
-    (search needs, search needs, left-step _ _ _ _ _ _ _ _ _ (past .before .before .before .loop .inv .2) _ _ (past .before .before .loop-test .taken) (past .claim .ensures .0) _ (not-false _ (c .before .before .before .before .if1 .left)) (device-next _ _ _ _ _ to (c .if2 .left)))
+    (search needs, search needs, left-step _ _ _ _ _ _ _ _ _ (past .before .before .before .loop .inv .2) _ _ _ (past .before .before .loop-test .taken) (past .claim .ensures .0) _ (not-false _ (c .before .before .before .before .if1 .left)) (device-next _ _ _ _ _ to (c .if2 .left)))
 
 -- src/lib.rt:62:1
 same-length-3 : tie.Need-same-length-3 Inv-loop μ-loop
