@@ -34,10 +34,10 @@ use Rattle.dir_entry.specs.Entry.{isFile}
 use Rattle.read_dir.specs.Walk.{Walk, walk}
 use Rattle.file.specs.declared.Handle.{Handle}
 use Rattle.file.specs.File.{nameOf, staleFields, current, heldIn, toRead, chain, blocksRead, chainRead, dataOf, missing, bytesOf, readRefusal, bytesRead}
-use Rattle.on_tree.specs.Shown.{kindIs, headOf, itemsOf, walkOf}
+use Rattle.tree_walk.specs.Shown.{kindIs, headOf, itemsOf, walkOf}
+use Rattle.tree_walk.proofs.Parts.{Stored, Part, laid-part, part-find, stored-tail, stored-in, stored-few, stored-lookup, cells-long, block-inside, next-shown}
+use Rattle.tree_walk.proofs.Walks.{in-area, walk-is}
 use Rattle.on_tree.specs.Handles.{HandleOf, heldBy}
-use Rattle.on_tree.proofs.Parts.{Stored, Part, laid-part, part-find, stored-tail, stored-in, stored-few, stored-lookup, cells-long, block-inside, next-shown}
-use Rattle.on_tree.proofs.Walks.{in-area, walk-is}
 use Rattle.on_tree.proofs.Finds.{same-swap}
 use Rattle.on_tree.proofs.Resolves.{lookup-name}
 

@@ -23,8 +23,8 @@ use Rattle.read_dir.specs.declared.Found.the-variants as found
 use Rattle.read_dir.specs.declared.Summed.the-variants as summed
 use Rattle.read_dir.specs.Walk.{Walk, item, finished, damaged, walk}
 use Rattle.read_dir.specs.Finds.{placed, findIn, sumFrom, skip}
-use Rattle.on_tree.specs.Shown.{headOf, itemsOf, walkOf, spotOf, itemsIn}
-use Rattle.on_tree.proofs.Walks.{walk-is, head-weight}
+use Rattle.tree_walk.specs.Shown.{headOf, itemsOf, walkOf, spotOf, itemsIn}
+use Rattle.tree_walk.proofs.Walks.{walk-is, head-weight}
 
 -- ---- an entry by its name
 

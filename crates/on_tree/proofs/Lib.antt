@@ -1,5 +1,3 @@
-pub mod Parts
-pub mod Walks
 pub mod Finds
 pub mod Resolves
 pub mod FileReads

@@ -18,7 +18,7 @@ use Rattle.dir_entry.specs.declared.DirEntry.{DirEntry}
 use Rattle.read_dir.specs.declared.Listed.the-variants as listed
 use Rattle.read_dir.specs.Walk.{Walk, item, finished, damaged}
 use Rattle.read_dir.specs.Finds.{recordOf, skip, listFrom, recordsFrom}
-use Rattle.on_tree.specs.Shown.{headOf, itemsOf, walkOf}
+use Rattle.tree_walk.specs.Shown.{headOf, itemsOf, walkOf}
 use Rattle.on_tree.specs.Named.{recordsLong, recordsOf, fitting, listedFrom}
 
 -- ---- a buffer that takes all

@@ -22,9 +22,10 @@ use Rattle.read_dir.specs.declared.Found.{Found}
 use Rattle.read_dir.specs.Finds.{findIn}
 use Rattle.path.specs.Path.{lastName, dirPart, steps}
 use Rattle.dir.specs.Resolve.{onFound, onName, Held, lookupIn, resolve, entryOf}
-use Rattle.on_tree.specs.Shown.{kindIs, headOf, onNode, onEntry, wayTo}
-use Rattle.on_tree.proofs.Parts.{Part, laid-part, part-sub}
-use Rattle.on_tree.proofs.Walks.{part-walk}
+use Rattle.tree_walk.specs.Shown.{kindIs, headOf}
+use Rattle.tree_walk.proofs.Parts.{Part, laid-part, part-sub}
+use Rattle.tree_walk.proofs.Walks.{part-walk}
+use Rattle.on_tree.specs.Shown.{onNode, onEntry, wayTo}
 use Rattle.on_tree.proofs.Finds.{lookup-or, walk-finds, walk-misses, find-is, find-missing}
 
 -- ---- names

@@ -1,56 +1,9 @@
--- What a directory of the tree shows to a reader. Definitions alone.
+-- What the names of a path lead to in the tree. Definitions alone.
 use mathlib.Core.Option.{Option, none, some}
 use mathlib.Core.List.{List, [], _∷_}
-use Prim.Native.Nat.{ℕ, zero, suc, _+_}
-use lib.ListN.{length}
-use Rattle.wire.specs.Pick.{pick}
+use Prim.Native.Nat.{ℕ, zero, suc}
 use Rattle.model.specs.Answers.{Reply, accepted, refused}
-use Rattle.model.specs.Tree.{Name, Node, file, device, sub, Entry, Block, Tree, holds, lookup, weight, Some}
-use Rattle.model.specs.Render.{View, addressOf, sizeOf, offset}
-use Rattle.dir_entry.specs.declared.Kind.{Kind}
-use Rattle.dir_entry.specs.declared.Kind.the-variants.{Dir, File, Device}
-use Rattle.dir_entry.specs.declared.DirEntry.{DirEntry}
-use Rattle.read_dir.specs.Walk.{Walk, item, finished, damaged}
-use Rattle.read_dir.specs.Finds.{placed}
-use Rattle.read_dir.specs.declared.Place.{Place}
-
--- The kind of what an entry stands for.
-abbrev pub kindIs : {X : Type 0} → Node X → Kind
-kindIs (file s cs) = File
-kindIs (device s cs) = Device
-kindIs (sub x) = Dir
-
--- The fixed part that an entry shows.
-unfoldable pub headOf : {X : Type 0} → View X → Entry X → DirEntry
-headOf v e =
-    record {
-      kind = kindIs (e .node);
-      addr = record { 0 = addressOf v (e .node) };
-      size = sizeOf v (e .node);
-      time = e .time;
-      len = length (e .name);
-    }
-
--- The entries of a block at address a, the first of them at offset o, and then w.
-unfoldable pub itemsOf : {X : Type 0} → View X → ℕ → ℕ → List (Entry X) → Walk → Walk
-itemsOf v a o [] w = w
-itemsOf v a o (e ∷ es) w = item (headOf v e) a o (e .name) (itemsOf v a (o + weight e) es w)
-
--- The walk of a directory: its entries in chain order, and its end.
-unfoldable pub walkOf : {X : Type 0} → View X → List (Block X) → Walk
-walkOf v [] = finished
-walkOf v (b ∷ bs) = itemsOf v (b .at) 0 (b .entries) (walkOf v bs)
-
--- The place of the entry of that name: the first block that holds it, and the offset there.
-unfoldable pub spotOf : {X : Type 0} → Name → List (Block X) → Place
-spotOf n [] = placed 0 0
-spotOf n (b ∷ bs) = pick (holds n b) (placed (b .at) (offset n (b .entries))) (spotOf n bs)
-
--- The fixed part and the name of each entry of a walk.
-unfoldable pub itemsIn : Walk → List (DirEntry × List ℕ)
-itemsIn (item e a o x w) = (e, x) ∷ itemsIn w
-itemsIn finished = []
-itemsIn damaged = []
+use Rattle.model.specs.Tree.{Name, Node, file, device, sub, Entry, Tree, lookup, Some}
 
 -- f of what a subdirectory is; 6 for a file or a device, and 5 where there is no entry.
 unfoldable pub onNode : {X A : Type 0} → (X → Reply A) → Node X → Reply A

@@ -29,8 +29,8 @@ use Rattle.dir_entry.specs.Entry.{kindByte, header, headBytes, placeAt, nameAt,
 use Rattle.dir_entry.proofs.Heads.{length-head, slot-shown, name-shown}
 use Rattle.dir_entry.proofs.Slots.{stop-offset, stop-empty}
 use Rattle.read_dir.specs.Walk.{Walk, item, finished, onSlot, inArea, shown, entriesFrom, chainFrom, walk}
-use Rattle.on_tree.specs.Shown.{kindIs, headOf, itemsOf, walkOf}
-use Rattle.on_tree.proofs.Parts.{Stored, Part, laid-part, part-find, stored-left, stored-right, stored-tail, stored-in, stored-few, chain-long, Legible, entries-legible, block-inside, next-shown}
+use Rattle.tree_walk.specs.Shown.{kindIs, headOf, itemsOf, walkOf}
+use Rattle.tree_walk.proofs.Parts.{Stored, Part, laid-part, part-find, stored-left, stored-right, stored-tail, stored-in, stored-few, chain-long, Legible, entries-legible, block-inside, next-shown}
 
 -- ---- one entry
 
