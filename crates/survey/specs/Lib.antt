@@ -1,3 +1,4 @@
 pub mod Survey
 pub mod Marks
 pub mod Found
+pub mod Steps

@@ -14,6 +14,13 @@ ghost use Rattle.super_block.specs.Super.{Fit};
 ghost use Rattle.survey.specs.Survey.{claim, cellsOf, chainOf};
 ghost use Rattle.survey.specs.Marks.{markBytes, seenOf, Checks, Inside};
 
+// What a block of a directory holds.
+enum Held {
+    Damaged,
+    Nothing,
+    Entries,
+}
+
 // Claims block a: marked, unless it is outside the data area or claimed already.
 fn claim(work: &mut [u8], s: SuperBlock, a: Addr) -> bool
     requires { ⌜ s .blocks ≤ 8388608 ⌝ }
