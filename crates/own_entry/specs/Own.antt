@@ -1,0 +1,28 @@
+-- A directory's own entry: where it stands, and the image with its size and time renewed. B is the block size. Definitions alone.
+use mathlib.Core.Path.{_≡_}
+use mathlib.Core.Option.{none, some}
+use mathlib.Core.List.{List, []}
+use Prim.Native.Nat.{ℕ, _+_, _-_, _*_, _≤_}
+use lib.ListN.{length}
+use Rattle.wire.specs.Be.{bytes, splice}
+use Rattle.block.specs.Block.{blockBytes}
+use Rattle.model.specs.Tree.{Name, Tree}
+use Rattle.model.specs.Render.{ownTime}
+use Rattle.dir_entry.specs.Entry.{header, placeAt}
+use Rattle.own_entry.specs.declared.Own.{Own}
+use Rattle.own_entry.specs.declared.Own.the-variants.{Root, At}
+
+-- The entry's fixed part lies in the image.
+abbrev pub OwnIn : List ℕ → Own → Type 0
+OwnIn I Root = Unit {0}
+OwnIn I (At p) = (blockBytes * p .block .0 + blockBytes ≤ length I) × (p .offset + header ≤ blockBytes - 5)
+
+-- 01, "The holding directory's own entry, if it has one, gets the new sum and the time": size z in its bytes 5 to 8, time k in 9 to 16.
+abbrev pub ownRenewed : ℕ → List ℕ → Own → ℕ → ℕ → List ℕ
+ownRenewed B I Root z k = I
+ownRenewed B I (At p) z k = splice (splice I (placeAt B (p .block .0) (p .offset) + 5) (bytes 4 z)) (placeAt B (p .block .0) (p .offset) + 9) (bytes 8 k)
+
+-- That is where the own entry of the directory at path p of the tree stands: the root's path is empty, and it has none.
+abbrev pub OwnOf : ℕ → (d : ℕ) → List Name → Tree d → Own → Type 0
+OwnOf B d p t Root = p ≡ []
+OwnOf B d p t (At q) = ownTime B d p t ≡ some (placeAt B (q .block .0) (q .offset) + 9)

@@ -1,0 +1,37 @@
+// A directory's own entry, which stands in the directory above it: its size and time are stored here, and nowhere else.
+// May use: wire, block, model, dir_entry, read_dir.
+use dir_entry::DirEntry;
+use read_dir::Place;
+ghost use mathlib.Core.Path.{_≡_};
+ghost use lib.ListN.{length};
+ghost use Rattle.block.specs.Block.{blockBytes};
+ghost use Rattle.own_entry.specs.Own.{OwnIn, ownRenewed};
+ghost use Rattle.own_entry.specs.declared.Own.the-variants.{At};
+
+// Where a directory's own entry stands; the root has none.
+pub enum Own {
+    Root,
+    At(Place),
+}
+
+// Stores the size and the time of the entry at a place.
+fn renew_at(img: &mut [u8], p: Place, size: u32, time: u64)
+    requires { ⌜ OwnIn (now img) (At p) ⌝ }
+    ensures { λ _. ⌜ now (img .exit) ≡ ownRenewed blockBytes (now (img .entry)) (At p) size time ⌝ }
+{
+    let b = p.block;
+    let at = dir_entry::place(b, p.offset);
+    wire::put(img, at + 5, 4, size as u64);
+    wire::put(img, at + 9, 8, time);
+}
+
+// The new size and the time go into a directory's own entry, if it has one.
+pub fn renew(img: &mut [u8], own: Own, size: u32, time: u64)
+    requires { ⌜ OwnIn (now img) own ⌝ }
+    ensures { λ _. ⌜ now (img .exit) ≡ ownRenewed blockBytes (now (img .entry)) own size time ⌝ }
+{
+    match own {
+        Own::Root => {}
+        Own::At(p) => renew_at(img, p, size, time),
+    }
+}
