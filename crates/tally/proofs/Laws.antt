@@ -1,5 +1,5 @@
 -- What the code knows where it answers, by the struct's own numbers.
-use mathlib.Core.Path.{_≡_, refl, sym, ap, _∙_, subst}
+use mathlib.Core.Path.{_≡_, refl, sym, ap, _∙_}
 use mathlib.Core.Bool.{Bool, true, false, not, _&&_}
 use mathlib.Core.List.{List}
 use Prim.Native.Nat.{ℕ, _+_, _-_, _*_, _/_, _^_, _≤_, _<_}
@@ -11,10 +11,11 @@ use borrow.Author.Tests.{not-true, not-false}
 use Rattle.wire.specs.Pick.{same, zeroFrom}
 use Rattle.bits.specs.Bit.{ones}
 use Rattle.bits.proofs.Laws.{ones-le}
-use Rattle.model.specs.Geometry.{blockSize, mapAt, dataAt, mapBits, setBits, usedCount}
+use Rattle.model.specs.Geometry.{blockSize, mapAt, dataAt, reach, mapBits, setBits, usedCount}
 use Rattle.super_block.specs.declared.SuperBlock.{SuperBlock}
 use Rattle.super_block.specs.Super.{geoOf, Fit}
 use Rattle.super_block.proofs.Fits.{placed}
+use Rattle.super_block.proofs.Laws.{made}
 use Rattle.tally.specs.Tally.{markBytes, mapFrom, mapLong, markLong, agreed}
 
 -- ---- the rest of the superblock
@@ -36,8 +37,10 @@ module _ {s : SuperBlock} {I : List ℕ} (f : Fit s I) where
 
   -- D = a + ceil(N/4097), so that the bitmap has few blocks
   map-few : s .area .0 - s .bitmap .0 ≤ 2048
-  unfolding dataAt
-  map-few = omega (arith, f .bitmap, f .area, placed f .few)
+  map-few =
+      let d : s .addr .0 + 2 + (s .blocks - (s .addr .0 + 2) + 4096) / 4097 ≡ dataAt (geoOf s)
+      = ap (λ (x : SuperBlock). x .area .0) (made (s .addr .0) (s .blocks) (reach (geoOf s)) refl) in
+      omega (arith, f .bitmap, f .area, few-in)
 
   pub limit-fits : 4096 * (s .area .0 - s .bitmap .0) < 2 ^ 32
   limit-fits = omega (arith, map-few)
