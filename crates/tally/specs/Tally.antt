@@ -1,0 +1,25 @@
+-- W5's bitmap, as a test of the image's bytes against the marks in the lent work buffer. Definitions alone.
+use mathlib.Core.Bool.{Bool, _&&_}
+use mathlib.Core.List.{List}
+use Prim.Native.Nat.{ℕ, _+_, _-_, _*_, _/_}
+use lib.ListN.{take, drop}
+use Rattle.wire.specs.Pick.{same, zeroFrom}
+use Rattle.model.specs.Geometry.{Geo, blockSize, mapAt, dataAt}
+
+-- 01, "ceil((n-D)/8) bytes": how many bytes of the work buffer hold marks.
+abbrev pub markBytes : ℕ → ℕ → ℕ
+markBytes D n = (n - D + 7) / 8
+
+-- Where the bitmap begins in the image, how many bytes it has, and how many of them stand for blocks of the data.
+abbrev pub mapFrom : Geo → ℕ
+mapFrom g = blockSize g * mapAt g
+
+abbrev pub mapLong : Geo → ℕ
+mapLong g = blockSize g * (dataAt g - mapAt g)
+
+abbrev pub markLong : Geo → ℕ
+markLong g = markBytes (dataAt g) (g .n)
+
+-- W5, "a bit is set exactly for each block reached from the root, bits past the data are clear": the bitmap I has the marks W, then zeros.
+unfoldable pub agreed : Geo → List ℕ → List ℕ → Bool
+agreed g I W = same (take (markLong g) (drop (mapFrom g) I)) (take (markLong g) W) && zeroFrom I (mapFrom g + markLong g) (mapLong g - markLong g)
