@@ -17,7 +17,8 @@ use Rattle.super_block.specs.declared.SuperBlock.{SuperBlock}
 use Rattle.super_block.specs.Super.{Fit}
 use Rattle.super_block.proofs.Fits.{placed}
 use Rattle.survey.specs.Survey.{Claimed, withFound, claim, cellsOf, chainOf}
-use Rattle.survey.specs.Marks.{markBytes, seenOf, Checks, Inside}
+use Rattle.tally.specs.Tally.{markBytes}
+use Rattle.survey.specs.Marks.{seenOf, Checks, Inside}
 use Rattle.survey.proofs.Goes.{Check, then-none, Goes, goes-refl, goes-end, goes-stop, goes-no, goes-yes}
 
 -- ---- what is claimed along the chain

@@ -17,7 +17,8 @@ use Rattle.bits.proofs.Laws.{length-with, byte-with-other, bit-with-same, bit-w
 use Rattle.model.specs.Render.{count}
 use Rattle.model.proofs.Counts.{count-same, count-other}
 use Rattle.survey.specs.Survey.{claim}
-use Rattle.survey.specs.Marks.{Marks, markBytes, Beyond, Checks}
+use Rattle.tally.specs.Tally.{markBytes}
+use Rattle.survey.specs.Marks.{Marks, Beyond, Checks}
 
 pub beyond-refl : (D n : ℕ) (W : List ℕ) → Beyond D n W W
 beyond-refl D n W = record { long = refl; rest = λ j h. refl }

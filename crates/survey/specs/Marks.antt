@@ -3,21 +3,19 @@ use mathlib.Core.Path.{_≡_}
 use mathlib.Core.Bool.{Bool, true, false}
 use mathlib.Core.Option.{Option, none, some}
 use mathlib.Core.List.{List, []}
-use Prim.Native.Nat.{ℕ, _+_, _-_, _*_, _/_, _≤_, _<_}
+use Prim.Native.Nat.{ℕ, _+_, _*_, _≤_, _<_}
 use lib.ListN.{length, getD}
 use Rattle.bits.specs.Bit.{bit}
 use Rattle.model.specs.Render.{count}
+use Rattle.tally.specs.Tally.{markBytes}
 use Rattle.model.specs.Tree.{then}
 use Rattle.survey.specs.Survey.{Claimed}
-
--- 01, "ceil((n-D)/8) bytes": how many bytes of the work buffer hold marks. Those after them stay.
-abbrev pub markBytes : ℕ → ℕ → ℕ
-markBytes D n = (n - D + 7) / 8
 
 -- 01, "It marks blocks in a lent work buffer, one bit a block": bit x says how often block D + x is claimed.
 abbrev pub Marks : ℕ → ℕ → List ℕ → List ℕ → Type 0
 Marks D n W seen = (x : ℕ) → x < 8 * markBytes D n → bit W 0 x ≡ count (D + x) seen
 
+-- Those after them stay.
 pub record Beyond (D n : ℕ) (W Z : List ℕ) : Type 0 where
   pub long : length Z ≡ length W
   pub rest : (j : ℕ) → markBytes D n ≤ j → getD Z j 0 ≡ getD W j 0

@@ -12,7 +12,8 @@ ghost use lib.ListN.{length};
 ghost use Rattle.block.specs.Block.{blockBytes};
 ghost use Rattle.super_block.specs.Super.{Fit};
 ghost use Rattle.survey.specs.Survey.{claim, cellsOf, chainOf};
-ghost use Rattle.survey.specs.Marks.{markBytes, seenOf, Checks, Inside};
+ghost use Rattle.tally.specs.Tally.{markBytes};
+ghost use Rattle.survey.specs.Marks.{seenOf, Checks, Inside};
 
 // What a block of a directory holds.
 enum Held {

@@ -5,7 +5,7 @@ use borrow.Author.Needs.{needs}
 use borrow.Author.Tests.{not-true, not-false}
 use lib.ListN.{length}
 use Rattle.block.specs.Block.{next}
-use Rattle.survey.specs.Marks.{markBytes}
+use Rattle.tally.specs.Tally.{markBytes}
 use Rattle.survey.proofs.Chains.{Left, left-start, left-step, left-stop, left-end, left-over, fileCheck, file-done, file-over, file-stop, file-next, few-blocks, still-long, claimed-inside}
 use Rattle.survey.proofs.cells.Statement.{statement}
 use Rattle.survey.proofs.cells.Tie as tie

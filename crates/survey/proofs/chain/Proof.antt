@@ -5,7 +5,7 @@ use borrow.Author.Needs.{needs}
 use borrow.Author.Tests.{not-true, not-false}
 use lib.ListN.{length}
 use Rattle.block.specs.Block.{next}
-use Rattle.survey.specs.Marks.{markBytes}
+use Rattle.tally.specs.Tally.{markBytes}
 use Rattle.survey.proofs.Chains.{Left, left-start, left-step, left-stop, left-over, left-last, deviceCheck, device-over, device-stop, device-last, device-next, few-blocks, area-inside, still-long, claimed-inside}
 use Rattle.survey.proofs.chain.Statement.{statement}
 use Rattle.survey.proofs.chain.Tie as tie
