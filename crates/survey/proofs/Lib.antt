@@ -4,6 +4,7 @@ pub mod Chains
 pub mod SoundLaws
 pub mod SoundCells
 pub mod SoundRaws
+pub mod Walked
 pub mod SoundDirs
 pub mod Sound
 pub mod CompleteLaws
