@@ -5,6 +5,7 @@ pub mod SoundLaws
 pub mod SoundCells
 pub mod SoundRaws
 pub mod Walked
+pub mod WalkedBlocks
 pub mod SoundDirs
 pub mod Sound
 pub mod CompleteLaws
