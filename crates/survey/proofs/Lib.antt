@@ -6,6 +6,7 @@ pub mod SoundCells
 pub mod SoundRaws
 pub mod Walked
 pub mod WalkedBlocks
+pub mod WalkedDirs
 pub mod SoundDirs
 pub mod Sound
 pub mod CompleteLaws

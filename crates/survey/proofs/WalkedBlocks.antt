@@ -57,6 +57,14 @@ pub seen-pass : {X : Type 0} (t : Bool) (c : Claimed X) → seenOf (pick t (some
 unfolding seenOf
 seen-pass t c = then-pass t c (λ c. some (c .seen))
 
+-- a test after a step, which must hold whatever is found
+pub seen-after : {X : Type 0} (t : Bool) (o : Option (Claimed X)) → then o (λ c. pick t (some (c .seen)) none) ≡ pick t (seenOf o) none
+unfolding seenOf then pick
+seen-after true none = refl
+seen-after true (some c) = refl
+seen-after false none = refl
+seen-after false (some c) = refl
+
 -- what is done with what is claimed
 pub then-seen : {X Y : Type 0} (o : Option (Claimed X)) (f : List ℕ → Option Y) → then (seenOf o) f ≡ then o (λ c. f (c .seen))
 unfolding seenOf then
@@ -65,7 +73,7 @@ then-seen (some c) f = refl
 
 -- ---- one block of a directory
 
--- what a first block holds may stand there wherever it holds anything, and what a later one holds if it has an entry
+-- a first block may stand there unless it is damaged; a later one must have an entry too
 first-stands : {Y : Type 0} (o : Option (List Raw)) (s : List ℕ) (f : List ℕ → Option Y)
     → then (pick (mayStand false (heldAt 0 o)) (some s) none) f ≡ then o (λ rs. f s)
 unfolding then pick heldAt hasSome
