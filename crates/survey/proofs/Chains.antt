@@ -23,7 +23,7 @@ use Rattle.survey.proofs.Goes.{Check, then-none, Goes, goes-refl, goes-
 
 -- ---- what is claimed along the chain
 
-seen-with : {X Y : Type 0} (f : X → Y) (o : Option (Claimed X)) → seenOf (withFound f o) ≡ seenOf o
+pub seen-with : {X Y : Type 0} (f : X → Y) (o : Option (Claimed X)) → seenOf (withFound f o) ≡ seenOf o
 unfolding seenOf withFound then
 seen-with f none = refl
 seen-with f (some c) = refl

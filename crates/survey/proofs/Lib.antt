@@ -4,6 +4,9 @@ pub mod Chains
 pub mod SoundLaws
 pub mod SoundCells
 pub mod SoundRaws
+pub mod Walked
+pub mod WalkedBlocks
+pub mod WalkedDirs
 pub mod SoundDirs
 pub mod Sound
 pub mod CompleteLaws
