@@ -3,7 +3,7 @@ use mathlib.Core.Path.{_≡_, refl, sym, ap, _∙_, subst}
 use mathlib.Core.Logic.{_≢_, _⊎_, inl, inr}
 use mathlib.Core.Bool.{Bool, true, false, _&&_}
 use mathlib.Core.List.{List, [], _∷_, _++_}
-use Prim.Native.Nat.{ℕ, zero, suc, _+_, _*_, _/_, _%_, _≤_, _<_}
+use Prim.Native.Nat.{ℕ, _/_, _%_, _<_}
 use native.Mathlib.Omega.{arith}
 use native.Mathlib.Decide.{ℕ-discrete, decLt}
 use lib.Dec.{eqb}
@@ -19,7 +19,7 @@ use Rattle.model.specs.Tree.{Name}
 use Rattle.names.specs.Names.{oneOf}
 use Rattle.names.specs.Filter.{hashOf, filterBytes, lowBit, highBit, clear, marked, noted, wiped, Covers, Untouched, Within}
 use Rattle.names.proofs.Bytes.{hash-fits}
-use Rattle.names.proofs.Among.{not-so, none-of-none, one-self, one-later, one-cases, one-first, one-second, one-last, one-taken}
+use Rattle.names.proofs.Among.{not-so, none-of-none, one-self, one-cases, one-first, one-second, one-last, one-taken}
 
 -- ---- what code tests, sets and makes zero
 

@@ -14,6 +14,18 @@ ghost use Rattle.read_dir.specs.Walk.{walk};
 ghost use Rattle.names.specs.Names.{nameBytes, oneOf, distinct, namesIn, ends};
 ghost use Rattle.names.specs.Filter.{hashOf, filterBytes, clear, marked, noted, wiped, Covers, Within};
 
+// The odd factor of the hash.
+const SPREAD: u64 = 2654435761;
+
+// What a hash stays below: it has 32 digits.
+const RANGE: u64 = 4294967296;
+
+// The remainder by it is the lowest 17 digits of a hash: one of the filter's 2^17 bits.
+const LOW: u32 = 131072;
+
+// The quotient by it is the highest 17: another.
+const HIGH: u32 = 32768;
+
 // Whether a name is made of allowed bytes.
 pub fn allowed(name: &[u8]) -> bool
     ensures { λ r. ⌜ r ≡ nameBytes (now (name .entry)) ⌝ }
@@ -42,7 +54,7 @@ fn hash(name: &[u8]) -> u32
     let mut h: u64 = 0;
     let mut i: usize = 0;
     while i < name.len() {
-        h = (h + (name[i] as u64)) * 2654435761 % 4294967296;
+        h = (h + (name[i] as u64)) * SPREAD % RANGE;
         i += 1;
     }
     h as u32
@@ -53,11 +65,11 @@ fn maybe(filter: &[u8], h: u32) -> bool
     requires { ⌜ length (now filter) ≡ filterBytes ⌝ }
     ensures { λ r. ⌜ r ≡ marked (now (filter .entry)) h ⌝ }
 {
-    let low = bits::bit_at(filter, 0, h % 131072);
+    let low = bits::bit_at(filter, 0, h % LOW);
     if low == 0 {
         return false;
     }
-    let high = bits::bit_at(filter, 0, h / 32768);
+    let high = bits::bit_at(filter, 0, h / HIGH);
     high == 1
 }
 
@@ -66,8 +78,8 @@ fn note(filter: &mut [u8], h: u32)
     requires { ⌜ length (now filter) ≡ filterBytes ⌝ }
     ensures { λ _. ⌜ now (filter .exit) ≡ noted (now (filter .entry)) h ⌝ }
 {
-    bits::set_bit(filter, 0, h % 131072);
-    bits::set_bit(filter, 0, h / 32768);
+    bits::set_bit(filter, 0, h % LOW);
+    bits::set_bit(filter, 0, h / HIGH);
 }
 
 // Makes the two bytes zero in which these bits stand.
@@ -75,8 +87,8 @@ fn wipe(filter: &mut [u8], h: u32)
     requires { ⌜ length (now filter) ≡ filterBytes ⌝ }
     ensures { λ _. ⌜ now (filter .exit) ≡ wiped (now (filter .entry)) h ⌝ }
 {
-    let low = (h % 131072 / 8) as usize;
-    let high = (h / 32768 / 8) as usize;
+    let low = (h % LOW / 8) as usize;
+    let high = (h / HIGH / 8) as usize;
     filter[low] = 0;
     filter[high] = 0;
 }

@@ -15,39 +15,39 @@ Inv-loop name i₀ i = (i ≤ length name) × (nameBytes (drop i name) ≡ nameB
 abbrev μ-loop : tie.MeasureT-loop
 μ-loop name i₀ i = length name - i
 
--- src/lib.rt:22:5
+-- src/lib.rt:34:5
 loop-holds : tie.Need-loop-holds Inv-loop μ-loop
 loop-holds c = (search needs, refl)
 
--- src/lib.rt:23:17
+-- src/lib.rt:35:17
 shared-slice-read-c : tie.Need-shared-slice-read-c Inv-loop μ-loop
 shared-slice-read-c c = search needs
 
--- src/lib.rt:25:13
+-- src/lib.rt:37:13
 returns : tie.Need-returns Inv-loop μ-loop
 returns c = search (byte-low, needs)
 
--- src/lib.rt:28:13
+-- src/lib.rt:40:13
 returns-2 : tie.Need-returns-2 Inv-loop μ-loop
 returns-2 c = search (byte-high, needs)
 
--- src/lib.rt:31:13
+-- src/lib.rt:43:13
 returns-3 : tie.Need-returns-3 Inv-loop μ-loop
 returns-3 c = search (byte-slash, needs)
 
--- src/lib.rt:33:9
+-- src/lib.rt:45:9
 add-i : tie.Need-add-i Inv-loop μ-loop
 add-i c = search needs
 
--- src/lib.rt:22:5
+-- src/lib.rt:34:5
 loop-less : tie.Need-loop-less Inv-loop μ-loop
 loop-less c = search needs
 
--- src/lib.rt:22:5
+-- src/lib.rt:34:5
 loop-again : tie.Need-loop-again Inv-loop μ-loop
 loop-again c = (search needs, search (byte-fine, needs))
 
--- src/lib.rt:18:1
+-- src/lib.rt:30:1
 returns-4 : tie.Need-returns-4 Inv-loop μ-loop
 returns-4 c = search (bytes-done, needs)
 

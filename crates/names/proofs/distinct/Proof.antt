@@ -6,19 +6,19 @@ use Rattle.names.proofs.distinct.Lts as lts
 use Rattle.names.proofs.forget.Reads as forget-reads
 use Rattle.names.proofs.tested.Reads as tested-reads
 
--- src/lib.rt:184:9
+-- src/lib.rt:188:9
 tested-requires : tie.Need-tested-requires
 tested-requires c κs = search needs
 
--- src/lib.rt:185:5
+-- src/lib.rt:189:5
 forget-requires : tie.Need-forget-requires
 forget-requires c κs = search needs
 
--- src/lib.rt:178:1
+-- src/lib.rt:182:1
 same-length : tie.Need-same-length
 same-length c = search needs
 
--- src/lib.rt:178:1
+-- src/lib.rt:182:1
 returns : tie.Need-returns
 returns c = (search needs, cc)
 

@@ -19,59 +19,59 @@ Inv-loop img s i name c₀ left₀ c left = oneOf name (take left (namesIn (curs
 abbrev μ-loop : tie.MeasureT-loop
 μ-loop img s i name c₀ left₀ c left = left
 
--- src/lib.rt:89:9
+-- src/lib.rt:101:9
 new-requires : tie.Need-new-requires Inv-loop μ-loop
 new-requires c κs = search room
 
--- src/lib.rt:91:5
+-- src/lib.rt:103:5
 loop-holds : tie.Need-loop-holds Inv-loop μ-loop
 loop-holds c = refl
 
--- src/lib.rt:92:15
+-- src/lib.rt:104:15
 next-requires : tie.Need-next-requires Inv-loop μ-loop
 next-requires c κs = search needs
 
--- src/lib.rt:93:25
+-- src/lib.rt:105:25
 enum-known-e : tie.Need-enum-known-e Inv-loop μ-loop
 enum-known-e c = search needs
 
--- src/lib.rt:94:20
+-- src/lib.rt:106:20
 named-requires : tie.Need-named-requires Inv-loop μ-loop
 named-requires c κs = (search entry-inside, search entry-ends)
 
--- src/lib.rt:95:21
+-- src/lib.rt:107:21
 returns : tie.Need-returns Inv-loop μ-loop
 returns c = search (earlier-hit, needs)
 
--- src/lib.rt:98:24
+-- src/lib.rt:110:24
 sub-left : tie.Need-sub-left Inv-loop μ-loop
 sub-left c = search needs
 
--- src/lib.rt:91:5
+-- src/lib.rt:103:5
 loop-less : tie.Need-loop-less Inv-loop μ-loop
 loop-less c = search needs
 
--- src/lib.rt:91:5
+-- src/lib.rt:103:5
 loop-again : tie.Need-loop-again Inv-loop μ-loop
 loop-again c = search (earlier-again, needs)
 
--- src/lib.rt:100:26
+-- src/lib.rt:112:26
 enum-told : tie.Need-enum-told Inv-loop μ-loop
 enum-told c = search needs
 
--- src/lib.rt:100:26
+-- src/lib.rt:112:26
 returns-2 : tie.Need-returns-2 Inv-loop μ-loop
 returns-2 c = search earlier-end
 
--- src/lib.rt:101:30
+-- src/lib.rt:113:30
 enum-told-2 : tie.Need-enum-told-2 Inv-loop μ-loop
 enum-told-2 c = search needs
 
--- src/lib.rt:101:30
+-- src/lib.rt:113:30
 returns-3 : tie.Need-returns-3 Inv-loop μ-loop
 returns-3 c = search earlier-bad
 
--- src/lib.rt:85:1
+-- src/lib.rt:97:1
 returns-4 : tie.Need-returns-4 Inv-loop μ-loop
 returns-4 c = search earlier-none
 

@@ -6,19 +6,19 @@ use Rattle.names.proofs.note.Reads as reads
 use Rattle.names.proofs.note.Lts as lts
 use Rattle.bits.proofs.set_bit.Reads as set-bit-reads
 
--- src/lib.rt:69:5
+-- src/lib.rt:81:5
 set-bit-requires : tie.Need-set-bit-requires
 set-bit-requires c κs = search needs
 
--- src/lib.rt:70:5
+-- src/lib.rt:82:5
 set-bit-requires-2 : tie.Need-set-bit-requires-2
 set-bit-requires-2 c κs = search needs
 
--- src/lib.rt:65:1
+-- src/lib.rt:77:1
 same-length : tie.Need-same-length
 same-length c = search needs
 
--- src/lib.rt:65:1
+-- src/lib.rt:77:1
 returns : tie.Need-returns
 returns c = search (noted-twice, needs)
 

@@ -7,19 +7,19 @@ use Rattle.names.proofs.seen.Lts as lts
 use Rattle.names.proofs.earlier.Reads as earlier-reads
 use Rattle.names.proofs.maybe.Reads as maybe-reads
 
--- src/lib.rt:115:8
+-- src/lib.rt:127:8
 maybe-requires : tie.Need-maybe-requires
 maybe-requires c κs = search needs
 
--- src/lib.rt:116:9
+-- src/lib.rt:128:9
 earlier-requires : tie.Need-earlier-requires
 earlier-requires c κs = search needs
 
--- src/lib.rt:116:9
+-- src/lib.rt:128:9
 returns : tie.Need-returns
 returns c = search needs
 
--- src/lib.rt:108:1
+-- src/lib.rt:120:1
 returns-2 : tie.Need-returns-2
 returns-2 c = search (not-covered, needs)
 

@@ -22,79 +22,79 @@ Inv-loop img s dir filter₀ c₀ i₀ filter c i = Met filter i (walk 512 (s .a
 abbrev μ-loop : tie.MeasureT-loop
 μ-loop img s dir filter₀ c₀ i₀ filter c i = count (cursorWalk 512 (s .area .0) (s .blocks) img c)
 
--- src/lib.rt:128:9
+-- src/lib.rt:140:9
 new-requires : tie.Need-new-requires Inv-loop μ-loop
 new-requires c κs = search room
 
--- src/lib.rt:130:5
+-- src/lib.rt:142:5
 loop-holds : tie.Need-loop-holds Inv-loop μ-loop
 loop-holds c = (search met-start, refl)
 
--- src/lib.rt:131:15
+-- src/lib.rt:143:15
 next-requires : tie.Need-next-requires Inv-loop μ-loop
 next-requires c κs = search needs
 
--- src/lib.rt:132:25
+-- src/lib.rt:144:25
 enum-known-e : tie.Need-enum-known-e Inv-loop μ-loop
 enum-known-e c = search needs
 
--- src/lib.rt:133:21
+-- src/lib.rt:145:21
 name-of-requires : tie.Need-name-of-requires Inv-loop μ-loop
 name-of-requires c κs = (search entry-inside, search entry-ends)
 
--- src/lib.rt:134:21
+-- src/lib.rt:146:21
 hash-requires : tie.Need-hash-requires Inv-loop μ-loop
 hash-requires c κs = search needs
 
--- src/lib.rt:135:20
+-- src/lib.rt:147:20
 seen-requires : tie.Need-seen-requires Inv-loop μ-loop
 seen-requires c κs = (search needs, (search needs, (search needs, search needs)))
 
--- src/lib.rt:136:21
+-- src/lib.rt:148:21
 same-length : tie.Need-same-length Inv-loop μ-loop
 same-length c = search needs
 
--- src/lib.rt:136:21
+-- src/lib.rt:148:21
 returns : tie.Need-returns Inv-loop μ-loop
 returns c = (search tested-hit, search met-within)
 
--- src/lib.rt:138:17
+-- src/lib.rt:150:17
 note-requires : tie.Need-note-requires Inv-loop μ-loop
 note-requires c κs = search needs
 
--- src/lib.rt:139:21
+-- src/lib.rt:151:21
 add-i : tie.Need-add-i Inv-loop μ-loop
 add-i c = record { fits = search number-fits }
 
--- src/lib.rt:130:5
+-- src/lib.rt:142:5
 loop-less : tie.Need-loop-less Inv-loop μ-loop
 loop-less c = search step-less
 
--- src/lib.rt:130:5
+-- src/lib.rt:142:5
 loop-again : tie.Need-loop-again Inv-loop μ-loop
 loop-again c = (search tested-again, search needs)
 
--- src/lib.rt:142:26
+-- src/lib.rt:154:26
 enum-told : tie.Need-enum-told Inv-loop μ-loop
 enum-told c = search needs
 
--- src/lib.rt:142:26
+-- src/lib.rt:154:26
 same-length-2 : tie.Need-same-length-2 Inv-loop μ-loop
 same-length-2 c = search needs
 
--- src/lib.rt:142:26
+-- src/lib.rt:154:26
 returns-2 : tie.Need-returns-2 Inv-loop μ-loop
 returns-2 c = (search tested-end, search met-within)
 
--- src/lib.rt:143:30
+-- src/lib.rt:155:30
 enum-told-2 : tie.Need-enum-told-2 Inv-loop μ-loop
 enum-told-2 c = search needs
 
--- src/lib.rt:143:30
+-- src/lib.rt:155:30
 same-length-3 : tie.Need-same-length-3 Inv-loop μ-loop
 same-length-3 c = search needs
 
--- src/lib.rt:143:30
+-- src/lib.rt:155:30
 returns-3 : tie.Need-returns-3 Inv-loop μ-loop
 returns-3 c = (search tested-bad, search met-within)
 
