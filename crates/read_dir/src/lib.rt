@@ -175,7 +175,7 @@ pub fn name_of(img: &[u8], e: DirEntry, p: Place) -> &[u8]
 }
 
 // Whether an entry has that name.
-fn named(img: &[u8], e: DirEntry, p: Place, name: &[u8]) -> bool
+pub fn named(img: &[u8], e: DirEntry, p: Place, name: &[u8]) -> bool
     requires { ⌜ blockBytes * p .block .0 + blockBytes ≤ length (now img) ⌝ }
     requires { ⌜ p .offset + header + e .len ≤ blockBytes - 5 ⌝ }
     ensures { λ r. ⌜ r ≡ same (nameAt (now (img .entry)) (placeAt blockBytes (p .block .0) (p .offset)) (e .len)) (now (name .entry)) ⌝ }

@@ -1,0 +1,4 @@
+pub mod Bytes
+pub mod Among
+pub mod Marks
+pub mod Along
