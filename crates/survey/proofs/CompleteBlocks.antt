@@ -50,7 +50,7 @@ has-some v (e ∷ es) h = refl
 module _ {X : Type 0} {B D n : ℕ} {I : List ℕ} (g : Ground B D n I) (v : View X) (S : X → Type 0) where
   -- the entries of one block
   block-raws : (b : Block X) (z : ℕ) → b .at < n → GoodBlock B S b → Clear v b → Shows I (B * b .at) (bytes 4 z ++ padded (B - 4) (entriesBytes v (b .entries)))
-      → rawsFrom B D n I B (b .at) 0 ≡ some (rawsOf v (b .entries))
+      → rawsFrom B I B (b .at) 0 ≡ some (rawsOf v (b .entries))
   block-raws b z h a l s =
       let m : List ℕ = padded (B - 4) (entriesBytes v (b .entries)) in
       let x : B * b .at + length (bytes 4 z) ≡ placeAt B (b .at) 0 = omega (arith, length-bytes 4 z) in
@@ -74,16 +74,16 @@ module _ {X : Type 0} {B D n : ℕ} {I : List ℕ} (g : Ground B D n I) (v : Vie
   find-block : {Y : Type 0} (b : Block X) (bs : List (Block X)) (seen : List ℕ) (f : List Raw → ℕ → List ℕ → Option (Claimed Y)) (y : Y)
       → GoodBlock B S b → Clear v b → ShowsAll B I (dirPieces B v (b ∷ bs)) → Free D n seen (ownCount (b ∷ bs))
       → (Free D n (b .at ∷ seen) (ownCount bs) → Yields (f (rawsOf v (b .entries)) (blocksAt bs) (b .at ∷ seen)) y (b .at ∷ seen) (ownCount bs))
-      → Yields (then (claim B D n I (b .at) seen) (λ s. then (rawsFrom B D n I B (b .at) 0) (λ rs. f rs (next B I (b .at)) s))) y seen (ownCount (b ∷ bs))
+      → Yields (then (claim B D n I (b .at) seen) (λ s. then (rawsFrom B I B (b .at) 0) (λ rs. f rs (next B I (b .at)) s))) y seen (ownCount (b ∷ bs))
   unfolding dirPieces own then
   find-block b bs seen f y a l s r go =
       let q : Free D n seen (λ i. one (b .at) i + ownCount bs i) = free-as (ownCount (b ∷ bs)) (λ i. one (b .at) i + ownCount bs i) (λ i. count-cons i (b .at) (own bs)) r in
       let h : (D ≤ b .at) × (b .at < n) = q .range (b .at) (omega (arith, one-self (b .at))) in
       let rest : Free D n (b .at ∷ seen) (ownCount bs) = free-right (one (b .at)) (ownCount bs) (b .at ∷ seen) (λ i. omega (arith, count-cons i (b .at) seen)) q in
       let z : next B I (b .at) ≡ blocksAt bs = next-shown B I (b .at) (blocksAt bs) (padded (B - 4) (entriesBytes v (b .entries))) (own-small bs (b .at ∷ seen) rest) (s .0) in
-      let w : rawsFrom B D n I B (b .at) 0 ≡ some (rawsOf v (b .entries)) = block-raws b (blocksAt bs) (h .1) a l (s .0) in
+      let w : rawsFrom B I B (b .at) 0 ≡ some (rawsOf v (b .entries)) = block-raws b (blocksAt bs) (h .1) a l (s .0) in
       finds-as _ y seen (λ i. one (b .at) i + ownCount bs i) (ownCount (b ∷ bs)) (λ i. sym (count-cons i (b .at) (own bs)))
-      (finds-claim B D n I (b .at) seen (λ s. then (rawsFrom B D n I B (b .at) 0) (λ rs. f rs (next B I (b .at)) s)) y (ownCount bs) q
+      (finds-claim B D n I (b .at) seen (λ s. then (rawsFrom B I B (b .at) 0) (λ rs. f rs (next B I (b .at)) s)) y (ownCount bs) q
       (λ m. finds-same (f (rawsOf v (b .entries)) (blocksAt bs) (b .at ∷ seen)) _ y (b .at ∷ seen) (ownCount bs)
       (ap (λ (o : Option (List Raw)). then o (λ rs. f rs (next B I (b .at)) (b .at ∷ seen))) w ∙ ap (λ (j : ℕ). f (rawsOf v (b .entries)) j (b .at ∷ seen)) z)
       (go m)))

@@ -127,24 +127,24 @@ module _ {X : Type 0} (B D n : ℕ) (I : List ℕ) (v : View X) (a : ℕ) (large
   reads : ℕ → ℕ → DirEntry → Option (List Raw)
   reads f o e =
       pick (passes e (nameAt I (placeAt B a o) (e .len)))
-      (then (rawsFrom B D n I f a (o + header + e .len)) (λ rs. some (record { head = e; name = nameAt I (placeAt B a o) (e .len) } ∷ rs))) none
+      (then (rawsFrom B I f a (o + header + e .len)) (λ rs. some (record { head = e; name = nameAt I (placeAt B a o) (e .len) } ∷ rs))) none
 
   stops : ℕ → Option (List Raw)
   stops o = pick (zeroFrom I (placeAt B a o) (B - 4 - o)) (some []) none
 
   reads-entry : (f o : ℕ) (e : Entry X) (rs : List Raw) → Legible v e → o + weight e ≤ B - 5 → Shows I (placeAt B a o) (entryBytes v e)
-      → rawsFrom B D n I f a (o + weight e) ≡ some rs → reads f o (headOf v e) ≡ some (rawOf v e ∷ rs)
+      → rawsFrom B I f a (o + weight e) ≡ some rs → reads f o (headOf v e) ≡ some (rawOf v e ∷ rs)
   unfolding reads headOf then
   reads-entry f o e rs l h s r =
       let w : o + 18 + length (e .name) ≡ o + weight e = unfold weight in omega arith in
       let x : nameAt I (placeAt B a o) (length (e .name)) ≡ e .name = name-is o e h s in
       pick-true _ _ (ap (passes (headOf v e)) x ∙ entry-passes (headOf v e) (e .name) (l .real) (l .good-name .allowed))
-      ∙ ap (λ (z : List ℕ). then (rawsFrom B D n I f a (o + 18 + length (e .name))) (λ rs. some (record { head = headOf v e; name = z } ∷ rs))) x
-      ∙ ap (λ (z : Option (List Raw)). then z (λ rs. some (rawOf v e ∷ rs))) (ap (rawsFrom B D n I f a) w ∙ r)
+      ∙ ap (λ (z : List ℕ). then (rawsFrom B I f a (o + 18 + length (e .name))) (λ rs. some (record { head = headOf v e; name = z } ∷ rs))) x
+      ∙ ap (λ (z : Option (List Raw)). then z (λ rs. some (rawOf v e ∷ rs))) (ap (rawsFrom B I f a) w ∙ r)
 
   -- A block that shows entries from offset o on, and zeros after them: they are read, with any bound that the block's rest does not pass.
   pub find-raws : (es : List (Entry X)) (f o : ℕ) → B - o ≤ f → o + used es ≤ B - 5 → All (Legible v) es
-      → Shows I (placeAt B a o) (padded (B - 4 - o) (entriesBytes v es)) → rawsFrom B D n I f a o ≡ some (rawsOf v es)
+      → Shows I (placeAt B a o) (padded (B - 4 - o) (entriesBytes v es)) → rawsFrom B I f a o ≡ some (rawsOf v es)
   unfolding rawsFrom rawsOf onSlot used entriesBytes reads stops
   find-raws es zero o k h l s = absurd (omega arith)
   find-raws [] (suc f) o k h l s =
@@ -159,6 +159,6 @@ module _ {X : Type 0} (B D n : ℕ) (I : List ℕ) (v : View X) (a : ℕ) (large
       let r : Shows I (placeAt B a (o + weight e)) (padded (B - 4 - (o + weight e)) (entriesBytes v es))
       = rw (x, y) at (shows-two I (placeAt B a o) (entryBytes v e) _ p) in
       let g : 18 ≤ weight e = unfold weight in omega arith in
-      let m : rawsFrom B D n I f a (o + weight e) ≡ some (rawsOf v es) = find-raws es f (o + weight e) (less-left B o f (weight e) k (omega arith)) (omega arith) (l .1) r in
+      let m : rawsFrom B I f a (o + weight e) ≡ some (rawsOf v es) = find-raws es f (o + weight e) (less-left B o f (weight e) k (omega arith)) (omega arith) (l .1) r in
       ap (λ (z : Slot). onSlot z (reads f o) (stops o)) (slot-is o e (l .0) (omega arith) q)
       ∙ reads-entry f o e (rawsOf v es) (l .0) (omega arith) q m

@@ -1,6 +1,7 @@
 pub mod Claims
 pub mod Goes
 pub mod Chains
+pub mod Holds
 pub mod SoundLaws
 pub mod SoundCells
 pub mod SoundRaws
@@ -16,3 +17,5 @@ pub mod CompleteNames
 pub mod CompleteBlocks
 pub mod CompleteDirs
 pub mod Complete
+pub mod DirBlocks
+pub mod Walks

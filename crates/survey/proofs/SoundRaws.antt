@@ -160,7 +160,7 @@ module _ (B D n : ℕ) (I : List ℕ) (all-bytes : Bytes I) (a : ℕ) (whole : B
       }
 
   -- Whatever `rawsFrom` finds stands there so.
-  pub raws-found : (f o : ℕ) → o ≤ B - 5 → Each (RawsFound B I a o) (rawsFrom B D n I f a o)
+  pub raws-found : (f o : ℕ) → o ≤ B - 5 → Each (RawsFound B I a o) (rawsFrom B I f a o)
   unfolding rawsFrom
   raws-found zero o l = each-none (RawsFound B I a o)
   raws-found (suc f) o l =
@@ -168,7 +168,7 @@ module _ (B D n : ℕ) (I : List ℕ) (all-bytes : Bytes I) (a : ℕ) (whole : B
       (λ e q.
       let s : Stands B I a o e = slot-stands B I a o e q in
       each-test (RawsFound B I a o) (passes e (nameAt I (placeAt B a o) (e .len))) _
-      (λ t. each-then (RawsFound B I a o) (rawsFrom B D n I f a (o + header + e .len)) _
+      (λ t. each-then (RawsFound B I a o) (rawsFrom B I f a (o + header + e .len)) _
       (λ rs g. each-some (RawsFound B I a o) _ (raws-more o e rs s (passes-bytes e _ t) (raws-found f (o + header + e .len) (omega (arith, s .ends)) .is rs g)))))
       (each-test (RawsFound B I a o) (zeroFrom I (placeAt B a o) (B - 4 - o)) _
       (λ t. each-some (RawsFound B I a o) [] (last o l t)))
@@ -217,7 +217,7 @@ module _ (B D n : ℕ) (I : List ℕ) (large : 5 ≤ B) (all-bytes : Bytes I) (f
   unfolding rawsAt rawAts
   raw-end a seen z = record { first = sym z; chain = tt; claims = claims-none D n seen }
 
-  raw-more : (a : ℕ) (seen now : List ℕ) (rs : List Raw) (c : Claimed (List RawBlock)) → claim B D n I a seen ≡ some now → rawsFrom B D n I B a 0 ≡ some rs
+  raw-more : (a : ℕ) (seen now : List ℕ) (rs : List Raw) (c : Claimed (List RawBlock)) → claim B D n I a seen ≡ some now → rawsFrom B I B a 0 ≡ some rs
       → RawFound B D n I (next B I a) now c → RawFound B D n I a seen (record { found = record { at = a; raws = rs } ∷ c .found; seen = c .seen })
   unfolding rawsAt rawAts next
   raw-more a seen now rs c e g f =
@@ -249,7 +249,7 @@ module _ (B D n : ℕ) (I : List ℕ) (large : 5 ≤ B) (all-bytes : Bytes I) (f
       each-pick (LaterFound a seen) (eqb a 0) _ _
       (λ t. each-some (LaterFound a seen) _ (record { blocks = raw-end a seen (eqb-true a 0 t); filled = tt }))
       (λ _. each-then (LaterFound a seen) (claim B D n I a seen) _
-      (λ now e. each-then (LaterFound a seen) (rawsFrom B D n I B a 0) _
+      (λ now e. each-then (LaterFound a seen) (rawsFrom B I B a 0) _
       (λ rs g. each-test (LaterFound a seen) (hasSome rs) _
       (λ t. each-with (LaterFound a seen) _ (laterOf B D n I k (next B I a) now)
       (λ c f.
@@ -266,7 +266,7 @@ module _ (B D n : ℕ) (I : List ℕ) (large : 5 ≤ B) (all-bytes : Bytes I) (f
   unfolding blocksOf
   blocks-found a seen =
       each-then (BlocksFound a seen) (claim B D n I a seen) _
-      (λ now e. each-then (BlocksFound a seen) (rawsFrom B D n I B a 0) _
+      (λ now e. each-then (BlocksFound a seen) (rawsFrom B I B a 0) _
       (λ rs g. each-with (BlocksFound a seen) _ (laterOf B D n I (n - D - 1) (next B I a) now)
       (λ c f.
       let h : LaterFound (next B I a) now c = later-found (n - D - 1) (next B I a) now .is c f in

@@ -95,13 +95,13 @@ module _ (B D n : ℕ) (I : List ℕ) where
   abbrev Walks : ℕ → ℕ → ℕ → List Raw → Type 0
   Walks f a o rs = (w : Walk) → entriesFrom B D n I f a o w ≡ rawsWalk a o rs w
 
-  each-walk : (f a o : ℕ) → Each (Walks f a o) (rawsFrom B D n I f a o)
+  each-walk : (f a o : ℕ) → Each (Walks f a o) (rawsFrom B I f a o)
   unfolding rawsFrom rawsWalk
   each-walk zero a o = each-none (Walks zero a o)
   each-walk (suc f) a o =
       each-at (Walks (suc f) a o) (slotAt B I a o) _ _
       (λ e q. each-test (Walks (suc f) a o) (passes e (nameAt I (placeAt B a o) (e .len))) _
-      (λ t. each-then (Walks (suc f) a o) (rawsFrom B D n I f a (o + header + e .len)) _
+      (λ t. each-then (Walks (suc f) a o) (rawsFrom B I f a (o + header + e .len)) _
       (λ rs g. each-some (Walks (suc f) a o) _
       (λ w. entry-walk f a o e w q (passes-address e (nameAt I (placeAt B a o) (e .len)) t)
       ∙ ap (item e a o (nameAt I (placeAt B a o) (e .len))) (each-walk f a (o + header + e .len) .is rs g w)))))
@@ -109,11 +109,11 @@ module _ (B D n : ℕ) (I : List ℕ) where
       (λ _. each-some (Walks (suc f) a o) [] (λ w. stop-walk f a o w q)))
 
   -- The entries that `rawsFrom` finds are those of the walk.
-  pub raws-walk : (f a o : ℕ) (rs : List Raw) → rawsFrom B D n I f a o ≡ some rs → (w : Walk) → entriesFrom B D n I f a o w ≡ rawsWalk a o rs w
+  pub raws-walk : (f a o : ℕ) (rs : List Raw) → rawsFrom B I f a o ≡ some rs → (w : Walk) → entriesFrom B D n I f a o w ≡ rawsWalk a o rs w
   raws-walk f a o rs g w = each-walk f a o .is rs g w
 
   -- Their names are as long as they say.
-  each-long : (a : ℕ) → B * a + B ≤ length I → (f o : ℕ) → Each (All LongName) (rawsFrom B D n I f a o)
+  each-long : (a : ℕ) → B * a + B ≤ length I → (f o : ℕ) → Each (All LongName) (rawsFrom B I f a o)
   unfolding rawsFrom
   each-long a whole zero o = each-none (All LongName)
   each-long a whole (suc f) o =
@@ -122,11 +122,11 @@ module _ (B D n : ℕ) (I : List ℕ) where
       let s : Stands B I a o e = slot-stands B I a o e q in
       let l : placeAt B a o + header + e .len ≤ length I = omega (arith, s .offset, s .ends) in
       each-test (All LongName) (passes e (nameAt I (placeAt B a o) (e .len))) _
-      (λ t. each-then (All LongName) (rawsFrom B D n I f a (o + header + e .len)) _
+      (λ t. each-then (All LongName) (rawsFrom B I f a (o + header + e .len)) _
       (λ rs g. each-some (All LongName) _ (sym (part-long I (placeAt B a o + header) (e .len) l), each-long a whole f (o + header + e .len) .is rs g))))
       (λ q. each-test (All LongName) (zeroFrom I (placeAt B a o) (B - 4 - o)) _ (λ _. each-some (All LongName) [] tt))
 
-  pub raws-long : (f a o : ℕ) (rs : List Raw) → B * a + B ≤ length I → rawsFrom B D n I f a o ≡ some rs → All LongName rs
+  pub raws-long : (f a o : ℕ) (rs : List Raw) → B * a + B ≤ length I → rawsFrom B I f a o ≡ some rs → All LongName rs
   raws-long f a o rs whole g = each-long a whole f o .is rs g
 
   -- ---- a directory's blocks
@@ -142,7 +142,7 @@ module _ (B D n : ℕ) (I : List ℕ) where
   abbrev onward : ℕ → ℕ → Walk
   onward k a = pick (eqb a 0) finished (chainFrom B D n I k a)
 
-  block-more : (k a : ℕ) (seen now : List ℕ) (rs : List Raw) (bs : List RawBlock) → claim B D n I a seen ≡ some now → rawsFrom B D n I B a 0 ≡ some rs
+  block-more : (k a : ℕ) (seen now : List ℕ) (rs : List Raw) (bs : List RawBlock) → claim B D n I a seen ≡ some now → rawsFrom B I B a 0 ≡ some rs
       → onward k (next B I a) ≡ blocksWalk bs → chainFrom B D n I (suc k) a ≡ blocksWalk (record { at = a; raws = rs } ∷ bs)
   unfolding chainFrom blocksWalk
   block-more k a seen now rs bs e g h =
@@ -162,7 +162,7 @@ module _ (B D n : ℕ) (I : List ℕ) where
       each-pick (Onward (suc k) a) (eqb a 0) _ _
       (λ t. each-some (Onward (suc k) a) _ (later-none (suc k) a t))
       (λ t. each-then (Onward (suc k) a) (claim B D n I a seen) _
-      (λ now e. each-then (Onward (suc k) a) (rawsFrom B D n I B a 0) _
+      (λ now e. each-then (Onward (suc k) a) (rawsFrom B I B a 0) _
       (λ rs g. each-test (Onward (suc k) a) (hasSome rs) _
       (λ _. each-with (Onward (suc k) a) _ (laterOf B D n I k (next B I a) now)
       (λ c f. pick-false _ _ t ∙ block-more k a seen now rs (c .found) e g (later-walk k (next B I a) now .is c f))))))
@@ -174,7 +174,7 @@ module _ (B D n : ℕ) (I : List ℕ) where
   unfolding blocksOf
   each-blocks a seen =
       each-then (Whole a) (claim B D n I a seen) _
-      (λ now e. each-then (Whole a) (rawsFrom B D n I B a 0) _
+      (λ now e. each-then (Whole a) (rawsFrom B I B a 0) _
       (λ rs g. each-with (Whole a) _ (laterOf B D n I (n - D - 1) (next B I a) now)
       (λ c f.
       let k : Claim D n a seen now = each-claim D n B I a seen .is now e in
@@ -193,7 +193,7 @@ module _ (B D n : ℕ) (I : List ℕ) where
   -- ---- where the volume's blocks are whole, the names are as long as their entries say
 
   module _ (fits : n * B ≤ length I) where
-    claimed-long : (a : ℕ) (seen now : List ℕ) (rs : List Raw) → claim B D n I a seen ≡ some now → rawsFrom B D n I B a 0 ≡ some rs → All LongName rs
+    claimed-long : (a : ℕ) (seen now : List ℕ) (rs : List Raw) → claim B D n I a seen ≡ some now → rawsFrom B I B a 0 ≡ some rs → All LongName rs
     claimed-long a seen now rs e g = raws-long B a 0 rs (block-whole B n I a fits (each-claim D n B I a seen .is now e .high)) g
 
     abbrev Long : Claimed (List RawBlock) → Type 0
@@ -206,7 +206,7 @@ module _ (B D n : ℕ) (I : List ℕ) where
         each-pick Long (eqb a 0) _ _
         (λ _. each-some Long _ tt)
         (λ _. each-then Long (claim B D n I a seen) _
-        (λ now e. each-then Long (rawsFrom B D n I B a 0) _
+        (λ now e. each-then Long (rawsFrom B I B a 0) _
         (λ rs g. each-test Long (hasSome rs) _
         (λ _. each-with Long _ (laterOf B D n I k (next B I a) now)
         (λ c f. (claimed-long a seen now rs e g, later-long k (next B I a) now .is c f))))))
@@ -215,7 +215,7 @@ module _ (B D n : ℕ) (I : List ℕ) where
     unfolding blocksOf
     all-long a seen =
         each-then Long (claim B D n I a seen) _
-        (λ now e. each-then Long (rawsFrom B D n I B a 0) _
+        (λ now e. each-then Long (rawsFrom B I B a 0) _
         (λ rs g. each-with Long _ (laterOf B D n I (n - D - 1) (next B I a) now)
         (λ c f. (claimed-long a seen now rs e g, later-long (n - D - 1) (next B I a) now .is c f))))
 

@@ -96,9 +96,9 @@ module _ (B D n : ℕ) (I : List ℕ) where
   block-steps a seen =
       seen-then (claim B D n I a seen) _
       ∙ then-same (claim B D n I a seen) _ _ (λ s _.
-      seen-then (rawsFrom B D n I B a 0) _
-      ∙ then-same (rawsFrom B D n I B a 0) _ _ (λ rs _. seen-with (λ bs. record { at = a; raws = rs } ∷ bs) (laterOf B D n I (n - D - 1) (next B I a) s))
-      ∙ sym (first-stands (rawsFrom B D n I B a 0) s (λ s. seenOf (laterOf B D n I (n - D - 1) (next B I a) s))))
+      seen-then (rawsFrom B I B a 0) _
+      ∙ then-same (rawsFrom B I B a 0) _ _ (λ rs _. seen-with (λ bs. record { at = a; raws = rs } ∷ bs) (laterOf B D n I (n - D - 1) (next B I a) s))
+      ∙ sym (first-stands (rawsFrom B I B a 0) s (λ s. seenOf (laterOf B D n I (n - D - 1) (next B I a) s))))
       ∙ sym (then-then (claim B D n I a seen) _ _)
 
   -- a later block, then those after it; the end; more blocks than may be
@@ -109,11 +109,11 @@ module _ (B D n : ℕ) (I : List ℕ) where
       ap seenOf (pick-false _ _ (ne-eqb a 0 z))
       ∙ seen-then (claim B D n I a seen) _
       ∙ then-same (claim B D n I a seen) _ _ (λ s _.
-      seen-then (rawsFrom B D n I B a 0) _
-      ∙ then-same (rawsFrom B D n I B a 0) _ _ (λ rs _.
+      seen-then (rawsFrom B I B a 0) _
+      ∙ then-same (rawsFrom B I B a 0) _ _ (λ rs _.
       seen-test (hasSome rs) _
       ∙ ap (λ (o : Option (List ℕ)). pick (hasSome rs) o none) (seen-with (λ bs. record { at = a; raws = rs } ∷ bs) (laterOf B D n I k (next B I a) s)))
-      ∙ sym (later-stands (rawsFrom B D n I B a 0) s (λ s. seenOf (laterOf B D n I k (next B I a) s))))
+      ∙ sym (later-stands (rawsFrom B I B a 0) s (λ s. seenOf (laterOf B D n I k (next B I a) s))))
       ∙ sym (then-then (claim B D n I a seen) _ _)
 
   pub later-end : (k a : ℕ) (seen : List ℕ) → a ≡ 0 → seenOf (laterOf B D n I k a seen) ≡ some seen

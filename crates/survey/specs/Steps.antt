@@ -4,7 +4,7 @@ use mathlib.Core.Option.{Option, none, some}
 use mathlib.Core.List.{List}
 use Prim.Native.Nat.{ℕ, zero, suc, _-_}
 use lib.Dec.{eqb}
-use Rattle.wire.specs.Pick.{pick}
+use Rattle.wire.specs.Pick.{pick, zeroFrom}
 use Rattle.block.specs.Block.{next}
 use Rattle.model.specs.Tree.{Below, then, sum}
 use Rattle.dir_entry.specs.declared.DirEntry.{DirEntry}
@@ -24,6 +24,10 @@ use Rattle.survey.specs.declared.Held.the-variants as held
 unfoldable pub heldAt : ℕ → Option (List Raw) → Held
 heldAt o none = held.Damaged
 heldAt o (some rs) = pick (eqb o 0 && not (hasSome rs)) held.Nothing held.Entries
+
+-- W3, "bytes after a block's last entry are zero": what a block holds, where its entries stop at byte p of the image, its offset o.
+unfoldable pub restAt : List ℕ → ℕ → ℕ → ℕ → Held
+restAt I k p o = pick (zeroFrom I p (k - o)) (pick (eqb o 0) held.Nothing held.Entries) held.Damaged
 
 -- W4, "each directory block but the first has an entry": whether a block that holds this may stand there.
 abbrev pub mayStand : Bool → Held → Bool
@@ -51,7 +55,7 @@ sumBelow (suc d) x = sum x
 module _ (B D n : ℕ) (I : List ℕ) where
   -- Block a is claimed, and what it holds may stand there.
   unfoldable pub blockCheck : Bool → ℕ → List ℕ → Option (List ℕ)
-  blockCheck later a seen = then (claim B D n I a seen) (λ s. pick (mayStand later (heldAt 0 (rawsFrom B D n I B a 0))) (some s) none)
+  blockCheck later a seen = then (claim B D n I a seen) (λ s. pick (mayStand later (heldAt 0 (rawsFrom B I B a 0))) (some s) none)
 
   -- A directory's blocks, with distinct names in them.
   unfoldable pub openDir : ℕ → List ℕ → Option (Claimed (List RawBlock))

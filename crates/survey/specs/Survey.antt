@@ -61,6 +61,15 @@ onSlot slot.Stop f x = x
 unfoldable pub passes : DirEntry → Name → Bool
 passes e x = not (eqb (e .addr .0) 0) && nameBytes x
 
+-- W3: the entries of block a from offset o on; "bytes after a block's last entry are zero".
+unfoldable pub rawsFrom : ℕ → List ℕ → ℕ → ℕ → ℕ → Option (List Raw)
+rawsFrom B I zero a o = none
+rawsFrom B I (suc f) a o =
+    onSlot (slotAt B I a o)
+    (λ e. pick (passes e (nameAt I (placeAt B a o) (e .len)))
+    (then (rawsFrom B I f a (o + header + e .len)) (λ rs. some (record { head = e; name = nameAt I (placeAt B a o) (e .len) } ∷ rs))) none)
+    (pick (zeroFrom I (placeAt B a o) (B - 4 - o)) (some []) none)
+
 module _ (B D n : ℕ) (I : List ℕ) where
   -- W2, "stays in D..n-1 ... no two chains share a block": block a is claimed, if it is in the area and not claimed yet.
   unfoldable pub claim : ℕ → List ℕ → Option (List ℕ)
@@ -83,26 +92,17 @@ module _ (B D n : ℕ) (I : List ℕ) where
       then (claim a seen) (λ s. withFound (λ cs. record { at = a; body = bodyAt a } ∷ cs)
       (pick (eqb (next B I a) 0) (some (record { found = []; seen = s })) (chainOf k (next B I a) s)))
 
-  -- W3: the entries of block a from offset o on; "bytes after a block's last entry are zero".
-  unfoldable pub rawsFrom : ℕ → ℕ → ℕ → Option (List Raw)
-  rawsFrom zero a o = none
-  rawsFrom (suc f) a o =
-      onSlot (slotAt B I a o)
-      (λ e. pick (passes e (nameAt I (placeAt B a o) (e .len)))
-      (then (rawsFrom f a (o + header + e .len)) (λ rs. some (record { head = e; name = nameAt I (placeAt B a o) (e .len) } ∷ rs))) none)
-      (pick (zeroFrom I (placeAt B a o) (B - 4 - o)) (some []) none)
-
   -- W4, "each directory block but the first has an entry": the blocks of a directory's chain, at most k, from a later one on; and
   -- from the first on, at most n-D.
   unfoldable pub laterOf : ℕ → ℕ → List ℕ → Option (Claimed (List RawBlock))
   laterOf zero a seen = pick (eqb a 0) (some (record { found = []; seen = seen })) none
   laterOf (suc k) a seen =
       pick (eqb a 0) (some (record { found = []; seen = seen }))
-      (then (claim a seen) (λ s. then (rawsFrom B a 0) (λ rs. pick (hasSome rs) (withFound (λ bs. record { at = a; raws = rs } ∷ bs) (laterOf k (next B I a) s)) none)))
+      (then (claim a seen) (λ s. then (rawsFrom B I B a 0) (λ rs. pick (hasSome rs) (withFound (λ bs. record { at = a; raws = rs } ∷ bs) (laterOf k (next B I a) s)) none)))
 
   unfoldable pub blocksOf : ℕ → List ℕ → Option (Claimed (List RawBlock))
   blocksOf a seen =
-      then (claim a seen) (λ s. then (rawsFrom B a 0) (λ rs. withFound (λ bs. record { at = a; raws = rs } ∷ bs) (laterOf (n - D - 1) (next B I a) s)))
+      then (claim a seen) (λ s. then (rawsFrom B I B a 0) (λ rs. withFound (λ bs. record { at = a; raws = rs } ∷ bs) (laterOf (n - D - 1) (next B I a) s)))
 
   -- ---- what the entries stand for; `below` is the check of a subdirectory, and `size` its sum
 
