@@ -19,3 +19,4 @@ pub mod CompleteDirs
 pub mod Complete
 pub mod DirBlocks
 pub mod Walks
+pub mod Wholes

@@ -2,3 +2,4 @@ pub mod Survey
 pub mod Marks
 pub mod Found
 pub mod Steps
+pub mod Whole
