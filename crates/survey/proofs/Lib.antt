@@ -20,3 +20,4 @@ pub mod Complete
 pub mod DirBlocks
 pub mod Walks
 pub mod Wholes
+pub mod Decides

@@ -89,8 +89,10 @@ module _ (K : ℕ) (I : List ℕ) (b : Bytes I) where
     where
       p : (zeroFrom I (blockSize g * g .K + 18) (blockSize g - 18) ≡ true) × ((bitsOf g I (claimsOf g I) && eqb (usedCount g I) (dataAt g + setBits I g)) ≡ true)
       p = and-both (zeroFrom I (blockSize g * g .K + 18) (blockSize g - 18)) (bitsOf g I (claimsOf g I) && eqb (usedCount g I) (dataAt g + setBits I g)) h
+
       q : (bitsOf g I (claimsOf g I) ≡ true) × (eqb (usedCount g I) (dataAt g + setBits I g) ≡ true)
       q = and-both (bitsOf g I (claimsOf g I)) (eqb (usedCount g I) (dataAt g + setBits I g)) (p .1)
+
       go : (x : Option (List ℕ)) → claimsOf g I ≡ x → WellFormed K I
       go none e = absurd (not-both (q .0) (ap (bitsOf g I) e))
       go (some seen) e =

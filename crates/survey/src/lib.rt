@@ -19,24 +19,29 @@ ghost use mathlib.Core.List.{[]};
 ghost use mathlib.Core.Option.{none};
 ghost use lib.Dec.{leb};
 ghost use lib.ListN.{length};
+ghost use Rattle.wire.specs.Be.{zeros, splice};
 ghost use Rattle.wire.specs.Pick.{pick};
-ghost use Rattle.model.specs.Volume.{fileLimit, blocksFor};
+ghost use Rattle.model.specs.Volume.{fileLimit, blocksFor, maxDepth};
 ghost use Rattle.block.specs.Block.{blockBytes, next};
-ghost use Rattle.super_block.specs.Super.{Fit};
+ghost use Rattle.super_block.specs.Super.{geoOf, Fit};
 ghost use Rattle.tally.specs.Tally.{markBytes};
 ghost use Rattle.dir_entry.specs.Entry.{header, placeAt, nameAt};
 ghost use Rattle.read_dir.specs.Walk.{walk};
 ghost use Rattle.read_dir.specs.Finds.{sumFrom};
 ghost use Rattle.names.specs.Filter.{clear};
-ghost use Rattle.survey.specs.Survey.{claim, cellsOf, chainOf, passes, rawsFrom, laterOf, blocksOf};
-ghost use Rattle.survey.specs.Marks.{seenOf, Checks, Inside};
+ghost use Rattle.survey.specs.Survey.{claim, cellsOf, chainOf, passes, rawsFrom, laterOf, blocksOf, survey};
+ghost use Rattle.survey.specs.Marks.{Marks, Beyond, seenOf, Checks, Inside};
 ghost use Rattle.survey.specs.Steps.{heldAt, restAt, blockCheck, openDir, through, isTotal, entryCheck};
+ghost use Rattle.survey.specs.Whole.{whole};
 
 // The bytes of the largest file.
 const FILE_LIMIT: u32 = 2_147_483_647;
 
 // The data bytes of a block, as sizes are counted.
 const CAPACITY: u32 = LinkedBlock::CAPACITY as u32;
+
+// The root is at depth 0.
+const MAX_DEPTH: u32 = 16;
 
 // What a block of a directory holds.
 enum Held {
@@ -330,4 +335,54 @@ fn walk_dir(
             Step::Damaged => return false,
         }
     }
+}
+
+// The tree from the root on: W2 to W4.
+fn tree(img: &[u8], work: &mut [u8], filter: &mut [u8], s: SuperBlock) -> bool
+    requires { ⌜ Fit s (now img) ⌝ }
+    requires { ⌜ markBytes (s .area .0) (s .blocks) ≤ length (now work) ⌝ }
+    requires { ⌜ now filter ≡ clear ⌝ }
+    ensures { λ r. ⌜ Checks (s .area .0) (s .blocks) (λ seen. seenOf (survey blockBytes (s .area .0) (s .blocks) (now (img .entry)) maxDepth (s .area .0) seen)) (now (work .entry)) (now (work .exit)) r ⌝ }
+{
+    let d = s.area;
+    if !open_dir(img, work, filter, s, d) {
+        return false;
+    }
+    walk_dir(img, work, filter, s, d, MAX_DEPTH)
+}
+
+// W1 to W5, where nothing is marked yet. The filter of names stands here once, outside the walk.
+fn decide(img: &[u8], work: &mut [u8], s: SuperBlock) -> bool
+    requires { ⌜ Fit s (now img) ⌝ }
+    requires { ⌜ markBytes (s .area .0) (s .blocks) ≤ length (now work) ⌝ }
+    requires { ⌜ Marks (s .area .0) (s .blocks) (now work) [] ⌝ }
+    ensures { λ r. ⌜ r ≡ whole (geoOf s) (now (img .entry)) ⌝ }
+    ensures { λ _. ⌜ Beyond (s .area .0) (s .blocks) (now (work .entry)) (now (work .exit)) ⌝ }
+{
+    if !tally::rest_clear(img, s) {
+        return false;
+    }
+    let mut filter = [0u8; 16384];
+    if !tree(img, work, &mut filter, s) {
+        return false;
+    }
+    if !tally::agrees(img, s, work) {
+        return false;
+    }
+    tally::count_right(img, s)
+}
+
+// Whether the image is a well-formed volume: W1 to W5. The bytes of marks in the work buffer are zero afterwards, whatever stood in them,
+// and the others stay.
+pub fn check(img: &[u8], work: &mut [u8], s: SuperBlock) -> bool
+    requires { ⌜ Fit s (now img) ⌝ }
+    requires { ⌜ markBytes (s .area .0) (s .blocks) ≤ length (now work) ⌝ }
+    ensures { λ r. ⌜ r ≡ whole (geoOf s) (now (img .entry)) ⌝ }
+    ensures { λ _. ⌜ now (work .exit) ≡ splice (now (work .entry)) 0 (zeros (markBytes (s .area .0) (s .blocks))) ⌝ }
+{
+    let m = tally::mark_bytes(s);
+    wire::fill(work, 0, m, 0);
+    let r = decide(img, work, s);
+    wire::fill(work, 0, m, 0);
+    r
 }
