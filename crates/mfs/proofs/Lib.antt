@@ -5,3 +5,4 @@ pub mod Paths
 pub mod Handles
 pub mod Outcomes
 pub mod Examples
+pub mod Checked

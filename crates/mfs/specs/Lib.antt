@@ -2,3 +2,4 @@ pub mod Says
 pub mod Format
 pub mod Reading
 pub mod Examples
+pub mod Checking

@@ -22,7 +22,8 @@ ghost use Prim.Native.Nat.{_+_, _-_, _≤_};
 ghost use lib.ListN.{length, take, drop};
 ghost use Rattle.block.specs.Block.{blockBytes};
 ghost use Rattle.model.specs.Render.{padded};
-ghost use Rattle.super_block.specs.Super.{geoOf, Fit};
+ghost use Rattle.super_block.specs.Super.{geoOf, Fit, OpenedIs};
+ghost use Rattle.super_block.specs.declared.Opened.the-variants as opened;
 ghost use Rattle.model.specs.Answers.{reply, accepted, refused, refusalNumber, andThen, given};
 ghost use Rattle.path.specs.Path.{realPath, pathRefusal, lastName};
 ghost use Rattle.dir.specs.Resolve.{entryOf, held};
@@ -31,6 +32,7 @@ ghost use Rattle.read_dir.specs.Walk.{walk};
 ghost use Rattle.read_dir.specs.Finds.{sumFrom, skip, listFrom, recordsFrom};
 ghost use Rattle.mfs.specs.Reading.{handleFor, openEntry, openOn, OpenIs, Opens, about, aboutRoot, aboutEntry, infoOn, InfoIs, Informs, countsOf, listOn, recordsOn, ListIs, Lists, Reads};
 ghost use Rattle.file.specs.Post.{SoughtIs};
+ghost use Rattle.mfs.specs.Checking.{Checks, Checked};
 ghost use Rattle.mfs.specs.Format.{formatted, Formats, Uses, overused, sizesOf};
 
 // The longest file.
@@ -100,6 +102,44 @@ pub fn usage(img: &[u8], k: u32) -> Space
     match opened {
         Opened::Refused(r) => Space::Refused(r),
         Opened::At(s) => sizes_of(s, s.alloc_count(img)),
+    }
+}
+
+// The whole check of an opened volume, and its work buffer's length before that.
+fn check_opened(img: &[u8], k: u32, s: SuperBlock, work: &mut [u8]) -> Opened
+    requires { ⌜ OpenedIs k (now img) (opened.At s) ⌝ }
+    ensures { λ r. ⌜ Checked k (now (img .entry)) (now (work .entry)) r (now (work .exit)) ⌝ }
+{
+    if work.len() < tally::mark_bytes(s) {
+        return Opened::Refused(Refusal::ShortWork);
+    }
+    if survey::check(img, work, s) {
+        Opened::At(s)
+    } else {
+        Opened::Refused(Refusal::Damaged)
+    }
+}
+
+// Opens a volume and checks it whole: what a changing call does first.
+fn open_checked(img: &[u8], k: u32, work: &mut [u8]) -> Opened
+    ensures { λ r. ⌜ Checked k (now (img .entry)) (now (work .entry)) r (now (work .exit)) ⌝ }
+{
+    let opened = SuperBlock::read(img, k);
+    match opened {
+        Opened::Refused(r) => Opened::Refused(r),
+        Opened::At(s) => check_opened(img, k, s, work),
+    }
+}
+
+// Whether the image is a well-formed volume, W1 to W5. One bit a block is marked in the work buffer, and is zero again afterwards.
+// Refusals: 1, 2, 3, 16, 17.
+pub fn check(img: &[u8], k: u32, work: &mut [u8]) -> Answer
+    ensures { λ r. ⌜ Checks k (now (img .entry)) (now (work .entry)) r (now (work .exit)) ⌝ }
+{
+    let checked = open_checked(img, k, work);
+    match checked {
+        Opened::Refused(r) => Answer::Refused(r),
+        Opened::At(_) => Answer::Success,
     }
 }
 
