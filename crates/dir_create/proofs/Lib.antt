@@ -1,3 +1,5 @@
 pub mod Steps
 pub mod Spots
 pub mod Stages
+pub mod Gaps
+pub mod Spotted

@@ -1,14 +1,15 @@
 -- Creating a file or a directory: where its entry goes, and what the stores make of the image, in their order. Definitions alone.
 use mathlib.Core.Path.{_≡_}
-use mathlib.Core.List.{List, _++_}
+use mathlib.Core.List.{List, [], _∷_, _++_}
 use Prim.Native.Nat.{ℕ, zero, suc, _+_, _-_, _*_, _≤_, _<_}
 use lib.Dec.{leb, eqb}
 use lib.ListN.{length, getD}
 use Rattle.wire.specs.Be.{splice}
 use Rattle.wire.specs.Pick.{pick}
 use Rattle.block.specs.Block.{next, linked}
-use Rattle.model.specs.Tree.{Name}
+use Rattle.model.specs.Tree.{Name, Block, used}
 use Rattle.model.specs.Geometry.{Geo, blockSize, dataAt}
+use Rattle.model.specs.Calls.{hasRoom}
 use Rattle.bitmap_block.specs.Bitmap.{clears, taken}
 use Rattle.dir_entry.specs.declared.Kind.{Kind}
 use Rattle.dir_entry.specs.declared.DirEntry.{DirEntry}
@@ -54,6 +55,11 @@ spotFrom B D n I len (suc k) a =
 -- The same for the directory whose first block is dir.
 abbrev pub spotFor : ℕ → ℕ → ℕ → List ℕ → ℕ → ℕ → Spot
 spotFor B D n I dir len = spotFrom B D n I len (n - D) dir
+
+-- The same on a directory of the tree, z being the block before: its first block with room, at the end of its entries, else after its last one.
+unfoldable pub spotOn : {X : Type 0} → ℕ → Name → ℕ → List (Block X) → Spot
+spotOn cap n z [] = After (record { 0 = z })
+spotOn cap n z (b ∷ bs) = pick (hasRoom cap n b) (In (placed (b .at) (used (b .entries)))) (spotOn cap n (b .at) bs)
 
 -- How many blocks an entry there takes: its own, and a new directory block before it.
 abbrev pub needed : Spot → ℕ
