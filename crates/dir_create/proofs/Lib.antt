@@ -3,3 +3,4 @@ pub mod Spots
 pub mod Stages
 pub mod Gaps
 pub mod Spotted
+pub mod Enters
