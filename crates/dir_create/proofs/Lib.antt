@@ -5,3 +5,4 @@ pub mod Gaps
 pub mod Spotted
 pub mod Enters
 pub mod Owned
+pub mod Inserted
