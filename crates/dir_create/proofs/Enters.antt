@@ -1,31 +1,29 @@
 -- A directory after the stores of a create, its own entry aside: it shows the tree's insert, and the blocks are those that were free.
 use mathlib.Core.Path.{_≡_, refl, sym, ap, _∙_, subst}
-use mathlib.Core.Bool.{true, false}
 use mathlib.Core.Logic.{_⊎_, inl, inr}
 use mathlib.Core.List.{List, [], _∷_, _++_, append-assoc, append-nil}
-use Prim.Native.Nat.{ℕ, zero, suc, _+_, _-_, _*_, _^_, _≤_, _<_}
-use native.Mathlib.Nat.{add-assoc, add-zero}
+use Prim.Native.Nat.{ℕ, _+_, _-_, _*_, _≤_}
+use native.Mathlib.Nat.{add-zero}
 use native.Mathlib.Omega.{arith}
 use lib.ListN.{length, getD, drop, length-append}
 use Rattle.wire.specs.Be.{bytes, splice, zeros}
 use Rattle.wire.proofs.Laws.{length-bytes}
 use Rattle.wire.proofs.Picks.{pick-true, pick-false}
 use Rattle.block.specs.Block.{linked}
-use Rattle.model.specs.Tree.{Name, Entry, Block, Below, Tree, used, any, fill, insert}
-use Rattle.model.specs.Render.{Piece, View, blocksAt, padded, entryBytes, entriesBytes, nodePieces, entryPieces, dirPieces, view, render, ats, count, blocks}
+use Rattle.model.specs.Tree.{Name, Entry, Block, Tree, used, fill, insert}
+use Rattle.model.specs.Render.{Piece, View, blocksAt, padded, entryBytes, entriesBytes, nodePieces, entryPieces, dirPieces, ats, count, blocks}
 use Rattle.model.specs.Geometry.{Geo, blockSize, dataAt}
 use Rattle.model.specs.Volume.{Volume}
-use Rattle.model.specs.Calls.{entryRoom, hasRoom, toCreate, entryBlock, dirBlock}
+use Rattle.model.specs.Calls.{entryRoom, toCreate, entryBlock, dirBlock}
 use Rattle.model.proofs.Areas.{size-large}
 use Rattle.model.proofs.Cuts.{upTo, dir-split, entries-split, bytes-split}
 use Rattle.model.proofs.Full.{length-entries}
 use Rattle.bitmap_block.specs.Bitmap.{clears}
 use Rattle.dir_entry.specs.declared.Kind.{Kind}
-use Rattle.dir_entry.specs.Entry.{headBytes, placeAt}
+use Rattle.dir_entry.specs.Entry.{headBytes}
 use Rattle.dir_entry.proofs.Heads.{length-head}
 use Rattle.read_dir.specs.Finds.{placed}
 use Rattle.dir_create.specs.declared.Spot.{Spot}
-use Rattle.dir_create.specs.declared.Spot.the-variants.{In, After}
 use Rattle.dir_create.specs.Create.{spotOn, fresh, grown, opened, placeIn, newHead, entered, insertedAt}
 use Rattle.dir_create.proofs.Steps.{fresh-index}
 use Rattle.dir_create.proofs.Gaps.{Gap, Full, gap, block-more, block-linked, block-new}
@@ -34,7 +32,7 @@ use Rattle.dir_create.proofs.Stages.{zeroPiece, stored, Stage, stage-ta
 -- A new entry at block x: the bytes of its fixed part and its name, and one block of zeros.
 pub record NewEntry {X : Type 0} (g : Geo) (v : View X) (k : Kind) (n : Name) (now x : ℕ) (e : Entry X) : Type 0 where
   pub named : e .name ≡ n
-  pub bytes-are : entryBytes v e ≡ headBytes (newHead g k x now (length n)) ++ n
+  pub bytes-are : entryBytes v e ≡ headBytes (newHead k x now (length n)) ++ n
   pub block : nodePieces v (e .node) ≡ zeroPiece (blockSize g) x ∷ []
 
 -- the first of a list, and the first two
@@ -64,17 +62,17 @@ module _ (g : Geo) (I : List ℕ) (d : ℕ) (t : Tree d) (us : List Piece) (vol 
   module _ {X : Type 0} (v : View X) (k : Kind) (n : Name) (now : ℕ) (few : length n ≤ 255) (x : ℕ) (e : Entry X) (new : NewEntry g v k n now x e) where
     -- the bytes that are stored
     abbrev text : List ℕ
-    text = headBytes (newHead g k x now (length n)) ++ n
+    text = headBytes (newHead k x now (length n)) ++ n
 
     length-text : length text ≡ 18 + length n
-    length-text = length-append (headBytes (newHead g k x now (length n))) n ∙ ap (λ (z : ℕ). z + length n) (length-head (newHead g k x now (length n)))
+    length-text = length-append (headBytes (newHead k x now (length n))) n ∙ ap (λ (z : ℕ). z + length n) (length-head (newHead k x now (length n)))
 
     -- an entry stored at offset o of block a
     entered-is : (J : List ℕ) (a o : ℕ) → fresh g J ≡ x → splice (grown g J) (blockSize g * a + (4 + o)) text ≡ entered g J (placed a o) k n now
     unfolding entered
     entered-is J a o f =
         let p : blockSize g * a + (4 + o) ≡ blockSize g * a + 4 + o = omega arith in
-        λ i. splice (grown g J) (p i) (headBytes (newHead g k (sym f i) now (length n)) ++ n)
+        λ i. splice (grown g J) (p i) (headBytes (newHead k (sym f i) now (length n)) ++ n)
 
     -- the bytes of a block with the entry after those of es
     text-bytes : (es : List (Entry X)) → entriesBytes v es ++ text ≡ entriesBytes v (es ++ (e ∷ []))

@@ -1,18 +1,17 @@
 -- Where a new entry goes in a directory of the tree, and what the directory becomes: a block with room, or none has it. And the bytes of a
 -- block with one entry more.
-use mathlib.Core.Path.{_≡_, refl, sym, ap, _∙_, subst}
+use mathlib.Core.Path.{_≡_, refl, sym, ap, _∙_}
 use mathlib.Core.Bool.{true, false}
 use mathlib.Core.Logic.{_⊎_, inl, inr}
 use mathlib.Core.List.{List, [], _∷_, _++_, append-assoc}
-use Prim.Native.Nat.{ℕ, zero, suc, _+_, _-_, _≤_, _<_}
-use native.Mathlib.Nat.{add-assoc, add-zero}
+use Prim.Native.Nat.{ℕ, zero, suc, _+_, _-_, _≤_}
+use native.Mathlib.Nat.{add-assoc}
 use native.Mathlib.Omega.{arith}
 use lib.Dec.{leb}
-use lib.ListN.{length, take, drop, replicate, length-append, length-replicate}
-use lib.Seq.{take-append-seam, take-append-add, drop-append-add, drop-at, drop-nil}
+use lib.ListN.{length, take, drop, length-append}
+use lib.Seq.{take-append-seam, take-append-add, drop-append-add, drop-at}
 use borrow.Author.Tests.{leb-true}
 use Rattle.wire.specs.Be.{bytes, splice, zeros}
-use Rattle.wire.specs.Pick.{pick}
 use Rattle.wire.proofs.Laws.{length-bytes}
 use Rattle.wire.proofs.Picks.{either, pick-true, pick-false}
 use Rattle.model.specs.Tree.{Name, Entry, Block, any, weight, used, fill, insert}

@@ -1,22 +1,20 @@
 -- The stores of a create are the tree's edit: the theorem on the definitions of specs/, for files and for directories.
 use mathlib.Core.Path.{_≡_, refl, sym, ap, _∙_, subst}
 use mathlib.Core.Bool.{true, false}
-use mathlib.Core.Logic.{_⊎_, inl, inr}
+use mathlib.Core.Logic.{_⊎_, inl, inr, _↔_}
 use mathlib.Core.Option.{some}
 use mathlib.Core.List.{List, [], _∷_, _++_}
-use Prim.Native.Nat.{ℕ, zero, suc, _+_, _-_, _*_, _^_, _≤_, _<_}
-use native.Mathlib.Nat.{mul-one}
+use Prim.Native.Nat.{ℕ, zero, suc, _+_, _-_, _^_, _≤_, _<_}
 use native.Mathlib.Omega.{arith}
 use lib.Dec.{leb}
-use lib.ListN.{length, getD, length-replicate}
+use lib.ListN.{length, length-replicate}
 use Rattle.wire.specs.Be.{bytes, zeros}
 use Rattle.wire.proofs.Picks.{either, pick-true, pick-false}
-use Rattle.block.specs.Block.{Kept}
 use Rattle.model.specs.Tree.{Name, file, sub, Entry, Block, Below, Tree, weight, used, sum, Packed, Absent, fill, insert, Edit, edit, Some, find, blank}
-use Rattle.model.specs.Render.{Piece, View, cellsAt, blocksAt, padded, addressOf, sizeOf, entryBytes, entriesBytes, cellPieces, nodePieces, entryPieces, dirPieces, view, render, ats, count, blocks}
-use Rattle.model.specs.Geometry.{Geo, blockSize, dataAt, Sound}
-use Rattle.model.specs.Volume.{GoodName, GoodFile, GoodDir, GoodBelow, GoodTree, Volume, fileLimit}
-use Rattle.model.specs.Calls.{Vacant, freeBlocks, entryRoom, toCreate, entryBlock, dirBlock, fileEntry, created, dirAdded, createdDir, emptyCell, Makes, CreatesFile, CreatesDir}
+use Rattle.model.specs.Render.{Piece, View, cellsAt, blocksAt, padded, addressOf, sizeOf, entriesBytes, cellPieces, nodePieces, entryPieces, dirPieces, view, render, ats, count, blocks}
+use Rattle.model.specs.Geometry.{Geo, blockSize, dataAt}
+use Rattle.model.specs.Volume.{GoodName, GoodFile, GoodBelow, GoodTree, Volume}
+use Rattle.model.specs.Calls.{freeBlocks, entryRoom, toCreate, entryBlock, dirBlock, fileEntry, created, dirAdded, createdDir, emptyCell, Makes, CreatesFile, CreatesDir}
 use Rattle.model.proofs.Areas.{size-large}
 use Rattle.model.proofs.Contents.{blocks-some, blocks-least}
 use Rattle.model.proofs.Counts.{tally}
@@ -25,24 +23,25 @@ use Rattle.model.proofs.Full.{good-find, whole-tree}
 use Rattle.model.proofs.Good.{good-insert}
 use Rattle.model.proofs.Levels.{good-dir-added}
 use Rattle.model.proofs.Paths.{sub-in}
-use Rattle.bitmap_block.specs.Bitmap.{Room}
-use Rattle.bitmap_block.proofs.Steps.{volume-room}
+use Rattle.super_block.specs.declared.SuperBlock.{SuperBlock}
+use Rattle.super_block.specs.Super.{geoOf, Fit}
+use Rattle.bitmap_block.specs.Bitmap.{clears, Room}
+use Rattle.bitmap_block.proofs.Steps.{volume-clears, volume-room}
 use Rattle.dir_entry.specs.declared.Kind.{Kind}
 use Rattle.dir_entry.specs.declared.Kind.the-variants.{Dir, File}
 use Rattle.read_dir.specs.declared.Summed.{Summed}
 use Rattle.read_dir.specs.declared.Summed.the-variants as summed
 use Rattle.read_dir.specs.Walk.{walk}
-use Rattle.read_dir.specs.Finds.{placed, sumFrom}
+use Rattle.read_dir.specs.Finds.{sumFrom}
 use Rattle.tree_walk.specs.Shown.{headOf}
 use Rattle.tree_walk.proofs.Parts.{Stored, Part, laid-part, part-find, stored-right, stored-in}
 use Rattle.tree_walk.proofs.Walks.{entry-bytes}
 use Rattle.own_entry.specs.declared.Own.{Own}
-use Rattle.own_entry.specs.Own.{ownRenewed, OwnOf}
+use Rattle.own_entry.specs.Own.{OwnOf}
 use Rattle.dir_create.specs.declared.Spot.{Spot}
-use Rattle.dir_create.specs.declared.Spot.the-variants.{In, After}
 use Rattle.dir_create.specs.Create.{spotFor, spotOn, needed, SpotIn, entered, opened, placeIn, resized, recounted, inserted, insertedAt}
 use Rattle.dir_create.proofs.Gaps.{Gap, Full, gap, block-new, block-cell}
-use Rattle.dir_create.proofs.Stages.{zeroPiece, Stage, stage-start, stage-sound, stage-once, stage-commit}
+use Rattle.dir_create.proofs.Stages.{Stage, stage-start, stage-sound, stage-once, stage-commit}
 use Rattle.dir_create.proofs.Enters.{NewEntry, Entered, insert-entered}
 use Rattle.dir_create.proofs.Owned.{part-sum, renewed-makes}
 use Rattle.dir_create.proofs.Spotted.{spot-is, spot-needs}
@@ -281,3 +280,18 @@ module _ (g : Geo) (I : List ℕ) (d : ℕ) (t : Tree d) (n : Name) where
       -- and where they are free there is room for them.
       pub spot-room : toCreate (entryRoom g) n (s .1) ≤ length (freeBlocks g d t) → Room g I (needed at)
       spot-room r = volume-room g I d t v (needed at) (omega (arith, spot-adds))
+
+      -- They are free where as many indexes in reach are clear.
+      pub spot-free : (needed at ≤ length (clears g I)) ↔ (toCreate (entryRoom g) n (s .1) ≤ length (freeBlocks g d t))
+      spot-free =
+          let e : length (clears g I) ≡ length (freeBlocks g d t) = ap length (volume-clears g I d t v) in
+          (λ q. omega (arith, spot-adds), λ q. omega (arith, spot-adds))
+
+-- ---- as code has it, by the struct's own numbers
+
+module _ (b : SuperBlock) (I : List ℕ) (f : Fit b I) (at : Spot) (len : ℕ) where
+  pub code-spot : (dir : ℕ) → at ≡ spotFor 512 (b .area .0) (b .blocks) I dir len → at ≡ spotFor (blockSize (geoOf b)) (dataAt (geoOf b)) (geoOf b .n) I dir len
+  code-spot dir e = e ∙ ap (λ (D : ℕ). spotFor 512 D (b .blocks) I dir len) (f .area)
+
+  pub code-inside : SpotIn (blockSize (geoOf b)) (dataAt (geoOf b)) (geoOf b .n) len at → SpotIn 512 (b .area .0) (b .blocks) len at
+  code-inside q = subst (λ (D : ℕ). SpotIn 512 D (b .blocks) len at) (sym (f .area)) q

@@ -1,24 +1,23 @@
 -- From the stages of a directory to the volume: its own entry renewed, and every byte outside kept. It holds for any edit of a directory
 -- whose stores are stages and whose last store is that of the sum and the time.
 use mathlib.Core.Path.{_≡_, refl, sym, ap, _∙_, subst}
-use mathlib.Core.Option.{Option, none, some}
+use mathlib.Core.Option.{Option, some}
 use mathlib.Core.List.{List, [], _∷_, _++_}
 use Prim.Native.Nat.{ℕ, zero, suc, _+_, _-_, _*_, _^_, _≤_, _<_}
 use native.Mathlib.Nat.{add-zero, add-assoc}
 use native.Mathlib.Omega.{arith}
-use lib.ListN.{length, getD}
+use lib.ListN.{length}
 use Rattle.wire.specs.Be.{bytes}
-use Rattle.bits.specs.Bit.{bit}
 use Rattle.block.specs.Block.{Off, Kept}
 use Rattle.block.proofs.Laws.{kept-trans, kept-less}
 use Rattle.model.specs.Tree.{Name, sub, Entry, Block, Tree, weight, used, sum, Edit, edit, Some, find}
 use Rattle.model.specs.Render.{Piece, View, blocksAt, padded, entryBytes, render, view, ats, count, blocks, ownTime, Shows}
-use Rattle.model.specs.Geometry.{Geo, blockSize, mapAt, dataAt, mapBits, superBytes, Sound}
-use Rattle.model.specs.Volume.{GoodTree, Volume}
+use Rattle.model.specs.Geometry.{Geo, blockSize, dataAt, superBytes, Sound}
+use Rattle.model.specs.Volume.{Volume}
 use Rattle.model.specs.Calls.{Outside, Makes}
 use Rattle.model.proofs.Areas.{area, size-large}
 use Rattle.model.proofs.Commit.{Commit, commit, commit-root}
-use Rattle.model.proofs.Counts.{count-same, count-cons, count-none, count-append, ats-append, tally}
+use Rattle.model.proofs.Counts.{count-same, count-append, ats-append, tally}
 use Rattle.model.proofs.Cuts.{Cut, OwnCut, own-cut}
 use Rattle.model.proofs.Demand.{whole-super}
 use Rattle.model.proofs.Frame.{SameBlock, shows-frame, blocks-edit}
@@ -26,7 +25,6 @@ use Rattle.model.proofs.Full.{whole-tree}
 use Rattle.model.proofs.Lists.{not-some}
 use Rattle.model.proofs.Owns.{renewedAt, shows-kept, own-kept, own-renewed}
 use Rattle.model.proofs.Paths.{sub-in}
-use Rattle.bitmap_block.specs.Bitmap.{mark}
 use Rattle.bitmap_block.proofs.Steps.{mark-is, mark-kept, Aside, aside-other, aside-data}
 use Rattle.dir_entry.specs.Entry.{header, placeAt}
 use Rattle.read_dir.specs.declared.Place.{Place}

@@ -1,13 +1,11 @@
 -- Where the entries of a block stop, and where a new entry goes: what the loops keep, and one law for each answer.
-use mathlib.Core.Path.{_≡_, refl, sym, ap, _∙_, subst}
-use mathlib.Core.Bool.{Bool, true, false, _&&_}
+use mathlib.Core.Path.{_≡_, refl, sym, ap, _∙_}
+use mathlib.Core.Bool.{true}
 use mathlib.Core.List.{List}
 use Prim.Native.Nat.{ℕ, zero, suc, _+_, _-_, _*_, _≤_, _<_}
 use native.Mathlib.Omega.{arith}
-use lib.Dec.{leb, ltb, eqb}
 use lib.ListN.{length}
 use borrow.Author.Tests.{le-leb, lt-leb, lt-ltb, le-ltb, eq-eqb, ne-eqb}
-use Rattle.wire.specs.Pick.{pick}
 use Rattle.wire.proofs.Picks.{pick-true, pick-false}
 use Rattle.block.specs.declared.Addr.{Addr}
 use Rattle.block.specs.Block.{next}
@@ -16,7 +14,6 @@ use Rattle.dir_entry.specs.declared.Slot.{Slot}
 use Rattle.dir_entry.specs.declared.Slot.the-variants.{Entry, Stop}
 use Rattle.dir_entry.specs.Entry.{header, slotAt}
 use Rattle.dir_entry.proofs.Slots.{stop-offset, slot-stands}
-use Rattle.read_dir.specs.declared.Place.{Place}
 use Rattle.read_dir.specs.Walk.{inArea}
 use Rattle.read_dir.specs.Finds as finds
 use Rattle.super_block.specs.declared.SuperBlock.{SuperBlock}
@@ -24,7 +21,7 @@ use Rattle.super_block.specs.Super.{Fit}
 use Rattle.super_block.proofs.Fits.{placed}
 use Rattle.dir_create.specs.declared.Spot.{Spot}
 use Rattle.dir_create.specs.declared.Spot.the-variants.{In, After, Damaged}
-use Rattle.dir_create.specs.Create.{onSlot, stopFrom, usedAt, spotFrom, spotFor}
+use Rattle.dir_create.specs.Create.{stopOr, stopFrom, usedAt, spotFrom}
 
 -- ---- where a block's entries stop
 
@@ -32,11 +29,11 @@ module _ (B : ℕ) (I : List ℕ) (a : ℕ) where
   pub stop-here : (f o : ℕ) → slotAt B I a o ≡ Stop → stopFrom B I f a o ≡ o
   unfolding stopFrom
   stop-here zero o e = refl
-  stop-here (suc f) o e = ap (λ (z : Slot). onSlot z (λ d. stopFrom B I f a (o + header + d .len)) o) e
+  stop-here (suc f) o e = ap (λ (z : Slot). stopOr z (λ d. stopFrom B I f a (o + header + d .len)) o) e
 
   pub stop-past : (f o : ℕ) (e : DirEntry) → slotAt B I a o ≡ Entry e → stopFrom B I (suc f) a o ≡ stopFrom B I f a (o + header + e .len)
   unfolding stopFrom
-  stop-past f o e h = ap (λ (z : Slot). onSlot z (λ d. stopFrom B I f a (o + header + d .len)) o) h
+  stop-past f o e h = ap (λ (z : Slot). stopOr z (λ d. stopFrom B I f a (o + header + d .len)) o) h
 
   -- any two bounds that the block's rest does not pass give the same
   pub stop-enough : (f h o : ℕ) → B ≤ o + f → B ≤ o + h → stopFrom B I f a o ≡ stopFrom B I h a o

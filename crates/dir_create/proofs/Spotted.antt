@@ -1,5 +1,5 @@
 -- Where a new entry goes on a volume is where it goes in the tree.
-use mathlib.Core.Path.{_≡_, refl, sym, ap, _∙_, subst}
+use mathlib.Core.Path.{_≡_, sym, ap, _∙_, subst}
 use mathlib.Core.Bool.{true, false}
 use mathlib.Core.Logic.{_⊎_, inl, inr}
 use mathlib.Core.Option.{some}
@@ -14,7 +14,7 @@ use Rattle.wire.specs.Be.{bytes}
 use Rattle.wire.proofs.Laws.{length-bytes}
 use Rattle.wire.proofs.Picks.{either, pick-true, pick-false}
 use Rattle.block.specs.Block.{next}
-use Rattle.model.specs.Tree.{Name, Entry, Block, Below, Tree, weight, used, any, Some, find}
+use Rattle.model.specs.Tree.{Name, Entry, Block, Below, Tree, weight, used, Some, find}
 use Rattle.model.specs.Render.{View, blocksAt, padded, entryBytes, entriesBytes, entryPieces, dirPieces, view, render, Shows}
 use Rattle.model.specs.Geometry.{Geo, blockSize, dataAt, Sound}
 use Rattle.model.specs.Volume.{All, GoodBlock, GoodBelow, Laid}
@@ -30,9 +30,8 @@ use Rattle.read_dir.specs.Finds.{placed}
 use Rattle.tree_walk.specs.Shown.{headOf}
 use Rattle.tree_walk.proofs.Parts.{Stored, Part, laid-part, part-find, stored-left, stored-right, stored-tail, stored-in, stored-few, chain-long, Legible, entries-legible, block-inside, next-shown}
 use Rattle.tree_walk.proofs.Walks.{head-weight, slot-is}
-use Rattle.dir_create.specs.declared.Spot.{Spot}
-use Rattle.dir_create.specs.declared.Spot.the-variants.{In, After}
-use Rattle.dir_create.specs.Create.{stopFrom, usedAt, spotFrom, spotFor, spotOn, needed, SpotIn}
+use Rattle.dir_create.specs.declared.Spot.the-variants.{In}
+use Rattle.dir_create.specs.Create.{stopFrom, usedAt, spotFrom, spotFor, spotOn, needed}
 use Rattle.dir_create.proofs.Gaps.{Gap, Full, gap}
 use Rattle.dir_create.proofs.Spots.{stop-here, stop-past, spot-in, spot-after, spot-next}
 

@@ -1,10 +1,8 @@
 -- The image between the stores of a call on one directory: which pieces the directory has by then, which blocks are free, and that
 -- nothing else has changed. A block taken is a new piece of zeros, a store in a block changes its piece, and the order of pieces is free.
 use mathlib.Core.Path.{_≡_, refl, sym, ap, _∙_, subst}
-use mathlib.Core.Logic.{_≢_}
 use mathlib.Core.List.{List, [], _∷_, _++_}
-use Prim.Native.Nat.{ℕ, _+_, _-_, _*_, _^_, _≤_, _<_}
-use native.Mathlib.Nat.{add-assoc}
+use Prim.Native.Nat.{ℕ, _+_, _-_, _*_, _≤_, _<_}
 use native.Mathlib.Decide.{decLt, ℕ-discrete}
 use native.Mathlib.Omega.{arith}
 use lib.ListN.{length, getD, length-replicate, getD-replicate}
@@ -14,21 +12,21 @@ use Rattle.block.specs.Block.{cell, Off, Kept}
 use Rattle.block.proofs.Laws.{kept-refl, kept-trans, kept-less, splice-kept}
 use Rattle.model.specs.Tree.{Tree}
 use Rattle.model.specs.Render.{Piece, ats, count, blocks, render, Shows, ShowsAll}
-use Rattle.model.specs.Geometry.{Geo, blockSize, mapAt, dataAt, mapBits, superBytes, usedCount, Sound}
+use Rattle.model.specs.Geometry.{Geo, blockSize, dataAt, mapBits, superBytes, usedCount, Sound}
 use Rattle.model.specs.Volume.{All, GoodTree, Volume}
 use Rattle.model.specs.Calls.{freeBlocks}
 use Rattle.model.specs.Render.{blocksAt}
-use Rattle.model.proofs.Areas.{area, few, size-large}
+use Rattle.model.proofs.Areas.{area, few}
 use Rattle.model.proofs.Commit.{Commit}
-use Rattle.model.proofs.Counts.{count-same, count-other, count-cons, count-none, count-append, ats-append, length-ats}
+use Rattle.model.proofs.Counts.{count-same, count-other, count-cons, count-append, ats-append, length-ats}
 use Rattle.model.proofs.Demand.{whole-super}
 use Rattle.model.proofs.Frame.{SameBlock, shows-append, shows-left, shows-right, shows-frame}
 use Rattle.model.proofs.Full.{Whole, all-append}
 use Rattle.model.proofs.OneVolume.{used-is, used-set}
 use Rattle.model.proofs.Owns.{shows-kept}
 use Rattle.bitmap_block.specs.Bitmap.{mark, clears, taken}
-use Rattle.bitmap_block.proofs.Steps.{mark-is, Aside, aside-data, sound-kept, used-kept, mark-kept, clears-kept, data-in, index-in, taken-kept, used-taken, top-taken, mark-taken, mark-taken-other, cell-taken, first-in, first-clear, clears-taken, volume-clears, volume-room}
-use Rattle.dir_create.specs.Create.{fresh, grown}
+use Rattle.bitmap_block.proofs.Steps.{mark-is, Aside, aside-data, sound-kept, used-kept, mark-kept, clears-kept, index-in, taken-kept, used-taken, top-taken, mark-taken, mark-taken-other, cell-taken, first-in, first-clear, clears-taken, volume-clears, volume-room}
+use Rattle.dir_create.specs.Create.{fresh}
 use Rattle.dir_create.proofs.Steps.{block-in}
 
 -- a block of zeros

@@ -3,7 +3,6 @@
 use mathlib.Core.Path.{_≡_, refl, sym, ap, _∙_, subst}
 use mathlib.Core.List.{List, [], _∷_, _++_}
 use Prim.Native.Nat.{ℕ, _+_, _-_, _*_, _^_, _≤_, _<_}
-use native.Mathlib.Nat.{mul-le-mul-left, mul-suc}
 use native.Mathlib.Omega.{arith}
 use lib.ListN.{length, getD, take, drop, length-append}
 use lib.Seq.{take-all}
@@ -13,7 +12,7 @@ use Rattle.block.specs.declared.Addr.{Addr}
 use Rattle.block.specs.Block.{linked, Off, Kept}
 use Rattle.block.proofs.Laws.{linked-kept}
 use Rattle.model.specs.Tree.{Name}
-use Rattle.model.specs.Geometry.{Geo, blockSize, mapAt, dataAt, Sound}
+use Rattle.model.specs.Geometry.{Geo, blockSize, dataAt, Sound}
 use Rattle.model.proofs.Areas.{area, few, size-large}
 use Rattle.model.proofs.Free.{clear-lowest}
 use Rattle.super_block.specs.declared.SuperBlock.{SuperBlock}
@@ -21,7 +20,7 @@ use Rattle.super_block.specs.Super.{geoOf, Fit}
 use Rattle.super_block.proofs.Fits.{placed, fit-long}
 use Rattle.bitmap_block.specs.Bitmap.{mark, clears, taken, Room}
 use Rattle.bitmap_block.proofs.Laws.{found-in}
-use Rattle.bitmap_block.proofs.Steps.{Aside, aside-data, sound-kept, used-kept, clears-kept, data-in, taken-kept, clears-first, first-in, room-taken}
+use Rattle.bitmap_block.proofs.Steps.{Aside, sound-kept, used-kept, clears-kept, data-in, taken-kept, clears-first, first-in, room-taken}
 use Rattle.dir_entry.specs.declared.Kind.{Kind}
 use Rattle.dir_entry.specs.declared.DirEntry.{DirEntry}
 use Rattle.dir_entry.specs.Entry.{headBytes, placeAt}
@@ -133,10 +132,10 @@ pub length-entered : (g : Geo) (I : List ℕ) → Sound g (length I) → Room g 
     → blockSize g * p .block .0 + blockSize g ≤ length I → p .offset + 18 + length name ≤ blockSize g - 5 → length (entered g I p k name time) ≡ length I
 unfolding entered
 length-entered g I s r p k name time h q =
-    let E : List ℕ = headBytes (newHead g k (fresh g I) time (length name)) ++ name in
+    let E : List ℕ = headBytes (newHead k (fresh g I) time (length name)) ++ name in
     let l : length (grown g I) ≡ length I = length-grown g I (omega (arith, r .clear)) s in
-    let m : length E ≡ length (headBytes (newHead g k (fresh g I) time (length name))) + length name = length-append (headBytes (newHead g k (fresh g I) time (length name))) name in
-    length-splice (grown g I) (placeAt (blockSize g) (p .block .0) (p .offset)) E (omega (arith, length-head (newHead g k (fresh g I) time (length name)), size-large g)) ∙ l
+    let m : length E ≡ length (headBytes (newHead k (fresh g I) time (length name))) + length name = length-append (headBytes (newHead k (fresh g I) time (length name))) name in
+    length-splice (grown g I) (placeAt (blockSize g) (p .block .0) (p .offset)) E (omega (arith, length-head (newHead k (fresh g I) time (length name)), size-large g)) ∙ l
 
 -- ==== what the code needs and gives
 
@@ -210,12 +209,6 @@ module _ (g : Geo) (I : List ℕ) (t : Spot) where
       let w : Room g I 2 = subst (λ (z : Spot). Room g I (needed z)) e r in
       record { clear = omega (arith, w .clear); count = omega (arith, w .count) }
 
-  pub in-image : {J : List ℕ} (p : Place) → t ≡ In p → J ≡ I → J ≡ opened g I t
-  in-image p e j = j ∙ ap (opened g I) (sym e)
-
-  pub in-place : (p : Place) → t ≡ In p → p ≡ placeIn g I t
-  in-place p e = ap (placeIn g I) (sym e)
-
   pub after-place : (a b : Addr) → t ≡ After a → b .0 ≡ fresh g I → _≡_ {A = Place} (record { block = b; offset = 0 }) (placeIn g I t)
   after-place a b e f = (λ i. finds.placed (f i) 0) ∙ ap (placeIn g I) (sym e)
 
@@ -242,7 +235,7 @@ pub enter-image : (s : SuperBlock) (I J L : List ℕ) (p : Place) (k : Kind) (a 
 unfolding entered
 enter-image s I J L p k a name time e j f d l =
     l ∙ (λ i. splice (j i) (placeAt 512 (p .block .0) (p .offset)) (headBytes (d i) ++ name))
-    ∙ (λ i. splice (grown (geoOf s) I) (placeAt 512 (p .block .0) (p .offset)) (headBytes (newHead (geoOf s) k (f i) time (length name)) ++ name))
+    ∙ (λ i. splice (grown (geoOf s) I) (placeAt 512 (p .block .0) (p .offset)) (headBytes (newHead k (f i) time (length name)) ++ name))
 
 -- recount
 module _ {s : SuperBlock} {I : List ℕ} (f : Fit s I) (dir : ℕ) (own : Own) (time : ℕ) (m : Summed) (e : m ≡ finds.sumFrom 0 (walk 512 (s .area .0) (s .blocks) I dir)) where

@@ -1,7 +1,6 @@
 -- Creating a file or a directory: where its entry goes, and what the stores make of the image, in their order. Definitions alone.
-use mathlib.Core.Path.{_≡_}
 use mathlib.Core.List.{List, [], _∷_, _++_}
-use Prim.Native.Nat.{ℕ, zero, suc, _+_, _-_, _*_, _≤_, _<_}
+use Prim.Native.Nat.{ℕ, zero, suc, _+_, _-_, _≤_, _<_}
 use lib.Dec.{leb, eqb}
 use lib.ListN.{length, getD}
 use Rattle.wire.specs.Be.{splice}
@@ -28,15 +27,15 @@ use Rattle.dir_create.specs.declared.Spot.the-variants.{In, After, Damag
 
 -- ---- where the entry goes
 
--- what follows of the slot at offset o
-abbrev pub onSlot : Slot → (DirEntry → ℕ) → ℕ → ℕ
-onSlot (Entry e) k o = k e
-onSlot Stop k o = o
+-- k of the entry that stands at offset o, or o where the block's entries stop
+abbrev pub stopOr : Slot → (DirEntry → ℕ) → ℕ → ℕ
+stopOr (Entry e) k o = k e
+stopOr Stop k o = o
 
 -- The offset where the entries of block a stop, from offset o on. (The first number bounds them.)
 unfoldable pub stopFrom : ℕ → List ℕ → ℕ → ℕ → ℕ → ℕ
 stopFrom B I zero a o = o
-stopFrom B I (suc f) a o = onSlot (slotAt B I a o) (λ e. stopFrom B I f a (o + header + e .len)) o
+stopFrom B I (suc f) a o = stopOr (slotAt B I a o) (λ e. stopFrom B I f a (o + header + e .len)) o
 
 -- The bytes that the entries of block a use.
 abbrev pub usedAt : ℕ → List ℕ → ℕ → ℕ
@@ -75,6 +74,10 @@ SpotIn B D n len Damaged = ⊥
 
 -- ---- the stores
 
+-- 01, "Then one block for the entry, size 0, time from the caller": the fixed part of the entry.
+abbrev pub newHead : Kind → ℕ → ℕ → ℕ → DirEntry
+newHead k a time len = record { kind = k; addr = record { 0 = a }; size = 0; time = time; len = len }
+
 module _ (g : Geo) where
   -- 01, "A new block is the lowest clear index within reach": its address, and the image with it taken.
   unfoldable pub fresh : List ℕ → ℕ
@@ -94,10 +97,7 @@ module _ (g : Geo) where
   placeIn I (After a) = placed (fresh I) 0
   placeIn I Damaged = placed 0 0
 
-  -- "Then one block for the entry, size 0, time from the caller."
-  abbrev pub newHead : Kind → ℕ → ℕ → ℕ → DirEntry
-  newHead k a time len = record { kind = k; addr = record { 0 = a }; size = 0; time = time; len = len }
-
+  -- "Then one block for the entry": the image with the block taken, and the entry at its place.
   unfoldable pub entered : List ℕ → Place → Kind → Name → ℕ → List ℕ
   entered I p k name time =
       splice (grown I) (placeAt (blockSize g) (p .block .0) (p .offset)) (headBytes (newHead k (fresh I) time (length name)) ++ name)

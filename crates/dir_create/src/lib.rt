@@ -1,6 +1,6 @@
 // Creating a file or a directory: where the new entry goes in its directory, and the stores that put it there.
 // specs/Create.antt says each step; proofs/ shows that on a well-formed volume they are the tree's edit.
-// May use: wire, bits, block, model, super_block, bitmap_block, dir_entry, read_dir, tree_walk, own_entry.
+// May use: wire, block, model, super_block, bitmap_block, dir_entry, read_dir, tree_walk, own_entry.
 use block::Addr;
 use block::Index;
 use block::LinkedBlock;
@@ -77,6 +77,17 @@ pub fn spot_for(img: &[u8], s: SuperBlock, dir: Addr, len: usize) -> Spot
         left -= 1;
     }
     Spot::Damaged
+}
+
+// How many blocks an entry at that spot takes.
+pub fn blocks_needed(spot: Spot) -> u32
+    ensures { λ r. ⌜ r ≡ needed spot ⌝ }
+{
+    match spot {
+        Spot::In(_) => 1,
+        Spot::After(_) => 2,
+        Spot::Damaged => 0,
+    }
 }
 
 // Takes the lowest clear block.

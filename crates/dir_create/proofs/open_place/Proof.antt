@@ -1,4 +1,4 @@
-use Rattle.dir_create.proofs.Steps.{after-room, after-inside, in-image, in-place, after-place, after-image, never}
+use Rattle.dir_create.proofs.Steps.{after-room, after-inside, after-place, after-image, never}
 use borrow.Author.Needs.{needs}
 use Rattle.dir_create.proofs.open_place.Statement.{statement}
 use Rattle.dir_create.proofs.open_place.Tie as tie

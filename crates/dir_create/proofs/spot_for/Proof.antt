@@ -1,7 +1,7 @@
 use Rattle.dir_create.proofs.Spots.{area-inside, block-inside, same-inside, left-over, left-below, left-above, left-in, left-after, left-again}
 use Rattle.dir_create.specs.Create.{spotFrom, spotFor}
 use mathlib.Core.Path.{_≡_, refl}
-use Prim.Native.Nat.{_-_, _≤_}
+use Prim.Native.Nat.{_≤_}
 use borrow.Author.Needs.{needs}
 use Rattle.dir_create.proofs.spot_for.Statement.{statement}
 use Rattle.dir_create.proofs.spot_for.Tie as tie
