@@ -114,12 +114,12 @@ cut-many B xs ys us q E E′ c =
     )
 
 -- the block of a cut is among the pieces, before and after
-cut-old : (B : ℕ) (xs ys us vs : List Piece) (q : ℕ) (E E′ : List ℕ) (c : Cut B xs ys us vs q E E′) → 1 ≤ count (c .at) (ats xs)
+pub cut-old : (B : ℕ) (xs ys us vs : List Piece) (q : ℕ) (E E′ : List ℕ) (c : Cut B xs ys us vs q E E′) → 1 ≤ count (c .at) (ats xs)
 unfolding ats
 cut-old B xs ys us vs q E E′ c =
     rw (c .old, ats-append, count-append) (omega (arith, count-same (c .at) (c .at) (ats (c .between ++ (us ++ c .after))) refl))
 
-cut-new : (B : ℕ) (xs ys us vs : List Piece) (q : ℕ) (E E′ : List ℕ) (c : Cut B xs ys us vs q E E′) → 1 ≤ count (c .at) (ats ys)
+pub cut-new : (B : ℕ) (xs ys us vs : List Piece) (q : ℕ) (E E′ : List ℕ) (c : Cut B xs ys us vs q E E′) → 1 ≤ count (c .at) (ats ys)
 unfolding ats
 cut-new B xs ys us vs q E E′ c =
     rw (c .new, ats-append, count-append) (omega (arith, count-same (c .at) (c .at) (ats (c .between ++ (vs ++ c .after))) refl))
