@@ -342,7 +342,7 @@ module _ (g : Geo) (I : List ℕ) (d : ℕ) (s : Tree d) (part : Part g I d s) (
       )
 
   -- what is left over is the block that goes
-  over-at : (i : ℕ) → count i (ats (leftover (blockSize g) n s)) ≡ count i (st .at ∷ [])
+  pub over-at : (i : ℕ) → count i (ats (leftover (blockSize g) n s)) ≡ count i (st .at ∷ [])
   unfolding bareLeft ats
   over-at i = ap (λ (l : List Piece). count i (ats l)) (st .over)
 
