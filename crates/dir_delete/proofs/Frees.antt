@@ -6,7 +6,7 @@ use native.Mathlib.Nat.{add-zero}
 use native.Mathlib.Decide.{ℕ-discrete}
 use native.Mathlib.Omega.{arith}
 use lib.ListN.{length}
-use borrow.Author.Tests.{eq-eqb, ne-eqb, le-leb, lt-leb, lt-ltb}
+use borrow.Author.Tests.{eq-eqb, ne-eqb, lt-leb}
 use Rattle.wire.specs.Be.{bytes}
 use Rattle.wire.proofs.Picks.{pick-true, pick-false}
 use Rattle.bits.proofs.Laws.{bit-lt}
@@ -15,7 +15,7 @@ use Rattle.block.proofs.Laws.{kept-refl, kept-trans}
 use Rattle.model.specs.Render.{Piece, ats, count, Shows, ShowsAll}
 use Rattle.model.specs.Geometry.{Geo, blockSize, mapAt, dataAt, mapBits, superBytes, usedCount, Sound}
 use Rattle.model.specs.Volume.{All}
-use Rattle.model.proofs.Areas.{area, few, size-large}
+use Rattle.model.proofs.Areas.{area, few}
 use Rattle.model.proofs.Counts.{count-same, count-other, count-none, count-cons}
 use Rattle.model.proofs.Frame.{SameBlock, shows-frame}
 use Rattle.model.proofs.Full.{Whole}

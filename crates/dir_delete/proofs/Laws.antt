@@ -1,16 +1,15 @@
 -- What the code of a delete needs and gives: one law for each place.
-use mathlib.Core.Path.{_≡_, refl, sym, ap, _∙_, subst}
+use mathlib.Core.Path.{_≡_, sym, ap, _∙_}
 use mathlib.Core.Bool.{Bool, true, false}
 use mathlib.Core.List.{List}
-use Prim.Native.Nat.{ℕ, zero, suc, _+_, _-_, _*_, _≤_, _<_}
+use Prim.Native.Nat.{ℕ, suc, _+_, _-_, _*_, _≤_, _<_}
 use native.Mathlib.Omega.{arith}
-use lib.Dec.{leb, ltb, eqb}
 use lib.ListN.{length}
 use borrow.Author.Tests.{eq-eqb, ne-eqb, le-leb, lt-leb, lt-ltb, le-ltb}
-use Rattle.wire.specs.Pick.{pick, zeroFrom}
+use Rattle.wire.specs.Pick.{zeroFrom}
 use Rattle.wire.proofs.Picks.{pick-true, pick-false}
 use Rattle.block.specs.Block.{next, linked}
-use Rattle.model.specs.Geometry.{Geo, blockSize, dataAt, usedCount}
+use Rattle.model.specs.Geometry.{Geo, dataAt, usedCount}
 use Rattle.super_block.specs.declared.SuperBlock.{SuperBlock}
 use Rattle.super_block.specs.Super.{geoOf, Fit}
 use Rattle.super_block.proofs.Fits.{placed, fit-long}
@@ -20,7 +19,7 @@ use Rattle.dir_entry.specs.Entry.{placeAt}
 use Rattle.read_dir.specs.declared.Place.{Place}
 use Rattle.read_dir.specs.declared.Summed.{Summed}
 use Rattle.read_dir.specs.declared.Summed.the-variants.{Total, Damaged}
-use Rattle.read_dir.specs.Walk.{inArea, walk}
+use Rattle.read_dir.specs.Walk.{walk}
 use Rattle.read_dir.specs.Finds.{sumFrom}
 use Rattle.own_entry.specs.declared.Own.{Own}
 use Rattle.own_entry.specs.declared.Own.the-variants.{Root, At}

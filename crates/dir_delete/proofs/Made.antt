@@ -1,8 +1,8 @@
 -- After the blocks of an entry are given back: bits, count and directory are what a commit asks for, and what else stays.
-use mathlib.Core.Path.{_≡_, refl, sym, ap, _∙_, subst}
+use mathlib.Core.Path.{_≡_, sym, ap, _∙_, subst}
 use mathlib.Core.Option.{some}
 use mathlib.Core.List.{List, [], _∷_, _++_}
-use Prim.Native.Nat.{ℕ, zero, suc, _+_, _-_, _*_, _^_, _≤_, _<_}
+use Prim.Native.Nat.{ℕ, zero, suc, _+_, _-_, _*_, _≤_, _<_}
 use native.Mathlib.Omega.{arith}
 use native.Mathlib.Decide.{decLt}
 use lib.ListN.{length}
@@ -10,8 +10,8 @@ use Rattle.wire.specs.Be.{bytes}
 use Rattle.bits.specs.Bit.{bit}
 use Rattle.block.specs.Block.{cell, Kept}
 use Rattle.block.proofs.Laws.{kept-trans, kept-less}
-use Rattle.model.specs.Tree.{Name, Tree, sub, Edit, Some, find}
-use Rattle.model.specs.Render.{Piece, blocksAt, padded, entryBytes, view, render, ats, count, blocks, Shows, ShowsAll}
+use Rattle.model.specs.Tree.{Name, Tree, Some, find}
+use Rattle.model.specs.Render.{Piece, blocksAt, padded, render, ats, count, blocks, Shows, ShowsAll}
 use Rattle.model.specs.Geometry.{Geo, blockSize, mapAt, dataAt, mapBits, superBytes, usedCount, Sound}
 use Rattle.model.specs.Volume.{All, GoodTree, Volume}
 use Rattle.model.proofs.Areas.{area, few, size-large, volume-laid}
@@ -64,9 +64,6 @@ module _ (g : Geo) (I : List ℕ) (d : ℕ) (t : Tree d) (v : Volume g I d t) (p
   fewer i = sub-in (blockSize g) i d p t s f
 
   module _ (u : Tree (s .0)) (left : List Piece) (gone W : List ℕ) (w : Without g I W (s .0) (s .1) u left gone) where
-    size : ℕ
-    size = blockSize g
-
     -- only blocks of the data were stored to
     touched-data : (b : ℕ) → (dataAt g ≤ b → b < g .n → ⊥) → count b (w .touched) ≡ 0
     touched-data b h = go (decLt 0 (count b (w .touched)))

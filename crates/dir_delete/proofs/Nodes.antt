@@ -1,5 +1,5 @@
 -- What a deleted entry stands for is one chain: a file's or a device's blocks, or the one block of a directory without entries.
-use mathlib.Core.Path.{_≡_, refl, sym, ap, _∙_, subst}
+use mathlib.Core.Path.{_≡_, refl, sym, ap, subst}
 use mathlib.Core.List.{List, [], _∷_, _++_}
 use Prim.Native.Nat.{ℕ, zero, suc, _-_}
 use Rattle.wire.specs.Be.{bytes}

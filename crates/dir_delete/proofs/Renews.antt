@@ -1,31 +1,29 @@
 -- The directory's own entry renewed, or none where it is the root: what the image is then.
 use mathlib.Core.Path.{_≡_, refl, sym, ap, _∙_, subst}
-use mathlib.Core.Option.{Option, none, some}
+use mathlib.Core.Option.{Option, some}
 use mathlib.Core.List.{List, [], _∷_, _++_}
-use Prim.Native.Nat.{ℕ, zero, suc, _+_, _-_, _*_, _^_, _≤_, _<_}
+use Prim.Native.Nat.{ℕ, zero, suc, _+_, _^_, _≤_, _<_}
 use native.Mathlib.Omega.{arith}
 use lib.ListN.{length}
-use Rattle.wire.specs.Be.{bytes}
 use Rattle.block.specs.Block.{cell, Off, Kept}
 use Rattle.block.proofs.Laws.{kept-trans, kept-less}
 use Rattle.model.specs.Tree.{Name, Tree, sum, Edit, edit, Some, find}
-use Rattle.model.specs.Render.{Piece, padded, render, ats, count, blocks, ownTime, Shows, ShowsAll}
-use Rattle.model.specs.Geometry.{Geo, blockSize, mapAt, dataAt, mapBits, superBytes, Sound}
-use Rattle.model.specs.Volume.{All, Volume}
-use Rattle.model.specs.Calls.{Outside, Makes}
+use Rattle.model.specs.Render.{Piece, render, ats, count, blocks, ownTime}
+use Rattle.model.specs.Geometry.{Geo, blockSize, dataAt, mapBits, superBytes, Sound}
+use Rattle.model.specs.Volume.{Volume}
+use Rattle.model.specs.Calls.{Makes}
 use Rattle.model.proofs.Areas.{area, size-large}
 use Rattle.model.proofs.Commit.{Commit, commit, commit-root}
 use Rattle.model.proofs.Counts.{count-same, count-append, ats-append}
 use Rattle.model.proofs.Cuts.{Cut, OwnCut, own-cut}
 use Rattle.model.proofs.Demand.{whole-super}
 use Rattle.model.proofs.Frame.{SameBlock, shows-frame, blocks-edit}
-use Rattle.model.proofs.Full.{Whole, whole-tree}
+use Rattle.model.proofs.Full.{whole-tree}
 use Rattle.model.proofs.Lists.{not-some}
 use Rattle.model.proofs.Owns.{renewedAt, shows-kept, own-kept, own-renewed}
 use Rattle.bitmap_block.specs.Bitmap.{mark}
-use Rattle.bitmap_block.proofs.Steps.{mark-is, sound-kept, mark-kept}
+use Rattle.bitmap_block.proofs.Steps.{mark-is, mark-kept}
 use Rattle.dir_entry.specs.Entry.{placeAt}
-use Rattle.read_dir.specs.declared.Place.{Place}
 use Rattle.own_entry.specs.declared.Own.{Own}
 use Rattle.own_entry.specs.declared.Own.the-variants.{Root, At}
 use Rattle.own_entry.specs.Own.{ownRenewed, OwnOf}
@@ -142,7 +140,7 @@ module _ (g : Geo) (I J : List ℕ) (d : ℕ) (t : Tree d) (n : Name) (p : List 
 
 -- ---- both
 
--- a store into the root's own entry, which it has not
+-- the own entry stands at one place
 some-one : (a b : ℕ) (o : Option ℕ) → o ≡ some a → o ≡ some b → a ≡ b
 some-one a b o x y = let both : some a ≡ some b = sym x ∙ y in cc
 

@@ -1,19 +1,18 @@
 -- Where the deleted entry stands in its directory, and what the directory is without it: its block keeps an entry or is the first, or it goes.
-use mathlib.Core.Path.{_≡_, refl, sym, ap, _∙_, subst}
+use mathlib.Core.Path.{_≡_, refl, sym, ap, _∙_}
 use mathlib.Core.Bool.{true, false}
 use mathlib.Core.Logic.{_⊎_, inl, inr}
-use mathlib.Core.Option.{Option, none, some}
+use mathlib.Core.Option.{some}
 use mathlib.Core.List.{List, [], _∷_, _++_, append-assoc}
 use Prim.Native.Nat.{ℕ, suc, _+_, _≤_}
 use native.Mathlib.Omega.{arith}
 use lib.ListN.{length}
 use Rattle.wire.proofs.Picks.{either, pick-true, pick-false}
-use Rattle.model.specs.Tree.{Name, Entry, Block, first, lessFirst, then, called, holds, lookup, weight, used, fill, unlessBare, deleteLater, delete}
-use Rattle.model.specs.Render.{Piece, blocksAt, offset}
+use Rattle.model.specs.Tree.{Name, Entry, Block, first, lessFirst, then, called, holds, lookup, weight, used, unlessBare, deleteLater, delete}
+use Rattle.model.specs.Render.{blocksAt, offset}
 use Rattle.model.specs.Calls.{bareLeft, leftoverLater, leftover}
-use Rattle.model.proofs.Lists.{not-some, then-some, first-here, first-there, lessFirst-here, lessFirst-there}
+use Rattle.model.proofs.Lists.{not-some, first-here, first-there, lessFirst-here, lessFirst-there}
 use Rattle.model.proofs.Others.{lookup-here, lookup-there}
-use Rattle.read_dir.specs.declared.Place.{Place}
 use Rattle.read_dir.specs.Finds.{placed}
 use Rattle.tree_walk.specs.Shown.{spotOf}
 
@@ -113,7 +112,7 @@ module _ {X : Type 0} (B : ℕ) (n : Name) (e : Entry X) where
     pub over : leftover B n bs ≡ []
     pub why : (blocksAt bs ≡ at) ⊎ (1 ≤ length (left ++ right))
 
-  -- It goes: it is after block p, and held this entry alone.
+  -- It goes: it comes after the block `last`, and held this entry alone.
   pub record Goes (bs : List (Block X)) : Type 0 where
     pub front : List (Block X)
     pub last : Block X
@@ -167,6 +166,7 @@ module _ {X : Type 0} (B : ℕ) (n : Name) (e : Entry X) where
           let r = last-of b (s .earlier) in
           let z = none-left (s .left) (s .right) q in
           let one : s .left ++ (e ∷ s .right) ≡ e ∷ [] = λ i. z .0 i ++ (e ∷ z .1 i) in
+          let none : unlessBare (s .at) (s .left ++ s .right) (s .later) ≡ s .later = ap (λ (es : List (Entry X)). unlessBare (s .at) es (s .later)) q ∙ no-block (s .at) (s .later) in
           inr (record {
             front = r .0;
             last = r .1;
@@ -175,8 +175,7 @@ module _ {X : Type 0} (B : ℕ) (n : Name) (e : Entry X) where
             is = ap (λ (y : List (Block X)). b ∷ y) (s .is ∙ ap (λ (es : List (Entry X)). s .earlier ++ (block (s .at) es ∷ s .later)) one)
                 ∙ split-last b (s .earlier) (block (s .at) (e ∷ []) ∷ s .later) r;
             spot = pick-false _ _ c ∙ s .spot ∙ ap (λ (es : List (Entry X)). placed (s .at) (used es)) (z .0) ∙ ap (placed (s .at)) no-bytes;
-            gone = pick-false _ _ c ∙ ap (λ (y : List (Block X)). b ∷ y) (s .gone ∙ ap (λ (es : List (Entry X)). s .earlier ++ unlessBare (s .at) es (s .later)) q ∙ ap (λ (y : List (Block X)). s .earlier ++ y) (no-block (s .at) (s .later)))
-                ∙ split-last b (s .earlier) (s .later) r;
+            gone = pick-false _ _ c ∙ ap (λ (y : List (Block X)). b ∷ y) (s .gone ∙ ap (λ (y : List (Block X)). s .earlier ++ y) none) ∙ split-last b (s .earlier) (s .later) r;
             over = pick-false _ _ c ∙ s .over ∙ ap (bareLeft B (s .at) (blocksAt (s .later))) q;
           })
       after-first c s (x ∷ m) q =

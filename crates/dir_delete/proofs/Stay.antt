@@ -2,38 +2,36 @@
 use mathlib.Core.Path.{_≡_, refl, sym, ap, _∙_, subst}
 use mathlib.Core.Bool.{true, false}
 use mathlib.Core.Logic.{_⊎_, inl, inr}
-use mathlib.Core.List.{List, [], _∷_, _++_, append-assoc, append-nil}
-use Prim.Native.Nat.{ℕ, zero, suc, _+_, _-_, _*_, _^_, _≤_, _<_}
-use native.Mathlib.Nat.{add-zero}
+use mathlib.Core.List.{List, [], _∷_, _++_, append-assoc}
+use Prim.Native.Nat.{ℕ, _+_, _-_, _*_, _≤_}
 use native.Mathlib.Decide.{ℕ-discrete}
 use native.Mathlib.Omega.{arith}
 use lib.ListN.{length, getD, length-append}
 use borrow.Author.Tests.{eq-eqb, ne-eqb}
 use Rattle.wire.specs.Be.{bytes}
-use Rattle.wire.specs.Pick.{pick, zeroFrom}
+use Rattle.wire.specs.Pick.{zeroFrom}
 use Rattle.wire.proofs.Laws.{length-bytes}
-use Rattle.wire.proofs.Picks.{either, not-both, pick-true, pick-false}
+use Rattle.wire.proofs.Picks.{either, pick-true, pick-false}
 use Rattle.wire.proofs.Zeros.{zeros-shown}
 use Rattle.block.specs.Block.{cell, Off, Kept}
 use Rattle.block.proofs.Laws.{kept-less}
-use Rattle.model.specs.Tree.{Name, Entry, Block, Below, Tree, lookup, weight, used, delete}
+use Rattle.model.specs.Tree.{Name, Entry, Block, Below, Tree, weight, used, delete}
 use Rattle.model.specs.Render.{Piece, View, blocksAt, padded, entryBytes, entriesBytes, nodePieces, entryPieces, dirPieces, view, render, ats, count, blocks, Shows, ShowsAll}
-use Rattle.model.specs.Geometry.{Geo, blockSize, dataAt, Sound}
-use Rattle.model.specs.Volume.{All, GoodEntry, GoodBlock, GoodBelow, GoodTree}
-use Rattle.model.specs.Calls.{leftover}
+use Rattle.model.specs.Geometry.{Geo, blockSize, dataAt}
+use Rattle.model.specs.Volume.{All, GoodEntry, GoodBlock, GoodBelow}
 use Rattle.model.proofs.Alike.{length-entry}
 use Rattle.model.proofs.Areas.{size-large}
-use Rattle.model.proofs.Commit.{shows-one, shows-two}
-use Rattle.model.proofs.Counts.{count-same, count-other, count-none, count-cons, count-append, ats-append, length-ats}
+use Rattle.model.proofs.Commit.{shows-two}
+use Rattle.model.proofs.Counts.{count-same, count-other, count-none, count-append, ats-append, length-ats}
 use Rattle.model.proofs.Cuts.{Cut, dir-split, entries-split, bytes-split, upTo}
 use Rattle.model.proofs.Entries.{block-reads}
-use Rattle.model.proofs.Frame.{SameBlock, shows-right, cut-count, cut-shows}
-use Rattle.model.proofs.Full.{Whole, whole-tree, length-entries, length-padded}
+use Rattle.model.proofs.Frame.{shows-right, cut-count, cut-shows}
+use Rattle.model.proofs.Full.{whole-tree, length-entries}
 use Rattle.model.proofs.Good.{good-delete}
 use Rattle.dir_entry.specs.Entry.{header}
-use Rattle.read_dir.specs.Finds.{placed}
+use Rattle.read_dir.specs.Cursor.{Lies}
 use Rattle.tree_walk.specs.Shown.{headOf, spotOf}
-use Rattle.tree_walk.proofs.Parts.{Stored, Part, stored-right, stored-in, block-inside}
+use Rattle.tree_walk.proofs.Parts.{Part, block-inside}
 use Rattle.tree_walk.proofs.Walks.{head-weight}
 use Rattle.dir_delete.specs.Delete.{cutOut, lessBare, entryGone}
 use Rattle.dir_delete.proofs.Moved.{cut-kept, cut-shown}
@@ -147,9 +145,6 @@ named B S v J k c (x ∷ es) h a s z =
 -- ---- the block stays
 
 module _ (g : Geo) (I : List ℕ) (d : ℕ) (s : Tree d) (part : Part g I d s) (n : Name) (e : Entry (Below d)) (st : Stays (blockSize g) n e s) where
-  abbrev size : ℕ
-  size = blockSize g
-
   abbrev shows : View (Below d)
   shows = view (blockSize g) d
 
@@ -157,27 +152,27 @@ module _ (g : Geo) (I : List ℕ) (d : ℕ) (s : Tree d) (part : Part g I d s) (
   held : GoodBlock (blockSize g) (GoodBelow (blockSize g) d) (record { at = st .at; entries = st .left ++ (e ∷ st .right) })
   held = all-mid (GoodBlock (blockSize g) (GoodBelow (blockSize g) d)) (st .front) _ (st .later) (subst (All (GoodBlock (blockSize g) (GoodBelow (blockSize g) d))) (st .is) (part .good .all))
 
-  out : Cut (blockSize g) (dirPieces (blockSize g) (view (blockSize g) d) s) (dirPieces (blockSize g) (view (blockSize g) d) (delete n s)) (nodePieces (view (blockSize g) d) (e .node)) []
-      (blockSize g * st .at + 4 + used (st .left)) (entryBytes (view (blockSize g) d) e) []
-  out = out-cut (blockSize g) (view (blockSize g) d) n e s st
+  out : Cut (blockSize g) (dirPieces (blockSize g) shows s) (dirPieces (blockSize g) shows (delete n s)) (nodePieces shows (e .node)) []
+      (blockSize g * st .at + 4 + used (st .left)) (entryBytes shows e) []
+  out = out-cut (blockSize g) shows n e s st
 
   -- the bytes of its entries
-  low-long : length (entriesBytes (view (blockSize g) d) (st .left)) ≡ used (st .left)
-  low-long = length-entries (view (blockSize g) d) (st .left)
+  low-long : length (entriesBytes shows (st .left)) ≡ used (st .left)
+  low-long = length-entries shows (st .left)
 
-  long : length (entriesBytes (view (blockSize g) d) (st .left) ++ (entryBytes (view (blockSize g) d) e ++ entriesBytes (view (blockSize g) d) (st .right))) ≤ blockSize g - 5
+  long : length (entriesBytes shows (st .left) ++ (entryBytes shows e ++ entriesBytes shows (st .right))) ≤ blockSize g - 5
   long =
       omega (
         arith,
-        ap length (bytes-split (blockSize g) (view (blockSize g) d) (st .left) e (st .right)),
-        length-entries (view (blockSize g) d) (st .left ++ (e ∷ st .right)),
+        ap length (bytes-split (blockSize g) shows (st .left) e (st .right)),
+        length-entries shows (st .left ++ (e ∷ st .right)),
         held .fits,
       )
 
   room : used (st .left) + weight e ≤ blockSize g - 5
-  room = omega (arith, low-long, length-entry (view (blockSize g) d) e, simp length-append at long)
+  room = omega (arith, low-long, length-entry shows e, simp length-append at long)
 
-  among : 1 ≤ count (st .at) (ats (dirPieces (blockSize g) (view (blockSize g) d) s))
+  among : 1 ≤ count (st .at) (ats (dirPieces (blockSize g) shows s))
   unfolding out out-cut
   among = cut-old _ _ _ _ _ _ _ _ out
 
@@ -193,22 +188,22 @@ module _ (g : Geo) (I : List ℕ) (d : ℕ) (s : Tree d) (part : Part g I d s) (
   unfolding stayed
   stayed-kept = cut-kept (blockSize g) I (st .at) (used (st .left)) (weight e) (omega (arith, room)) (omega (arith, size-large g)) in-image
 
-  stayed-block : Shows stayed (blockSize g * st .at) (bytes 4 (blocksAt (st .later)) ++ padded (blockSize g - 4) (entriesBytes (view (blockSize g) d) (st .left) ++ entriesBytes (view (blockSize g) d) (st .right)))
+  stayed-block : Shows stayed (blockSize g * st .at) (bytes 4 (blocksAt (st .later)) ++ padded (blockSize g - 4) (entriesBytes shows (st .left) ++ entriesBytes shows (st .right)))
   unfolding stayed render out out-cut
   stayed-block =
       cut-shown (blockSize g) I (st .at) (used (st .left)) (weight e) (omega (arith, room)) (omega (arith, size-large g)) in-image (blocksAt (st .later))
-      (entriesBytes (view (blockSize g) d) (st .left)) (entryBytes (view (blockSize g) d) e) (entriesBytes (view (blockSize g) d) (st .right)) low-long (length-entry (view (blockSize g) d) e) (omega (arith, long))
+      (entriesBytes shows (st .left)) (entryBytes shows e) (entriesBytes shows (st .right)) low-long (length-entry shows e) (omega (arith, long))
       (shows-right (blockSize g) I (out .before) _ (subst (ShowsAll (blockSize g) I) (out .old) (part .stored .shown)) .0)
 
-  pub stays-without : Without g I stayed d s (delete n s) [] (ats (nodePieces (view (blockSize g) d) (e .node)))
+  pub stays-without : Without g I stayed d s (delete n s) [] (ats (nodePieces shows (e .node)))
   unfolding render ats cell out out-cut
   stays-without =
       let B : ℕ = blockSize g in
       record {
         touched = st .at ∷ [];
         kept = kept-less (λ b o h q x y. one-only b (st .at) h q) stayed-kept;
-        among = λ i h. subst (λ (j : ℕ). 1 ≤ count j (ats (dirPieces B (view B d) s))) (sym (only-one i (st .at) h)) among;
-        seen = λ i h. subst (λ (j : ℕ). 1 ≤ count j (ats (dirPieces B (view B d) (delete n s))) + count j []) (sym (only-one i (st .at) h)) (omega (arith, cut-new _ _ _ _ _ _ _ _ out));
+        among = λ i h. subst (λ (j : ℕ). 1 ≤ count j (ats (dirPieces B shows s))) (sym (only-one i (st .at) h)) among;
+        seen = λ i h. subst (λ (j : ℕ). 1 ≤ count j (ats (dirPieces B shows (delete n s))) + count j []) (sym (only-one i (st .at) h)) (omega (arith, cut-new _ _ _ _ _ _ _ _ out));
         shown = cut-shows B _ _ _ _ _ _ _ out I stayed (whole-tree B (omega (arith, size-large g)) d s (part .good)) (part .stored .once) (part .stored .shown)
             (λ b h k q i l. stayed-kept .at b i (λ x _ _. q x) l) stayed-block tt;
         remains = tt;
@@ -221,9 +216,6 @@ module _ (g : Geo) (I : List ℕ) (d : ℕ) (s : Tree d) (part : Part g I d s) (
   not-bare : 1 ≤ length (st .left ++ st .right) → zeroFrom stayed (blockSize g * st .at + 4) (blockSize g - 4) ≡ false
   not-bare h = go (either (zeroFrom stayed (blockSize g * st .at + 4) (blockSize g - 4)))
     where
-      B : ℕ
-      B = blockSize g
-
       kept : GoodBlock (blockSize g) (GoodBelow (blockSize g) d) (record { at = st .at; entries = st .left ++ st .right })
       kept =
           all-mid (GoodBlock (blockSize g) (GoodBelow (blockSize g) d)) (st .front) _ (st .later)
@@ -232,17 +224,17 @@ module _ (g : Geo) (I : List ℕ) (d : ℕ) (s : Tree d) (part : Part g I d s) (
       four : blockSize g * st .at + length (bytes 4 (blocksAt (st .later))) ≡ blockSize g * st .at + 4
       four = omega (arith, length-bytes 4 (blocksAt (st .later)))
 
-      data-shown : Shows stayed (blockSize g * st .at + 4) (padded (blockSize g - 4) (entriesBytes (view (blockSize g) d) (st .left ++ st .right)))
+      data-shown : Shows stayed (blockSize g * st .at + 4) (padded (blockSize g - 4) (entriesBytes shows (st .left ++ st .right)))
       data-shown =
-          subst (λ (l : List ℕ). Shows stayed (blockSize g * st .at + 4) (padded (blockSize g - 4) l)) (sym (bytes-both (blockSize g) (view (blockSize g) d) (st .left) (st .right)))
-          (subst (λ (j : ℕ). Shows stayed j (padded (blockSize g - 4) (entriesBytes (view (blockSize g) d) (st .left) ++ entriesBytes (view (blockSize g) d) (st .right)))) four
+          subst (λ (l : List ℕ). Shows stayed (blockSize g * st .at + 4) (padded (blockSize g - 4) l)) (sym (bytes-both (blockSize g) shows (st .left) (st .right)))
+          (subst (λ (j : ℕ). Shows stayed j (padded (blockSize g - 4) (entriesBytes shows (st .left) ++ entriesBytes shows (st .right)))) four
           (shows-two stayed (blockSize g * st .at) (bytes 4 (blocksAt (st .later))) _ stayed-block))
 
       go : (zeroFrom stayed (blockSize g * st .at + 4) (blockSize g - 4) ≡ true) ⊎ (zeroFrom stayed (blockSize g * st .at + 4) (blockSize g - 4) ≡ false)
           → zeroFrom stayed (blockSize g * st .at + 4) (blockSize g - 4) ≡ false
       go (inr f) = f
       go (inl t) =
-          absurd (named (blockSize g) (GoodBelow (blockSize g) d) (view (blockSize g) d) stayed (blockSize g * st .at + 4) (blockSize g - 4) (st .left ++ st .right) h (kept .each) data-shown
+          absurd (named (blockSize g) (GoodBelow (blockSize g) d) shows stayed (blockSize g * st .at + 4) (blockSize g - 4) (st .left ++ st .right) h (kept .each) data-shown
           (zeros-shown stayed (blockSize g * st .at + 4) (blockSize g - 4) t 17 (omega (arith, size-large g))))
 
   same-less : lessBare g stayed (blocksAt s) (st .at) ≡ stayed
@@ -255,10 +247,18 @@ module _ (g : Geo) (I : List ℕ) (d : ℕ) (s : Tree d) (part : Part g I d s) (
       go (inr w) (no q) = pick-false _ _ (ne-eqb (st .at) (blocksAt s) q) ∙ pick-false _ _ (not-bare w)
 
   -- That is the image that the stores make.
-  pub stays-is : entryGone g I (blocksAt s) (headOf (view (blockSize g) d) e) (spotOf n s) ≡ stayed
+  pub stays-is : entryGone g I (blocksAt s) (headOf shows e) (spotOf n s) ≡ stayed
   unfolding entryGone stayed
   stays-is =
-      let w : header + headOf (view (blockSize g) d) e .len ≡ weight e = omega (arith, head-weight (view (blockSize g) d) 0 e) in
-      ap (entryGone g I (blocksAt s) (headOf (view (blockSize g) d) e)) (st .spot)
+      let w : header + headOf shows e .len ≡ weight e = omega (arith, head-weight shows 0 e) in
+      ap (entryGone g I (blocksAt s) (headOf shows e)) (st .spot)
       ∙ ap (λ (k : ℕ). lessBare g (cutOut (blockSize g) I (st .at) (used (st .left)) k) (blocksAt s) (st .at)) w
       ∙ (unfold stayed in same-less)
+
+  -- Where the entry stands: in a block of the data, and it ends there.
+  pub stays-lies : Lies (blockSize g) (dataAt g) (g .n) I (headOf shows e) (spotOf n s)
+  unfolding render
+  stays-lies =
+      let r = part .stored .range (st .at) among in
+      subst (Lies (blockSize g) (dataAt g) (g .n) I (headOf shows e)) (sym (st .spot))
+      (record { from = r .0; below = r .1; ends = omega (arith, room, head-weight shows (used (st .left)) e) })

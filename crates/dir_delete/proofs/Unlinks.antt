@@ -1,15 +1,14 @@
 -- A block that goes: the block before it is found, gets its next address, and the image then shows the directory without the entry.
 use mathlib.Core.Path.{_≡_, refl, sym, ap, _∙_, subst}
-use mathlib.Core.Bool.{true, false}
+use mathlib.Core.Bool.{true}
 use mathlib.Core.List.{List, [], _∷_, _++_, append-assoc, append-nil}
 use Prim.Native.Nat.{ℕ, zero, suc, _+_, _-_, _*_, _^_, _≤_, _<_}
-use native.Mathlib.Nat.{add-zero}
 use native.Mathlib.Omega.{arith}
 use lib.ListN.{length, length-append, length-replicate}
 use borrow.Author.Tests.{eq-eqb, ne-eqb, lt-leb}
 use Rattle.wire.specs.Be.{bytes, splice, zeros}
-use Rattle.wire.specs.Pick.{pick, zeroFrom}
-use Rattle.wire.proofs.Laws.{length-bytes, length-splice}
+use Rattle.wire.specs.Pick.{zeroFrom}
+use Rattle.wire.proofs.Laws.{length-bytes}
 use Rattle.wire.proofs.Picks.{pick-true, pick-false}
 use Rattle.wire.proofs.Zeros.{zeros-pass}
 use Rattle.block.specs.Block.{cell, next, linked, Off, Kept}
@@ -22,20 +21,21 @@ use Rattle.model.specs.Calls.{bareLeft, leftover}
 use Rattle.model.proofs.Alike.{length-entry}
 use Rattle.model.proofs.Areas.{few, size-large}
 use Rattle.model.proofs.Commit.{shows-both, shows-two, shows-stored, shows-after}
-use Rattle.model.proofs.Counts.{count-same, count-none, count-cons, count-append, ats-append, length-ats}
+use Rattle.model.proofs.Counts.{count-same, count-cons, count-append, ats-append, length-ats}
 use Rattle.model.proofs.Cuts.{upTo}
 use Rattle.model.proofs.Entries.{block-ends}
 use Rattle.model.proofs.Frame.{SameBlock, shows-append, shows-left, shows-right, shows-frame}
 use Rattle.model.proofs.Full.{Whole, whole-tree}
 use Rattle.model.proofs.Owns.{shows-kept}
 use Rattle.dir_entry.specs.Entry.{header}
+use Rattle.read_dir.specs.Cursor.{Lies}
 use Rattle.tree_walk.specs.Shown.{headOf, spotOf}
 use Rattle.tree_walk.proofs.Parts.{Stored, Part, stored-right, stored-tail, stored-in, stored-few, chain-long, block-inside, next-shown}
 use Rattle.tree_walk.proofs.Walks.{head-weight}
 use Rattle.dir_delete.specs.Delete.{cutOut, released, beforeFrom, unlinked, lessBare, entryGone}
 use Rattle.dir_delete.proofs.Moved.{cut-kept, cut-next, cut-shown}
 use Rattle.dir_delete.proofs.Sites.{Goes}
-use Rattle.dir_delete.proofs.Stay.{Without, all-mid, dir-block, one-only, only-one}
+use Rattle.dir_delete.proofs.Stay.{Without, all-mid, dir-block, one-only}
 
 -- The block before is found by the next addresses alone.
 before-ext : (B n : ℕ) (I J : List ℕ) → ((a : ℕ) → next B J a ≡ next B I a) → (k a b : ℕ) → beforeFrom B n J k a b ≡ beforeFrom B n I k a b
@@ -46,12 +46,15 @@ before-ext B n I J h (suc k) a b = rw (h a, before-ext B n I J h k (next B I a) 
 -- ---- along the chain of a directory
 
 module _ (g : Geo) (I : List ℕ) (sound : Sound g (length I)) (d : ℕ) where
+  abbrev shows : View (Below d)
+  shows = view (blockSize g) d
+
   pieces : Tree d → List Piece
-  pieces bs = dirPieces (blockSize g) (view (blockSize g) d) bs
+  pieces bs = dirPieces (blockSize g) shows bs
 
   below : (b : Block (Below d)) (bs : Tree d) → Stored g I (pieces (b ∷ bs)) → Stored g I (pieces bs)
   unfolding dirPieces pieces
-  below b bs s = stored-right g I (entryPieces (view (blockSize g) d) (b .entries)) (dirPieces (blockSize g) (view (blockSize g) d) bs) (stored-tail g I _ _ s)
+  below b bs s = stored-right g I (entryPieces shows (b .entries)) (dirPieces (blockSize g) shows bs) (stored-tail g I _ _ s)
 
   head-in : (b : Block (Below d)) (bs : Tree d) → Stored g I (pieces (b ∷ bs)) → (dataAt g ≤ b .at) × (b .at < g .n)
   unfolding dirPieces pieces
@@ -70,15 +73,15 @@ module _ (g : Geo) (I : List ℕ) (sound : Sound g (length I)) (d : ℕ) where
   dir-among : (xs : Tree d) (b : Block (Below d)) (ys : Tree d) → 1 ≤ count (b .at) (ats (pieces (xs ++ (b ∷ ys))))
   unfolding ats pieces
   dir-among xs b ys =
-      rw (dir-block (blockSize g) (view (blockSize g) d) xs (b .at) (b .entries) ys, ats-append, count-append)
-      (omega (arith, count-same (b .at) (b .at) (ats (entryPieces (view (blockSize g) d) (b .entries) ++ dirPieces (blockSize g) (view (blockSize g) d) ys)) refl))
+      rw (dir-block (blockSize g) shows xs (b .at) (b .entries) ys, ats-append, count-append)
+      (omega (arith, count-same (b .at) (b .at) (ats (entryPieces shows (b .entries) ++ dirPieces (blockSize g) shows ys)) refl))
 
   -- and not at the head, where it comes later
   first-other : (b : Block (Below d)) (bs : Tree d) (a : ℕ) → Stored g I (pieces (b ∷ bs)) → 1 ≤ count a (ats (pieces bs)) → b .at ≡ a → ⊥
   unfolding dirPieces ats pieces
   first-other b bs a s h e =
-      let E : List Piece = entryPieces (view (blockSize g) d) (b .entries) in
-      let T : List Piece = dirPieces (blockSize g) (view (blockSize g) d) bs in
+      let E : List Piece = entryPieces shows (b .entries) in
+      let T : List Piece = dirPieces (blockSize g) shows bs in
       omega (arith, s .once a, count-same a (b .at) (ats (E ++ T)) (sym e), ap (count a) (ats-append E T), count-append a (ats E) (ats T))
 
   module _ (last blk : Block (Below d)) (later : Tree d) where
@@ -124,6 +127,9 @@ no-entries c = let e : c - 0 ≡ c = omega arith in ap (λ (k : ℕ). zeros k) e
 -- ---- the block goes
 
 module _ (g : Geo) (I : List ℕ) (d : ℕ) (s : Tree d) (part : Part g I d s) (n : Name) (e : Entry (Below d)) (st : Goes (blockSize g) n e s) where
+  abbrev shown-as : View (Below d)
+  shown-as = view (blockSize g) d
+
   -- the block that goes, the one before it, and the bytes of the latter's entries
   blk : Block (Below d)
   blk = record { at = st .at; entries = e ∷ [] }
@@ -132,36 +138,36 @@ module _ (g : Geo) (I : List ℕ) (d : ℕ) (s : Tree d) (part : Part g I d s) (
   to = blocksAt (st .later)
 
   filled : List ℕ
-  filled = padded (blockSize g - 4) (entriesBytes (view (blockSize g) d) (st .last .entries))
+  filled = padded (blockSize g - 4) (entriesBytes shown-as (st .last .entries))
 
   front : List Piece
-  front = upTo (blockSize g) (view (blockSize g) d) (st .last .at) (st .front)
+  front = upTo (blockSize g) shown-as (st .last .at) (st .front)
 
   own : List Piece
-  own = entryPieces (view (blockSize g) d) (st .last .entries)
+  own = entryPieces shown-as (st .last .entries)
 
   node : List Piece
-  node = nodePieces (view (blockSize g) d) (e .node)
+  node = nodePieces shown-as (e .node)
 
   rest : List Piece
-  rest = dirPieces (blockSize g) (view (blockSize g) d) (st .later)
+  rest = dirPieces (blockSize g) shown-as (st .later)
 
   linkedTo : ℕ → Piece
   linkedTo z = record { at = st .last .at; full = bytes 4 z ++ filled }
 
   emptied : Piece
-  emptied = record { at = st .at; full = bytes 4 to ++ padded (blockSize g - 4) (entryBytes (view (blockSize g) d) e ++ []) }
+  emptied = record { at = st .at; full = bytes 4 to ++ padded (blockSize g - 4) (entryBytes shown-as e ++ []) }
 
   old : render (blockSize g) d s ≡ front ++ (linkedTo (st .at) ∷ (own ++ (emptied ∷ (node ++ rest))))
   unfolding render dirPieces entryPieces entriesBytes blocksAt front linkedTo filled own emptied node rest blk
   old =
-      ap (dirPieces (blockSize g) (view (blockSize g) d)) (st .is)
-      ∙ dir-block (blockSize g) (view (blockSize g) d) (st .front) (st .last .at) (st .last .entries) (blk ∷ st .later)
-      ∙ rw (append-nil (nodePieces (view (blockSize g) d) (e .node)))
+      ap (dirPieces (blockSize g) shown-as) (st .is)
+      ∙ dir-block (blockSize g) shown-as (st .front) (st .last .at) (st .last .entries) (blk ∷ st .later)
+      ∙ rw (append-nil (nodePieces shown-as (e .node)))
 
   new : render (blockSize g) d (delete n s) ≡ front ++ (linkedTo to ∷ (own ++ rest))
   unfolding render front linkedTo filled own rest
-  new = ap (dirPieces (blockSize g) (view (blockSize g) d)) (st .gone) ∙ dir-block (blockSize g) (view (blockSize g) d) (st .front) (st .last .at) (st .last .entries) (st .later)
+  new = ap (dirPieces (blockSize g) shown-as) (st .gone) ∙ dir-block (blockSize g) shown-as (st .front) (st .last .at) (st .last .entries) (st .later)
 
   -- how often a block is in them
   count-old : (i : ℕ) → count i (blocks (blockSize g) d s) ≡ count i (ats front) + (count i (st .last .at ∷ []) + (count i (ats own) + (count i (st .at ∷ []) + (count i (ats node) + count i (ats rest)))))
@@ -239,7 +245,7 @@ module _ (g : Geo) (I : List ℕ) (d : ℕ) (s : Tree d) (part : Part g I d s) (
   unfolding linkedTo
   last-shown = shows-right (blockSize g) I front _ shown-old .0
 
-  at-shown : Shows I (blockSize g * st .at) (bytes 4 to ++ padded (blockSize g - 4) (entryBytes (view (blockSize g) d) e ++ []))
+  at-shown : Shows I (blockSize g * st .at) (bytes 4 to ++ padded (blockSize g - 4) (entryBytes shown-as e ++ []))
   unfolding emptied
   at-shown = shows-right (blockSize g) I own _ (shows-right (blockSize g) I front _ shown-old .1) .0
 
@@ -267,8 +273,8 @@ module _ (g : Geo) (I : List ℕ) (d : ℕ) (s : Tree d) (part : Part g I d s) (
   bare-shown : Shows bare (blockSize g * st .at) (bytes 4 to ++ padded (blockSize g - 4) [])
   unfolding bare
   bare-shown =
-      cut-shown (blockSize g) I (st .at) 0 (weight e) (omega (arith, room)) (omega (arith, size-large g)) at-inside to [] (entryBytes (view (blockSize g) d) e) [] refl
-      (length-entry (view (blockSize g) d) e) (rw append-nil (omega (arith, room, length-entry (view (blockSize g) d) e))) at-shown
+      cut-shown (blockSize g) I (st .at) 0 (weight e) (omega (arith, room)) (omega (arith, size-large g)) at-inside to [] (entryBytes shown-as e) [] refl
+      (length-entry shown-as e) (rw append-nil (omega (arith, room, length-entry shown-as e))) at-shown
 
   -- it is all zero now
   bare-zero : zeroFrom bare (blockSize g * st .at + 4) (blockSize g - 4) ≡ true
@@ -277,7 +283,7 @@ module _ (g : Geo) (I : List ℕ) (d : ℕ) (s : Tree d) (part : Part g I d s) (
       let four : blockSize g * st .at + length (bytes 4 to) ≡ blockSize g * st .at + 4 = omega (arith, length-bytes 4 to) in
       let z : Shows bare (blockSize g * st .at + 4) (padded (blockSize g - 4) [])
       = subst (λ (j : ℕ). Shows bare j (padded (blockSize g - 4) [])) four (shows-two bare (blockSize g * st .at) (bytes 4 to) (padded (blockSize g - 4) []) bare-shown) in
-      zeros-pass bare (blockSize g - 4) (blockSize g * st .at + 4) (λ j l. block-ends (view (blockSize g) d) bare (blockSize g * st .at + 4) (blockSize g - 4) [] j z (omega arith) l)
+      zeros-pass bare (blockSize g - 4) (blockSize g * st .at + 4) (λ j l. block-ends shown-as bare (blockSize g * st .at + 4) (blockSize g - 4) [] j z (omega arith) l)
 
   -- ---- the block before it linked to what follows
 
@@ -346,7 +352,7 @@ module _ (g : Geo) (I : List ℕ) (d : ℕ) (s : Tree d) (part : Part g I d s) (
   unfolding bareLeft ats
   over-at i = ap (λ (l : List Piece). count i (ats l)) (st .over)
 
-  pub goes-without : Without g I unlinkedFrom d s (delete n s) (leftover (blockSize g) n s) (st .at ∷ ats (nodePieces (view (blockSize g) d) (e .node)))
+  pub goes-without : Without g I unlinkedFrom d s (delete n s) (leftover (blockSize g) n s) (st .at ∷ ats (nodePieces shown-as (e .node)))
   unfolding bareLeft node
   goes-without =
       let B : ℕ = blockSize g in
@@ -358,7 +364,7 @@ module _ (g : Geo) (I : List ℕ) (d : ℕ) (s : Tree d) (part : Part g I d s) (
         shown = subst (ShowsAll B unlinkedFrom) (sym new) shown-new;
         remains = subst (ShowsAll B unlinkedFrom) (sym (st .over)) (at-new, tt);
         over = λ i. omega (arith, over-at i, count-old i);
-        counts = λ i. omega (arith, count-old i, count-new i, count-cons i (st .at) (ats (nodePieces (view B d) (e .node))));
+        counts = λ i. omega (arith, count-old i, count-new i, count-cons i (st .at) (ats (nodePieces shown-as (e .node))));
         long = many;
       }
 
@@ -369,27 +375,33 @@ module _ (g : Geo) (I : List ℕ) (d : ℕ) (s : Tree d) (part : Part g I d s) (
   found =
       let B : ℕ = blockSize g in
       let few : length (st .front) < g .n - dataAt g
-      = omega (arith, ap length (st .is), length-append (st .front) (st .last ∷ (blk ∷ st .later)), chain-long B (view B d) s, stored-few g I _ (part .stored)) in
+      = omega (arith, ap length (st .is), length-append (st .front) (st .last ∷ (blk ∷ st .later)), chain-long B shown-as s, stored-few g I _ (part .stored)) in
       before-ext B (g .n) I bare bare-next (g .n - dataAt g) (blocksAt s) (st .at)
       ∙ ap (λ (z : Tree d). beforeFrom B (g .n) I (g .n - dataAt g) (blocksAt z) (st .at)) (st .is)
-      ∙ before-is g I (part .sound) d (st .last) blk (st .later) (st .front) (g .n - dataAt g) few (subst (λ (z : Tree d). Stored g I (dirPieces B (view B d) z)) (st .is) (part .stored))
+      ∙ before-is g I (part .sound) d (st .last) blk (st .later) (st .front) (g .n - dataAt g) few (subst (λ (z : Tree d). Stored g I (dirPieces B shown-as z)) (st .is) (part .stored))
 
   not-first : st .at ≡ blocksAt s → ⊥
   unfolding render pieces blk
   not-first q =
-      head-other g I (part .sound) d (st .last) blk (st .later) (st .front) (subst (λ (z : Tree d). Stored g I (dirPieces (blockSize g) (view (blockSize g) d) z)) (st .is) (part .stored))
+      head-other g I (part .sound) d (st .last) blk (st .later) (st .front) (subst (λ (z : Tree d). Stored g I (dirPieces (blockSize g) shown-as z)) (st .is) (part .stored))
       (ap blocksAt (sym (st .is)) ∙ sym q)
 
-  pub goes-is : entryGone g I (blocksAt s) (headOf (view (blockSize g) d) e) (spotOf n s) ≡ released g unlinkedFrom (st .at)
+  pub goes-is : entryGone g I (blocksAt s) (headOf shown-as e) (spotOf n s) ≡ released g unlinkedFrom (st .at)
   unfolding entryGone lessBare unlinked unlinkedFrom bare
   goes-is =
       let B : ℕ = blockSize g in
-      let w : header + headOf (view B d) e .len ≡ weight e = omega (arith, head-weight (view B d) 0 e) in
+      let w : header + headOf shown-as e .len ≡ weight e = omega (arith, head-weight shown-as 0 e) in
       let J : List ℕ = cutOut B I (st .at) 0 (weight e) in
       let p : beforeFrom B (g .n) J (g .n - dataAt g) (blocksAt s) (st .at) ≡ st .last .at = unfold bare in found in
       let z : next B J (st .at) ≡ to = (unfold bare in bare-next (st .at)) ∙ next-shown B I (st .at) to _ to-small at-shown in
-      ap (entryGone g I (blocksAt s) (headOf (view B d) e)) (st .spot)
+      ap (entryGone g I (blocksAt s) (headOf shown-as e)) (st .spot)
       ∙ ap (λ (k : ℕ). lessBare g (cutOut B I (st .at) 0 k) (blocksAt s) (st .at)) w
       ∙ pick-false _ _ (ne-eqb (st .at) (blocksAt s) not-first)
       ∙ pick-true _ _ (unfold bare in bare-zero)
       ∙ (λ i. released g (linked B J (p i) (z i)) (st .at))
+
+  -- Where the entry stands: in a block of the data, and it ends there.
+  pub goes-lies : Lies (blockSize g) (dataAt g) (g .n) I (headOf shown-as e) (spotOf n s)
+  goes-lies =
+      subst (Lies (blockSize g) (dataAt g) (g .n) I (headOf shown-as e)) (sym (st .spot))
+      (record { from = at-in .0; below = at-in .1; ends = omega (arith, room, head-weight shown-as 0 e) })

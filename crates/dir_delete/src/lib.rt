@@ -20,7 +20,7 @@ ghost use Rattle.dir_delete.specs.Delete.{cutOut, released, chainFreed, 
 // The w bytes at a place go: those after them in the block move down, and the block's end is zeroed.
 fn cut_out(img: &mut [u8], p: Place, w: usize)
     requires { ⌜ blockBytes * p .block .0 + blockBytes ≤ length (now img) ⌝ }
-    requires { ⌜ p .offset + w ≤ blockBytes - 4 ⌝ }
+    requires { ⌜ p .offset + w ≤ blockBytes - 5 ⌝ }
     ensures { λ _. ⌜ now (img .exit) ≡ cutOut blockBytes (now (img .entry)) (p .block .0) (p .offset) w ⌝ }
 {
     let b = p.block;
