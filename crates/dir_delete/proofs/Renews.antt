@@ -1,0 +1,165 @@
+-- The directory's own entry renewed, or none where it is the root: what the image is then.
+use mathlib.Core.Path.{_≡_, refl, sym, ap, _∙_, subst}
+use mathlib.Core.Option.{Option, some}
+use mathlib.Core.List.{List, [], _∷_, _++_}
+use Prim.Native.Nat.{ℕ, zero, suc, _+_, _^_, _≤_, _<_}
+use native.Mathlib.Omega.{arith}
+use lib.ListN.{length}
+use Rattle.block.specs.Block.{cell, Off, Kept}
+use Rattle.block.proofs.Laws.{kept-trans, kept-less}
+use Rattle.model.specs.Tree.{Name, Tree, sum, Edit, edit, Some, find}
+use Rattle.model.specs.Render.{Piece, render, ats, count, blocks, ownTime}
+use Rattle.model.specs.Geometry.{Geo, blockSize, dataAt, mapBits, superBytes, Sound}
+use Rattle.model.specs.Volume.{Volume}
+use Rattle.model.specs.Calls.{Makes}
+use Rattle.model.proofs.Areas.{area, size-large}
+use Rattle.model.proofs.Commit.{Commit, commit, commit-root}
+use Rattle.model.proofs.Counts.{count-same, count-append, ats-append}
+use Rattle.model.proofs.Cuts.{Cut, OwnCut, own-cut}
+use Rattle.model.proofs.Demand.{whole-super}
+use Rattle.model.proofs.Frame.{SameBlock, shows-frame, blocks-edit}
+use Rattle.model.proofs.Full.{whole-tree}
+use Rattle.model.proofs.Lists.{not-some}
+use Rattle.model.proofs.Owns.{renewedAt, shows-kept, own-kept, own-renewed}
+use Rattle.bitmap_block.specs.Bitmap.{mark}
+use Rattle.bitmap_block.proofs.Steps.{mark-is, mark-kept}
+use Rattle.dir_entry.specs.Entry.{placeAt}
+use Rattle.own_entry.specs.declared.Own.{Own}
+use Rattle.own_entry.specs.declared.Own.the-variants.{Root, At}
+use Rattle.own_entry.specs.Own.{ownRenewed, OwnOf}
+use Rattle.dir_delete.proofs.Stay.{cut-old, cut-new}
+use Rattle.dir_delete.proofs.Made.{Made, fewer}
+
+-- The root has no entry of its own.
+root-makes : (g : Geo) (I J : List ℕ) (d : ℕ) (t u : Tree d) (left : List Piece) → Volume g I d t → Made g I J d t d t u left → Makes g d u left I J
+root-makes g I J d t u left v m = record {
+  volume = commit-root g I J d t u v (m .commit);
+  remains = m .remains;
+  frame = kept-less (λ b o h. (h .0 .not-super, h .0 .not-map, omega (arith, h .0 .not-reached, h .1))) (m .frame);
+}
+
+-- the block of the own entry is none of the directory's
+cut-apart : (B : ℕ) (xs ys us vs : List Piece) (q : ℕ) (E E′ : List ℕ) (c : Cut B xs ys us vs q E E′) → ((i : ℕ) → count i (ats xs) ≤ 1) → count (c .at) (ats us) ≡ 0
+unfolding ats
+cut-apart B xs ys us vs q E E′ c once =
+    omega (
+      arith,
+      rw (c .old, ats-append, count-append) at (once (c .at)),
+      count-same (c .at) (c .at) (ats (c .between ++ (us ++ c .after))) refl,
+      ap (count (c .at)) (ats-append (c .between) (us ++ c .after)),
+      count-append (c .at) (ats (c .between)) (ats (us ++ c .after)),
+      ap (count (c .at)) (ats-append us (c .after)),
+      count-append (c .at) (ats us) (ats (c .after)),
+    )
+
+module _ (g : Geo) (I J : List ℕ) (d : ℕ) (t : Tree d) (n : Name) (p : List Name) (now : ℕ) (f : Edit) (s : Some) (left : List Piece)
+    (v : Volume g I d t) (h : find d (n ∷ p) t ≡ some s) (m : Made g I J d t (s .0) (s .1) (f (s .0) (s .1)) left)
+    (c : OwnCut (blockSize g) d (n ∷ p) (λ _. now) f t s) where
+  -- the image with the own entry renewed
+  K : List ℕ
+  K = renewedAt J (c .place) (sum (f (s .0) (s .1))) now
+
+  long : length J ≡ length I
+  long = m .commit .long
+
+  own-only : Kept (blockSize g) (Off (c .cut .at) (4 + length (c .cut .low) + 5) 12) J K
+  unfolding K
+  own-only = own-kept g I d t (n ∷ p) (λ _. now) f s v c J long (sum (f (s .0) (s .1))) now
+
+  -- the own entry's block
+  in-tree : 1 ≤ count (c .cut .at) (blocks (blockSize g) d t)
+  in-tree = cut-old _ _ _ _ _ _ _ _ (c .cut)
+
+  in-new : 1 ≤ count (c .cut .at) (blocks (blockSize g) d (edit d (n ∷ p) (λ _. now) f t))
+  in-new = cut-new _ _ _ _ _ _ _ _ (c .cut)
+
+  not-own : count (c .cut .at) (blocks (blockSize g) (s .0) (s .1)) ≡ 0
+  not-own = cut-apart _ _ _ _ _ _ _ _ (c .cut) (v .laid .once)
+
+  in-data : dataAt g ≤ c .cut .at
+  in-data = v .laid .range (c .cut .at) in-tree .0
+
+  -- another block is as before
+  other : (b : ℕ) → (b ≡ c .cut .at → ⊥) → SameBlock (blockSize g) J K b
+  unfolding cell
+  other b q i l = own-only .at b i (λ e x y. q e) l
+
+  -- a block of the directory, and one left over, is another
+  of-dir : (b : ℕ) → 1 ≤ count b (blocks (blockSize g) (s .0) (s .1)) → b ≡ c .cut .at → ⊥
+  of-dir b q e = omega (arith, q, ap (λ (z : ℕ). count z (blocks (blockSize g) (s .0) (s .1))) e, not-own)
+
+  of-new : (b : ℕ) → 1 ≤ count b (blocks (blockSize g) (s .0) (f (s .0) (s .1))) → b ≡ c .cut .at → ⊥
+  of-new b q e =
+      omega (
+        arith,
+        q,
+        ap (λ (z : ℕ). count z (blocks (blockSize g) (s .0) (f (s .0) (s .1)))) e,
+        m .commit .fresh (c .cut .at),
+        in-tree,
+        not-own,
+      )
+
+  bits-same : (x : ℕ) → x < mapBits g → mark g K x ≡ mark g J x
+  bits-same x q = mark-kept g J (subst (Sound g) (sym long) (v .laid .sound)) _ K own-only (λ b o y l e i j. omega (arith, in-data)) x q
+
+  commit-own : Commit g I K d t (s .0) (s .1) (f (s .0) (s .1))
+  commit-own =
+      let B : ℕ = blockSize g in
+      let o : Commit g I J d t (s .0) (s .1) (f (s .0) (s .1)) = m .commit in
+      record {
+        long = own-only .size ∙ long;
+        total = o .total;
+        moved = o .moved;
+        top = shows-kept B _ J K (g .K) (superBytes g (o .total)) own-only (λ i _ e x y. omega (arith, in-data, area g (length I) (v .laid .sound) .maps)) (omega (arith, whole-super g (o .total))) (o .top);
+        bits = λ x q. omega (arith, o .bits x q, bits-same x q, mark-is g J x, mark-is g K x);
+        fresh = o .fresh;
+        inside = o .inside;
+        first = o .first;
+        good = o .good;
+        shown = shows-frame B J K (render B (s .0) (f (s .0) (s .1))) (whole-tree B (omega (arith, size-large g)) (s .0) (f (s .0) (s .1)) (o .good)) (λ b q. other b (of-new b q)) (o .shown);
+      }
+
+  pub below-makes : now < 2 ^ 64 → Makes g d (edit d (n ∷ p) (λ _. now) f t) left I (renewedAt J (c .place) (sum (f (s .0) (s .1))) now)
+  unfolding K cell
+  below-makes small =
+      let B : ℕ = blockSize g in
+      let same : Kept B (λ b o. b ≡ c .cut .at) I J
+      = record { size = long; at = λ b o e l. m .others b (subst (λ (z : ℕ). 1 ≤ count z (blocks B d t)) (sym e) in-tree) (ap (λ (z : ℕ). count z (blocks B (s .0) (s .1))) e ∙ not-own) o l } in
+      record {
+        volume = commit g I K d t n p (λ _. now) f s v h commit-own (λ _ _. small) c
+            (λ b q z e i l. other b e i l ∙ m .others b q z i l)
+            (own-renewed g I d t (n ∷ p) (λ _. now) f s v c J same (m .commit .first));
+        remains = shows-frame B J K left (m .whole) (λ b q. other b (of-dir b (omega (arith, q, m .over b)))) (m .remains);
+        frame = kept-trans (kept-less (λ b o q. (q .0 .not-super, q .0 .not-map, gone b (q .0 .not-reached) (q .1))) (m .frame))
+            (kept-less (λ b o q e x y. omega (arith, in-new, q .0 .not-reached, ap (λ (z : ℕ). count z (blocks B d (edit d (n ∷ p) (λ _. now) f t))) e)) own-only);
+      }
+    where
+      gone : (b : ℕ) → count b (blocks (blockSize g) d (edit d (n ∷ p) (λ _. now) f t)) ≡ 0 → count b (ats left) ≡ 0
+          → count b (blocks (blockSize g) (s .0) (f (s .0) (s .1))) + count b (ats left) ≡ 0
+      gone b x y = omega (arith, blocks-edit (blockSize g) d (n ∷ p) (λ _. now) f t s h b, fewer g I d t v (n ∷ p) s h b)
+
+-- ---- both
+
+-- the own entry stands at one place
+some-one : (a b : ℕ) (o : Option ℕ) → o ≡ some a → o ≡ some b → a ≡ b
+some-one a b o x y = let both : some a ≡ some b = sym x ∙ y in cc
+
+-- The whole of it: the sum and the time stand in the own entry, and the image is the volume of the edited tree.
+pub renewed-makes : (g : Geo) (I J : List ℕ) (d : ℕ) (t : Tree d) (p : List Name) (now : ℕ) (f : Edit) (s : Some) (left : List Piece) (own : Own) → Volume g I d t → find d p t ≡ some s
+    → Made g I J d t (s .0) (s .1) (f (s .0) (s .1)) left → OwnOf (blockSize g) d p t own → now < 2 ^ 64
+    → Makes g d (edit d p (λ _. now) f t) left I (ownRenewed (blockSize g) J own (sum (f (s .0) (s .1))) now)
+unfolding find edit ownTime
+renewed-makes g I J zero t [] now f s left Root v h m o small =
+    let k : (zero, t) ≡ s = cc in
+    root-makes g I J zero t (f zero t) left v (subst (λ (z : Some). Made g I J zero t (z .0) (z .1) (f (z .0) (z .1)) left) (sym k) m)
+renewed-makes g I J (suc d) t [] now f s left Root v h m o small =
+    let k : (suc d, t) ≡ s = cc in
+    root-makes g I J (suc d) t (f (suc d) t) left v (subst (λ (z : Some). Made g I J (suc d) t (z .0) (z .1) (f (z .0) (z .1)) left) (sym k) m)
+renewed-makes g I J zero t [] now f s left (At q) v h m o small = absurd (not-some refl o)
+renewed-makes g I J (suc d) t [] now f s left (At q) v h m o small = absurd (not-some refl o)
+renewed-makes g I J d t (n ∷ p) now f s left Root v h m o small = let z : suc (length p) ≡ 0 = ap length o in absurd (omega arith)
+renewed-makes g I J d t (n ∷ p) now f s left (At q) v h m o small =
+    let c = own-cut (blockSize g) d n p (λ _. now) f t s h in
+    let e : c .place + 9 ≡ placeAt (blockSize g) (q .block .0) (q .offset) + 9 = some-one _ _ (ownTime (blockSize g) d (n ∷ p) t) (c .own) o in
+    let k : c .place ≡ placeAt (blockSize g) (q .block .0) (q .offset) = omega arith in
+    subst (λ (z : ℕ). Makes g d (edit d (n ∷ p) (λ _. now) f t) left I (renewedAt J z (sum (f (s .0) (s .1))) now)) k (below-makes g I J d t n p now f s left v h m c small)

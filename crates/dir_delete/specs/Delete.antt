@@ -1,0 +1,77 @@
+-- Deleting an entry: what the stores make of the image, in their order. B is the block size. Definitions alone.
+use mathlib.Core.List.{List}
+use Prim.Native.Nat.{ℕ, zero, suc, _+_, _-_, _*_}
+use lib.Dec.{leb, eqb}
+use lib.ListN.{take, drop}
+use Rattle.wire.specs.Be.{splice, zeros}
+use Rattle.wire.specs.Pick.{pick, zeroFrom}
+use Rattle.block.specs.Block.{next, linked}
+use Rattle.model.specs.Geometry.{Geo, blockSize, dataAt, usedCount}
+use Rattle.bitmap_block.specs.Bitmap.{freed}
+use Rattle.dir_entry.specs.declared.DirEntry.{DirEntry}
+use Rattle.dir_entry.specs.Entry.{header, placeAt}
+use Rattle.read_dir.specs.declared.Place.{Place}
+use Rattle.read_dir.specs.declared.Summed.{Summed}
+use Rattle.read_dir.specs.declared.Summed.the-variants.{Total, Damaged}
+use Rattle.read_dir.specs.Walk.{inArea, walk}
+use Rattle.read_dir.specs.Finds.{sumFrom}
+use Rattle.own_entry.specs.declared.Own.{Own}
+use Rattle.own_entry.specs.Own.{ownRenewed}
+
+-- ---- the entry's bytes
+
+-- How many bytes of a block's data stand after the w bytes at offset o.
+abbrev pub after : ℕ → ℕ → ℕ → ℕ
+after B o w = B - 4 - (o + w)
+
+-- 01, "the rest of the block moves down, its end is zeroed": the w bytes at offset o of block a go.
+unfoldable pub cutOut : ℕ → List ℕ → ℕ → ℕ → ℕ → List ℕ
+cutOut B I a o w =
+    splice (splice I (placeAt B a o) (take (after B o w) (drop (placeAt B a o + w) I))) (placeAt B a o + after B o w) (zeros w)
+
+-- ---- blocks given back
+
+-- 01, "Freeing clears the bit, lowers the count and leaves the block's bytes": block a of the data area. (The count is 0 on no volume.)
+unfoldable pub released : Geo → List ℕ → ℕ → List ℕ
+released g I a = pick (eqb (usedCount g I) 0) I (freed g I (a - dataAt g))
+
+-- "then the entry's chain": the blocks from a on, at most k of them, each looked at before it is read.
+unfoldable pub chainFreed : Geo → List ℕ → ℕ → ℕ → List ℕ
+chainFreed g I zero a = I
+chainFreed g I (suc k) a = pick (inArea (blockSize g) (dataAt g) (g .n) I a) (chainFreed g (released g I a) k (next (blockSize g) I a)) I
+
+-- ---- a block that is emptied
+
+-- The block of a chain whose next address is b: from a on, of at most k blocks, and no further than a block below n.
+unfoldable pub beforeFrom : ℕ → ℕ → List ℕ → ℕ → ℕ → ℕ → ℕ
+beforeFrom B n I zero a b = a
+beforeFrom B n I (suc k) a b = pick (eqb (next B I a) b) a (pick (leb n (next B I a)) a (beforeFrom B n I k (next B I a) b))
+
+-- "is unlinked and freed": the block before it in the directory's chain gets its next address. Its own bytes stay.
+unfoldable pub unlinked : Geo → List ℕ → ℕ → ℕ → List ℕ
+unlinked g I dir b =
+    released g (linked (blockSize g) I (beforeFrom (blockSize g) (g .n) I (g .n - dataAt g) dir b) (next (blockSize g) I b)) b
+
+-- "A block now empty that isn't the first": one whose data bytes are zero.
+unfoldable pub lessBare : Geo → List ℕ → ℕ → ℕ → List ℕ
+lessBare g I dir b = pick (eqb b dir) I (pick (zeroFrom I (blockSize g * b + 4) (blockSize g - 4)) (unlinked g I dir b) I)
+
+-- ---- the directory's own entry
+
+-- "sum and time as for create": the sum of the directory as it is now. (A volume's directory has one.)
+abbrev pub ownSummed : ℕ → List ℕ → Own → ℕ → Summed → List ℕ
+ownSummed B I own time (Total z) = ownRenewed B I own z time
+ownSummed B I own time Damaged = I
+
+unfoldable pub sumRenewed : Geo → List ℕ → ℕ → Own → ℕ → List ℕ
+sumRenewed g I dir own time = ownSummed (blockSize g) I own time (sumFrom 0 (walk (blockSize g) (dataAt g) (g .n) I dir))
+
+-- ---- the whole
+
+-- The image without the entry's bytes, and without its block where that is empty now.
+unfoldable pub entryGone : Geo → List ℕ → ℕ → DirEntry → Place → List ℕ
+entryGone g I dir e p = lessBare g (cutOut (blockSize g) I (p .block .0) (p .offset) (header + e .len)) dir (p .block .0)
+
+-- 01, "Delete": the entry e at p of the directory that begins at block dir, whose own entry stands at `own`.
+unfoldable pub removed : Geo → List ℕ → ℕ → DirEntry → Place → Own → ℕ → List ℕ
+removed g I dir e p own time = sumRenewed g (chainFreed g (entryGone g I dir e p) (g .n - dataAt g) (e .addr .0)) dir own time
