@@ -55,44 +55,45 @@ abbrev pub Stored : List ℕ → List ℕ → ℕ → List ℕ → ℕ → Type 
 Stored o o₁ at w p = (o₁ ≡ splice o at w) × (p ≡ at + length w)
 
 -- two that follow one another are one
-stored-both : (o o₁ o₂ : List ℕ) (at p q : ℕ) (v w : List ℕ) → at + (length v + length w) ≤ length o → Stored o o₁ at v p → Stored o₁ o₂ p w q → Stored o o₂ at (v ++ w) q
+pub stored-both : (o o₁ o₂ : List ℕ) (at p q : ℕ) (v w : List ℕ) → at + (length v + length w) ≤ length o → Stored o o₁ at v p → Stored o₁ o₂ p w q → Stored o o₂ at (v ++ w) q
 stored-both o o₁ o₂ at p q v w h (e , f) (g , k) = (g ∙ splice-then o o₁ at p v w e f h, omega (arith, length-append v w))
 
--- from the start of the buffer the place after them is how many there are
-abbrev pub Written : List ℕ → List ℕ → List ℕ → ℕ → Type 0
-Written o o₁ w r = (o₁ ≡ splice o 0 w) × (r ≡ length w)
-
-at-start : (o o₁ w : List ℕ) (r : ℕ) → Stored o o₁ 0 w r → Written o o₁ w r
-at-start o o₁ w r (e , f) = (e, omega arith)
-
 -- the four words of an entry's line
-pub line-stored : (o o₁ o₂ o₃ o₄ : List ℕ) (a b c r l : ℕ) (k : Kind) (size time : ℕ) (x : List ℕ) → 40 + length x ≤ length o → length (digits size) ≤ 10 → length (digits time) ≤ 20
-    → l ≡ letter k → Stored o o₁ 0 (ended (l ∷ []) space) a → Stored o₁ o₂ a (ended (digits size) space) b → Stored o₂ o₃ b (ended (digits time) space) c
-    → Stored o₃ o₄ c (ended x newline) r → Written o o₄ (lineOf k size time x) r
-unfolding lineOf
-line-stored o o₁ o₂ o₃ o₄ a b c r l k size time x h hs ht q s₁ s₂ s₃ s₄ =
-    let L : List ℕ = ended (letter k ∷ []) space in
-    let S : List ℕ = ended (digits size) space in
-    let T : List ℕ = ended (digits time) space in
-    let X : List ℕ = ended x newline in
-    let kl : length L ≡ 2 = length-ended (letter k ∷ []) space in
-    let ks : length S ≡ length (digits size) + 1 = length-ended (digits size) space in
-    let kt : length T ≡ length (digits time) + 1 = length-ended (digits time) space in
-    let kx : length X ≡ length x + 1 = length-ended x newline in
-    let kls : length (L ++ S) ≡ length L + length S = length-append L S in
-    let klst : length ((L ++ S) ++ T) ≡ length (L ++ S) + length T = length-append (L ++ S) T in
-    let t₁ : Stored o o₁ 0 L a = rw q at s₁ in
-    let t₂ : Stored o o₂ 0 (L ++ S) b = stored-both o o₁ o₂ 0 a b L S (omega arith) t₁ s₂ in
-    let t₃ : Stored o o₃ 0 ((L ++ S) ++ T) c = stored-both o o₂ o₃ 0 b c (L ++ S) T (omega arith) t₂ s₃ in
-    let t₄ : Stored o o₄ 0 (((L ++ S) ++ T) ++ X) r = stored-both o o₃ o₄ 0 c r ((L ++ S) ++ T) X (omega arith) t₃ s₄ in
-    at-start o o₄ (L ++ (S ++ (T ++ X))) r (rw (append-assoc (L ++ S) T X, append-assoc L S (T ++ X)) at t₄)
+module _ (k : Kind) (size time : ℕ) (x : List ℕ) (hs : length (digits size) ≤ 10) (ht : length (digits time) ≤ 20) where
+  pub line-short : length (lineOf k size time x) ≤ 35 + length x
+  unfolding lineOf
+  line-short =
+      simp (length-append, length-ended) (omega arith)
 
--- the two of a refusal's
-pub refused-stored : (o o₁ o₂ : List ℕ) (a r n : ℕ) → 40 ≤ length o → length (digits n) ≤ 10 → Stored o o₁ 0 (ended refusedWord space) a → Stored o₁ o₂ a (ended (digits n) newline) r
-    → Written o o₂ (refusedLine n) r
+  pub line-stored : (o o₁ o₂ o₃ o₄ : List ℕ) (to a b c r l : ℕ) → to + 35 + length x ≤ length o → l ≡ letter k
+      → Stored o o₁ to (ended (l ∷ []) space) a → Stored o₁ o₂ a (ended (digits size) space) b → Stored o₂ o₃ b (ended (digits time) space) c
+      → Stored o₃ o₄ c (ended x newline) r → Stored o o₄ to (lineOf k size time x) r
+  unfolding lineOf
+  line-stored o o₁ o₂ o₃ o₄ to a b c r l h q s₁ s₂ s₃ s₄ =
+      let L : List ℕ = ended (letter k ∷ []) space in
+      let S : List ℕ = ended (digits size) space in
+      let T : List ℕ = ended (digits time) space in
+      let X : List ℕ = ended x newline in
+      let kl : length L ≡ 2 = length-ended (letter k ∷ []) space in
+      let ks : length S ≡ length (digits size) + 1 = length-ended (digits size) space in
+      let kt : length T ≡ length (digits time) + 1 = length-ended (digits time) space in
+      let kx : length X ≡ length x + 1 = length-ended x newline in
+      let kls : length (L ++ S) ≡ length L + length S = length-append L S in
+      let klst : length ((L ++ S) ++ T) ≡ length (L ++ S) + length T = length-append (L ++ S) T in
+      let t₁ : Stored o o₁ to L a = rw q at s₁ in
+      let t₂ : Stored o o₂ to (L ++ S) b = stored-both o o₁ o₂ to a b L S (omega arith) t₁ s₂ in
+      let t₃ : Stored o o₃ to ((L ++ S) ++ T) c = stored-both o o₂ o₃ to b c (L ++ S) T (omega arith) t₂ s₃ in
+      let t₄ : Stored o o₄ to (((L ++ S) ++ T) ++ X) r = stored-both o o₃ o₄ to c r ((L ++ S) ++ T) X (omega arith) t₃ s₄ in
+      rw (append-assoc (L ++ S) T X, append-assoc L S (T ++ X)) at t₄
+
+-- the two of a refusal's, from the buffer's start
+pub refused-stored : (o o₁ o₂ : List ℕ) (a r n : ℕ) → 19 ≤ length o → length (digits n) ≤ 10 → Stored o o₁ 0 (ended refusedWord space) a → Stored o₁ o₂ a (ended (digits n) newline) r
+    → (o₂ ≡ splice o 0 (refusedLine n)) × (r ≡ length (refusedLine n))
 unfolding refusedLine
 refused-stored o o₁ o₂ a r n h hn s₁ s₂ =
-    let k₁ : length (ended refusedWord space) ≡ 8 = length-ended refusedWord space in
-    let k₂ : length (ended (digits n) newline) ≡ length (digits n) + 1 = length-ended (digits n) newline in
-    at-start o o₂ (ended refusedWord space ++ ended (digits n) newline) r
-    (stored-both o o₁ o₂ 0 a r (ended refusedWord space) (ended (digits n) newline) (omega arith) s₁ s₂)
+    let W : List ℕ = ended refusedWord space in
+    let N : List ℕ = ended (digits n) newline in
+    let k₁ : length W ≡ 8 = length-ended refusedWord space in
+    let k₂ : length N ≡ length (digits n) + 1 = length-ended (digits n) newline in
+    let t : Stored o o₂ 0 (W ++ N) r = stored-both o o₁ o₂ 0 a r W N (omega arith) s₁ s₂ in
+    (t .0, omega (arith, t .1))

@@ -1,7 +1,7 @@
 use native.Mathlib.Omega.{arith}
 use Rattle.lines.specs.Line.{digits, ended}
 use Rattle.lines.proofs.Digits.{digits-32, digits-64}
-use Rattle.lines.proofs.Words.{line-stored, length-ended}
+use Rattle.lines.proofs.Words.{line-short, line-stored, length-ended}
 use borrow.Author.Needs.{needs}
 use Rattle.lines.proofs.line.Statement.{statement}
 use Rattle.lines.proofs.line.Tie as tie
@@ -55,8 +55,11 @@ same-length c = search needs
 returns : tie.Need-returns
 returns c =
     let a = c .before .before .before .before .before .before .before .before .before .before .before .before .before .before .before .before .before .before .before .before .args in
-    line-stored (a .out .now) _ _ _ _ _ _ _ _ _ (a .kind) (a .size) (a .time) (a .name .now) (omega arith) (digits-32 (a .size) (omega arith)) (digits-64 (a .time) (omega arith))
-    (c .before .before .before .before .before .before .before .before .before .before .before .before .before .before .before .before .before .letter .ensures) (c .before .before .before .before .before .before .before .before .before .before .before .before .before .before .put-word .ensures) (c .before .before .before .before .before .before .before .before .before .before .put-number .ensures) (c .before .before .before .before .before .before .put-number2 .ensures) (c .before .before .put-word2 .ensures)
+    let hs = digits-32 (a .size) (omega arith) in
+    let ht = digits-64 (a .time) (omega arith) in
+    let t = line-stored (a .kind) (a .size) (a .time) (a .name .now) hs ht (a .out .now) _ _ _ _ (a .to) _ _ _ _ _ (omega arith)
+    (c .before .before .before .before .before .before .before .before .before .before .before .before .before .before .before .before .before .letter .ensures) (c .before .before .before .before .before .before .before .before .before .before .before .before .before .before .put-word .ensures) (c .before .before .before .before .before .before .before .before .before .before .put-number .ensures) (c .before .before .before .before .before .before .put-number2 .ensures) (c .before .before .put-word2 .ensures) in
+    (t .0, (t .1, omega (arith, t .1, line-short (a .kind) (a .size) (a .time) (a .name .now) hs ht)))
 
 pub line-spec : {M : Type 1} → statement M
 line-spec =
