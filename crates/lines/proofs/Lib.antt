@@ -1,3 +1,4 @@
 pub mod Digits
 pub mod Words
 pub mod Texts
+pub mod Listed

@@ -112,8 +112,8 @@ done-more o₀ o o₁ l at used r p h d t k s b e =
       same = k ∙ d .same;
       lines = d .lines ++ lineAt l at;
       rest =
-        append-assoc (d .lines) (lineAt l at) (textAt l p) ∙ ap (λ (y : ℕ). d .lines ++ (lineAt l at ++ textAt l y)) e
-        ∙ ap (λ (y : List ℕ). d .lines ++ y) (sym (text-more l at t)) ∙ d .rest;
+          append-assoc (d .lines) (lineAt l at) (textAt l p) ∙ ap (λ (y : ℕ). d .lines ++ (lineAt l at ++ textAt l y)) e
+          ∙ ap (λ (y : List ℕ). d .lines ++ y) (sym (text-more l at t)) ∙ d .rest;
       stored = stored-both o₀ o o₁ 0 used r (d .lines) (lineAt l at) (omega (arith, d .stored .1, s .1)) (d .stored) s;
     }
 

@@ -56,7 +56,7 @@ Stored o o₁ at w p = (o₁ ≡ splice o at w) × (p ≡ at + length w)
 
 -- two that follow one another are one
 pub stored-both : (o o₁ o₂ : List ℕ) (at p q : ℕ) (v w : List ℕ) → at + (length v + length w) ≤ length o → Stored o o₁ at v p → Stored o₁ o₂ p w q → Stored o o₂ at (v ++ w) q
-stored-both o o₁ o₂ at p q v w h (e , f) (g , k) = (g ∙ splice-then o o₁ at p v w e f h, omega (arith, length-append v w))
+stored-both o o₁ o₂ at p q v w h (e, f) (g, k) = (g ∙ splice-then o o₁ at p v w e f h, omega (arith, length-append v w))
 
 -- the four words of an entry's line
 module _ (k : Kind) (size time : ℕ) (x : List ℕ) (hs : length (digits size) ≤ 10) (ht : length (digits time) ≤ 20) where

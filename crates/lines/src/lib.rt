@@ -12,6 +12,7 @@ ghost use Rattle.lines.specs.Line.{digits, letter as Line·letter, digit
 ghost use Rattle.lines.specs.Text.{nextAt, lineAt, textOf};
 
 const SPACE: u8 = 32;
+
 const NEWLINE: u8 = 10;
 
 // The fixed part of a listing's record: kind 1, size 4, time 8, length 1.

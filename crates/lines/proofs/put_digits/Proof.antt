@@ -49,9 +49,13 @@ loop-again c =
     let a = c .before .before .before .before .args in
     let l = c .before .before .loop in
     let m = length-more (l .rest) (omega arith) in
-    let s = digits-some (l .rest / 10) in
-    (omega arith, omega arith, omega arith, simp length-set (omega arith),
-    rw (c .digit .ensures) (digit-stored (l .out) (a .at) (l .rest) (l .i) (omega arith) (omega arith) (omega arith)) ∙ l .inv .4)
+    let s = digits-some (l .rest / 10) in (
+      omega arith,
+      omega arith,
+      omega arith,
+      simp length-set (omega arith),
+      rw (c .digit .ensures) (digit-stored (l .out) (a .at) (l .rest) (l .i) (omega arith) (omega arith) (omega arith)) ∙ l .inv .4,
+    )
 
 -- src/lib.rt:69:15
 digit-requires-2 : tie.Need-digit-requires-2 Inv-loop μ-loop

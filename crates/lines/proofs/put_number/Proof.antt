@@ -40,9 +40,10 @@ same-length c = search needs
 -- src/lib.rt:73:1
 returns : tie.Need-returns
 returns c =
-    let a = c .before .before .before .before .before .before .args in
-    (number-stored (a .out .now) _ (a .at) (a .n) _ (a .end) (omega arith) (c .before .before .before .before .width .ensures .0) (c .before .before .put-digits .ensures),
-    omega (arith, length-ended (digits (a .n)) (a .end)))
+    let a = c .before .before .before .before .before .before .args in (
+      number-stored (a .out .now) _ (a .at) (a .n) _ (a .end) (omega arith) (c .before .before .before .before .width .ensures .0) (c .before .before .put-digits .ensures),
+      omega (arith, length-ended (digits (a .n)) (a .end)),
+    )
 
 pub put-number-spec : {M : Type 1} → statement M
 put-number-spec =

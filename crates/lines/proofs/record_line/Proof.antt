@@ -68,9 +68,10 @@ returns : tie.Need-returns
 returns c =
     let a = c .before .before .before .before .before .before .before .before .before .before .before .before .args in
     let e = c .before .before .before .before .before .next .ensures in
-    let t = c .before .before .line .ensures in
-    (record-lined (a .records .now) (a .at) _ e (omega arith) (a .out .now) _ (a .to) _ _ _ _ (c .before .before .before .before .before .before .before .before .of .ensures) (c .before .before .before .before .before .before .before .get32 .ensures) (c .before .before .before .before .before .before .get .ensures .0) (t .0, t .1 .0),
-    omega (arith, t .1 .1, name-short (a .records .now) (a .at) _ e (omega arith)))
+    let t = c .before .before .line .ensures in (
+      record-lined (a .records .now) (a .at) _ e (omega arith) (a .out .now) _ (a .to) _ _ _ _ (c .before .before .before .before .before .before .before .before .of .ensures) (c .before .before .before .before .before .before .before .get32 .ensures) (c .before .before .before .before .before .before .get .ensures .0) (t .0, t .1 .0),
+      omega (arith, t .1 .1, name-short (a .records .now) (a .at) _ e (omega arith)),
+    )
 
 pub record-line-spec : {M : Type 1} → statement M
 record-line-spec =
