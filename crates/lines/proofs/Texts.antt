@@ -118,7 +118,7 @@ done-more o₀ o o₁ l at used r p h d t k s b e =
     }
 
 pub done-all : (o₀ o l : List ℕ) (at used : ℕ) → Done o₀ o l at used → leb (nextAt l at) (length l) ≡ false
-    → (o ≡ splice o₀ 0 (textOf l)) × (used ≡ length (textOf l))
+    → (o ≡ splice o₀ 0 (textOf l)) × ((used ≡ length (textOf l)) × (used ≤ 3 * length l))
 done-all o₀ o l at used d f =
     let q : d .lines ≡ textOf l = sym (append-nil (d .lines)) ∙ ap (λ (y : List ℕ). d .lines ++ y) (sym (text-end l at f)) ∙ d .rest in
-    (d .stored .0 ∙ ap (splice o₀ 0) q, omega (arith, d .stored .1, ap length q))
+    (d .stored .0 ∙ ap (splice o₀ 0) q, (omega (arith, d .stored .1, ap length q), omega (arith, d .inside, d .short)))

@@ -88,7 +88,7 @@ module _ (k : Kind) (size time : ℕ) (x : List ℕ) (hs : length (digits size) 
 
 -- the two of a refusal's, from the buffer's start
 pub refused-stored : (o o₁ o₂ : List ℕ) (a r n : ℕ) → 19 ≤ length o → length (digits n) ≤ 10 → Stored o o₁ 0 (ended refusedWord space) a → Stored o₁ o₂ a (ended (digits n) newline) r
-    → (o₂ ≡ splice o 0 (refusedLine n)) × (r ≡ length (refusedLine n))
+    → (o₂ ≡ splice o 0 (refusedLine n)) × ((r ≡ length (refusedLine n)) × (r ≤ 19))
 unfolding refusedLine
 refused-stored o o₁ o₂ a r n h hn s₁ s₂ =
     let W : List ℕ = ended refusedWord space in
@@ -96,4 +96,4 @@ refused-stored o o₁ o₂ a r n h hn s₁ s₂ =
     let k₁ : length W ≡ 8 = length-ended refusedWord space in
     let k₂ : length N ≡ length (digits n) + 1 = length-ended (digits n) newline in
     let t : Stored o o₂ 0 (W ++ N) r = stored-both o o₁ o₂ 0 a r W N (omega arith) s₁ s₂ in
-    (t .0, omega (arith, t .1))
+    (t .0, (omega (arith, t .1), omega (arith, t .1, length-append W N)))

@@ -104,7 +104,7 @@ pub fn line(out: &mut [u8], to: usize, kind: Kind, size: u32, time: u64, name: &
 pub fn refused_line(out: &mut [u8], n: u32) -> usize
     requires { ⌜ 19 ≤ length (now out) ⌝ }
     ensures { λ _. ⌜ now (out .exit) ≡ splice (now (out .entry)) 0 (refusedLine n) ⌝ }
-    ensures { λ r. ⌜ r ≡ length (refusedLine n) ⌝ }
+    ensures { λ r. ⌜ (r ≡ length (refusedLine n)) × (r ≤ 19) ⌝ }
 {
     let a = put_word(out, 0, b"refused", SPACE);
     put_number(out, a, n as u64, NEWLINE)
@@ -157,7 +157,7 @@ fn record_line(out: &mut [u8], to: usize, records: &[u8], at: usize) -> usize
 pub fn text(out: &mut [u8], records: &[u8]) -> usize
     requires { ⌜ 3 * length (now records) ≤ length (now out) ⌝ }
     ensures { λ _. ⌜ now (out .exit) ≡ splice (now (out .entry)) 0 (textOf (now (records .entry))) ⌝ }
-    ensures { λ r. ⌜ r ≡ length (textOf (now (records .entry))) ⌝ }
+    ensures { λ r. ⌜ (r ≡ length (textOf (now (records .entry)))) × (r ≤ 3 * length (now (records .entry))) ⌝ }
 {
     let mut at: usize = 0;
     let mut used: usize = 0;
