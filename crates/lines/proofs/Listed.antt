@@ -156,10 +156,12 @@ each-skip P (suc i) (item e a o x w) p = each-skip P i w (p .1)
 each-skip P (suc i) finished p = tt
 each-skip P (suc i) damaged p = tt
 
+pub directory-plain : (D n : ℕ) (I : List ℕ) (dir i : ℕ) → Bytes I → 512 * n ≤ length I → Each (λ e a o x. Plain e x) (skip i (walk 512 D n I dir))
+directory-plain D n I dir i b h =
+    each-skip (λ e a o x. Plain e x) i (walk 512 D n I dir)
+    (each-map (Item 512 D n I) (λ e a o x. Plain e x) (item-plain D n I b h) (walk 512 D n I dir) (chain-each 512 D n I (n - D) dir))
+
 -- So the text of the records that a listing gives of any directory, from entry number i on, is the lines of these entries.
 pub text-directory : (D n : ℕ) (I : List ℕ) (dir i cap : ℕ) → Bytes I → 512 * n ≤ length I
     → textOf (recordsFrom cap 0 (skip i (walk 512 D n I dir))) ≡ linesFrom cap 0 (skip i (walk 512 D n I dir))
-text-directory D n I dir i cap b h =
-    text-records cap 0 (skip i (walk 512 D n I dir))
-    (each-skip (λ e a o x. Plain e x) i (walk 512 D n I dir)
-    (each-map (Item 512 D n I) (λ e a o x. Plain e x) (item-plain D n I b h) (walk 512 D n I dir) (chain-each 512 D n I (n - D) dir)))
+text-directory D n I dir i cap b h = text-records cap 0 (skip i (walk 512 D n I dir)) (directory-plain D n I dir i b h)

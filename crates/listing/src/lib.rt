@@ -1,13 +1,14 @@
 // The listing program without its image buffer: an image from standard input, checked, and a line for each entry of
-// its root to standard output, or why it is refused. What is written no contract can say: the bytes of each page are
-// those of lines::text, and the refusals those of mfs.
-// May use: model, mfs, lines; io and libc to read and write.
+// its root to standard output, or why it is refused. No contract can say what is read or written: `page` says which bytes
+// are the lines, and the rest hands them on.
+// May use: every crate below; io and libc to read and write.
 use mfs::Answer;
 use mfs::Listing;
 use mfs::Space;
 use model::Refusal;
-ghost use Prim.Native.Nat.{_≤_};
+ghost use Prim.Native.Nat.{_*_, _≤_};
 ghost use lib.ListN.{length};
+ghost use Rattle.listing.specs.Page.{Pages, Within, Turned};
 
 const K: u32 = 8;
 
@@ -34,25 +35,36 @@ fn checked(img: &[u8]) -> Answer {
     }
 }
 
-// Writes the lines of a page's first n bytes of records.
-fn put_lines(records: &[u8], n: usize)
-    requires { ⌜ length (now records) ≤ 1024 ⌝ }
+// A listing's answer with the text of its records in their place.
+fn in_text(l: Listing, records: &[u8], out: &mut [u8]) -> Listing
+    requires { ⌜ Within (length (now records)) l ⌝ }
+    requires { ⌜ 3 * length (now records) ≤ length (now out) ⌝ }
+    ensures { λ r. ⌜ Turned l (now (records .entry)) (now (out .entry)) (now (out .exit)) r ⌝ }
 {
-    let mut out = [0u8; 3072];
-    if n <= records.len() {
-        let len = lines::text(&mut out, &records[..n]);
-        put(&out, len);
+    match l {
+        Listing::Records(n, next) => Listing::Records(lines::text(out, &records[..n]), next),
+        Listing::Refused(r) => Listing::Refused(r),
     }
 }
 
-// Writes the lines of the root's entries from number i on, as many as a page holds; answers the number after them,
-// which is i where there is none. A page holds one record of the longest name at least.
-fn put_page(img: &[u8], i: u32) -> u32 {
+// The lines of the root's entries from number i on, as many as have their records in 1,024 bytes, which one of the longest
+// name has: how many bytes of text, and the number of the entry after them. Refusals: 1, 2, 3, 17.
+pub fn page(img: &[u8], k: u32, i: u32, out: &mut [u8]) -> Listing
+    requires { ⌜ 3072 ≤ length (now out) ⌝ }
+    ensures { λ r. ⌜ Pages k (now (img .entry)) i 1024 (now (out .entry)) (now (out .exit)) r ⌝ }
+{
     let mut records = [0u8; 1024];
-    let l = mfs::list(img, K, b"/", b"/", i, &mut records);
-    match l {
+    let l = mfs::list(img, k, b"/", b"/", i, &mut records);
+    in_text(l, &records, out)
+}
+
+// Writes the page from entry number i on; answers the number after it, which is i where there is none.
+fn put_page(img: &[u8], i: u32) -> u32 {
+    let mut out = [0u8; 3072];
+    let p = page(img, K, i, &mut out);
+    match p {
         Listing::Records(n, next) => {
-            put_lines(&records, n);
+            put(&out, n);
             next
         }
         Listing::Refused(r) => {
