@@ -1,17 +1,13 @@
 -- The digits of a number: one for a number below 10, else those of n / 10 and one more; how many there are; that they are its decimal.
 use mathlib.Core.Path.{_≡_, refl, sym, ap, _∙_}
-use mathlib.Core.Bool.{Bool, true, false}
-use mathlib.Core.Logic.{_⊎_, inl, inr}
 use mathlib.Core.List.{List, [], _∷_, _++_}
 use Prim.Native.Nat.{ℕ, zero, suc, _+_, _-_, _*_, _/_, _%_, _^_, _≤_, _<_}
 use native.Mathlib.Nat.{pow-suc}
 use native.Mathlib.Decide.{decLt}
 use native.Mathlib.Omega.{arith}
-use lib.Dec.{ltb, lit<}
 use lib.ListN.{length, getD, length-append, List·getD-append}
 use lib.Seq.{getD-at}
 use borrow.Author.Tests.{lt-ltb, le-ltb}
-use Rattle.wire.specs.Pick.{pick}
 use Rattle.wire.proofs.Picks.{pick-true, pick-false}
 use Rattle.lines.specs.Line.{digit, digitsWithin, digits}
 use Rattle.lines.specs.Decimal.{valueFrom, Decimal}
@@ -81,6 +77,19 @@ digits-short (suc k) n h = go (decLt n 10) (digits-short k (n / 10))
     go : Dec (n < 10) → (n / 10 < 10 ^ suc k → length (digits (n / 10)) ≤ suc k) → length (digits n) ≤ suc (suc k)
     go (yes q) i = omega (arith, length-last n q)
     go (no q) i = omega (arith, t, length-more n (omega arith), i (omega (arith, t)))
+
+-- any bound that its digits keep to gives the number, which then can be computed
+pub digits-within : (k n : ℕ) → n < 10 ^ suc k → digitsWithin (suc k) n ≡ digits n
+digits-within zero n h = within-last zero n (omega arith) ∙ sym (digits-last n (omega arith))
+digits-within (suc k) n h = go (decLt n 10) (digits-within k (n / 10))
+  where
+    t : n < 10 ^ suc k * 10
+    t = rw pow-suc at h
+
+    go : Dec (n < 10) → (n / 10 < 10 ^ suc k → digitsWithin (suc k) (n / 10) ≡ digits (n / 10)) → digitsWithin (suc (suc k)) n ≡ digits n
+    go (yes q) i = within-last (suc k) n q ∙ sym (digits-last n q)
+    go (no q) i =
+        within-more (suc k) n (omega arith) ∙ ap (λ (l : List ℕ). l ++ (digit (n % 10) ∷ [])) (i (omega (arith, t))) ∙ sym (digits-more n (omega arith))
 
 -- the widths that code has
 pub digits-32 : (n : ℕ) → n < 4294967296 → length (digits n) ≤ 10

@@ -1,12 +1,12 @@
 -- What the lines of a listing's records are: those of the entries that it lists.
-use mathlib.Core.Path.{_≡_, refl, sym, ap, _∙_, subst}
-use mathlib.Core.Bool.{Bool, true, false}
+use mathlib.Core.Path.{_≡_, sym, ap, _∙_, subst}
+use mathlib.Core.Bool.{true, false}
 use mathlib.Core.Logic.{_⊎_, inl, inr}
 use mathlib.Core.List.{List, [], _∷_, _++_}
 use Prim.Native.Nat.{ℕ, zero, suc, _+_, _-_, _*_, _^_, _≤_, _<_}
 use native.Mathlib.Nat.{add-zero, zero-add, pow-suc}
 use native.Mathlib.Omega.{arith}
-use lib.Dec.{leb, ltb}
+use lib.Dec.{ltb}
 use lib.ListN.{length, getD, take, drop, length-append, length-take, length-drop}
 use lib.Seq.{ext-getD, getD-take, getD-drop}
 use borrow.Author.Tests.{le-leb, lt-leb}
@@ -19,7 +19,7 @@ use Rattle.model.specs.Steps.{Bytes}
 use Rattle.model.proofs.Commit.{shows-one, shows-two}
 use Rattle.model.proofs.Entries.{be-shown}
 use Rattle.dir_entry.specs.declared.DirEntry.{DirEntry}
-use Rattle.dir_entry.specs.Entry.{kindAt, kindByte, entryAt, placeAt, nameAt}
+use Rattle.dir_entry.specs.Entry.{kindAt, kindByte, entryAt, placeAt}
 use Rattle.dir_entry.proofs.Heads.{kind-back}
 use Rattle.dir_entry.proofs.Slots.{slot-stands}
 use Rattle.read_dir.specs.Walk.{Walk, item, finished, damaged, walk}
@@ -34,6 +34,7 @@ use Rattle.lines.proofs.Texts.{textAt, text-end, text-more}
 -- An entry whose numbers fit their fields, under its whole name.
 pub record Plain (e : DirEntry) (x : List ℕ) : Type 0 where
   pub len : length x ≡ e .len
+  pub short : e .len < 256
   pub size : e .size < 2 ^ 32
   pub time : e .time < 2 ^ 64
 
@@ -140,6 +141,7 @@ item-plain D n I b h e a o x i =
     let q : ℕ = placeAt 512 a o in
     record {
       len = ap length (i .name) ∙ length-name I q (e .len) (omega (arith, i .below, t .ends));
+      short = subst (λ (v : ℕ). v < 256) (ap (λ (y : DirEntry). y .len) (sym (t .is))) (b (q + 17));
       size = subst (λ (v : ℕ). v < 2 ^ 32) (ap (λ (y : DirEntry). y .size) (sym (t .is))) (be-fits 4 I (q + 5) b);
       time = subst (λ (v : ℕ). v < 2 ^ 64) (ap (λ (y : DirEntry). y .time) (sym (t .is))) (be-fits 8 I (q + 9) b);
     }

@@ -1,15 +1,14 @@
 -- The lines of records: of one, of those that follow, and of records that a listing makes.
 use mathlib.Core.Path.{_≡_, refl, sym, ap, _∙_}
-use mathlib.Core.Bool.{Bool, true, false}
+use mathlib.Core.Bool.{true, false}
 use mathlib.Core.Logic.{_⊎_, inl, inr}
-use mathlib.Core.List.{List, [], _∷_, _++_, append-assoc, append-nil}
+use mathlib.Core.List.{List, [], _++_, append-assoc, append-nil}
 use Prim.Native.Nat.{ℕ, zero, suc, _+_, _-_, _*_, _≤_, _<_}
 use native.Mathlib.Omega.{arith}
 use lib.Dec.{leb}
 use lib.ListN.{length, getD, take, drop, length-take, length-drop}
 use borrow.Author.Tests.{leb-true, leb-false, le-leb, lt-leb}
 use Rattle.wire.specs.Be.{be, splice}
-use Rattle.wire.specs.Pick.{pick}
 use Rattle.wire.proofs.Laws.{splice-nil}
 use Rattle.wire.proofs.Picks.{either, pick-true, pick-false}
 use Rattle.dir_entry.specs.declared.Kind.{Kind}

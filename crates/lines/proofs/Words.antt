@@ -2,16 +2,15 @@
 use mathlib.Core.Path.{_≡_, refl, sym, ap, _∙_}
 use mathlib.Core.List.{List, [], _∷_, _++_, append-assoc}
 use Prim.Native.Nat.{ℕ, _+_, _-_, _/_, _%_, _≤_, _<_}
-use native.Mathlib.Nat.{zero-add}
 use native.Mathlib.Omega.{arith}
-use lib.ListN.{length, getD, take, drop, set, length-append, length-set}
+use lib.ListN.{length, take, drop, set, length-append}
 use lib.Seq.{take-length}
 use Rattle.wire.specs.Be.{splice}
 use Rattle.wire.proofs.Laws.{length-splice, splice-append, splice-comm, set-splice}
 use Rattle.dir_entry.specs.declared.Kind.{Kind}
 use Rattle.dir_entry.proofs.Heads.{splice-then}
 use Rattle.lines.specs.Line.{digit, digits, space, newline, letter, ended, lineOf, refusedWord, refusedLine}
-use Rattle.lines.proofs.Digits.{digits-last, digits-more, length-more, digits-some}
+use Rattle.lines.proofs.Digits.{digits-last, digits-more, length-more}
 
 -- a word, and then the byte that ends it
 pub length-ended : (w : List ℕ) (b : ℕ) → length (ended w b) ≡ length w + 1

@@ -10,7 +10,7 @@ use Rattle.dir_entry.specs.declared.Kind.the-variants.{Dir, File, Device}
 abbrev pub digit : ℕ → ℕ
 digit d = 48 + d
 
--- A number in decimal: the digits of n / 10, where that is not 0, and then its last. k is above the number of digits.
+-- A number in decimal: the digits of n / 10, where that is not 0, and then the last one. (The first number bounds them: n + 1 is enough.)
 unfoldable pub digitsWithin : ℕ → ℕ → List ℕ
 digitsWithin zero n = []
 digitsWithin (suc k) n = pick (ltb n 10) (digit n ∷ []) (digitsWithin k (n / 10) ++ (digit (n % 10) ∷ []))

@@ -1,5 +1,5 @@
 -- The lines of a listing's records, and those of a walk's entries. Definitions alone.
-use mathlib.Core.List.{List, [], _∷_, _++_}
+use mathlib.Core.List.{List, [], _++_}
 use Prim.Native.Nat.{ℕ, zero, suc, _+_}
 use lib.Dec.{ltb, leb}
 use lib.ListN.{length, getD, take, drop}

@@ -1,9 +1,9 @@
 -- From the records that a listing of `/` gives to the lines of the root's entries.
 use mathlib.Core.Path.{_≡_, refl, sym, ap, _∙_, subst}
-use mathlib.Core.Bool.{Bool, true, false}
+use mathlib.Core.Bool.{true, false}
 use mathlib.Core.Logic.{_⊎_, inl, inr}
 use mathlib.Core.List.{List, [], _∷_, _++_}
-use Prim.Native.Nat.{ℕ, zero, suc, _+_, _-_, _*_, _≤_, _<_}
+use Prim.Native.Nat.{ℕ, zero, suc, _+_, _*_, _≤_, _<_}
 use native.Mathlib.Nat.{zero-add}
 use native.Mathlib.Omega.{arith}
 use lib.Dec.{ltb}
@@ -25,12 +25,12 @@ use Rattle.read_dir.specs.Walk.{Walk, item, finished, damaged, walk}
 use Rattle.read_dir.specs.Finds.{skip, listFrom, recordOf, recordsFrom}
 use Rattle.read_dir.proofs.Records.{length-record, take-stored}
 use Rattle.read_dir.proofs.Items.{Each}
-use Rattle.path.specs.Path.{slash, pathBytes, startsSlash, realPath, badPath, pathRefusal, steps}
+use Rattle.path.specs.Path.{slash, pathBytes, startsSlash, realPath, badPath, steps}
 use Rattle.dir.specs.Resolve.{resolve, openDir}
 use Rattle.mfs.specs.declared.Listing.{Listing}
 use Rattle.mfs.specs.declared.Listing.the-variants as listing
 use Rattle.mfs.specs.Reading.{Counts, countsOf, size, area, end, pathCall, listOn, listReply, recordsAt, recordsOn, listSays, onReply, Lists}
-use Rattle.lines.specs.Text.{textOf, linesFrom}
+use Rattle.lines.specs.Text.{textOf}
 use Rattle.lines.proofs.Listed.{Plain, text-directory, directory-plain}
 use Rattle.listing.specs.Page.{rootFrom, pageText, textCounts, pageReply, Pages, Within, Turned}
 

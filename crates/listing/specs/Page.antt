@@ -1,6 +1,6 @@
 -- A page of the listing: the lines of the root's entries, as many as have their records in a buffer of cap bytes. Definitions alone.
 use mathlib.Core.Path.{_≡_}
-use mathlib.Core.List.{List}
+use mathlib.Core.List.{List, [], _++_}
 use Prim.Native.Nat.{ℕ, _≤_}
 use lib.ListN.{length, take}
 use Rattle.wire.specs.Be.{splice}
@@ -8,11 +8,12 @@ use Rattle.model.specs.Answers.{Reply, accepted, refused, given}
 use Rattle.model.specs.Geometry.{openRefusal}
 use Rattle.read_dir.specs.declared.Listed.{Listed}
 use Rattle.read_dir.specs.declared.Listed.the-variants as listed
-use Rattle.read_dir.specs.Walk.{Walk, walk}
+use Rattle.read_dir.specs.Walk.{Walk, item, finished, damaged, walk}
 use Rattle.read_dir.specs.Finds.{skip, listFrom}
 use Rattle.mfs.specs.declared.Listing.{Listing}
 use Rattle.mfs.specs.Reading.{Counts, size, area, end, listSays, onReply}
 use Rattle.mfs.specs.declared.Listing.the-variants as listing
+use Rattle.lines.specs.Line.{lineOf}
 use Rattle.lines.specs.Text.{textOf, linesFrom}
 
 -- "The root directory's first block is D": its entries from number i on.
@@ -22,6 +23,12 @@ rootFrom K I i = skip i (walk (size K I) (area K I) (end K I) I (area K I))
 -- "a line for each root entry"
 unfoldable pub pageText : ℕ → List ℕ → ℕ → ℕ → List ℕ
 pageText K I i cap = linesFrom cap 0 (rootFrom K I i)
+
+-- all of them
+unfoldable pub allLines : Walk → List ℕ
+allLines (item e a o x w) = lineOf (e .kind) (e .size) (e .time) x ++ allLines w
+allLines finished = []
+allLines damaged = []
 
 -- the bytes of the lines in place of those of the records
 abbrev pub textCounts : Listed → List ℕ → Reply Counts

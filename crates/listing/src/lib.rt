@@ -84,7 +84,7 @@ fn put_root(img: &[u8]) {
     }
 }
 
-// Writes what there is to say of an image.
+// Writes what there is to say of an image of at most 65,536 bytes.
 pub fn show(img: &[u8]) {
     let a = checked(img);
     match a {

@@ -1,5 +1,4 @@
 use native.Mathlib.Omega.{arith}
-use Rattle.lines.specs.Line.{digits, ended}
 use Rattle.lines.proofs.Digits.{digits-32, digits-64}
 use Rattle.lines.proofs.Words.{line-short, line-stored, length-ended}
 use borrow.Author.Needs.{needs}

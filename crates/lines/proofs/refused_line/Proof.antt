@@ -1,6 +1,5 @@
 use native.Mathlib.Omega.{arith}
-use Rattle.lines.specs.Line.{digits, ended}
-use Rattle.lines.proofs.Digits.{digits-32, digits-64}
+use Rattle.lines.proofs.Digits.{digits-32}
 use Rattle.lines.proofs.Words.{refused-stored, length-ended}
 use borrow.Author.Needs.{needs}
 use Rattle.lines.proofs.refused_line.Statement.{statement}

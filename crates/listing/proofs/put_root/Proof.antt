@@ -1,4 +1,4 @@
-use Prim.Native.Nat.{ℕ, _-_, _^_, _<_}
+use Prim.Native.Nat.{_-_, _^_, _<_}
 use native.Mathlib.Omega.{arith}
 use Rattle.listing.proofs.put_root.Statement.{statement}
 use Rattle.listing.proofs.put_root.Tie as tie
