@@ -1,0 +1,5 @@
+pub mod Digits
+pub mod Words
+pub mod Texts
+pub mod Listed
+pub mod Examples

@@ -1,0 +1,2 @@
+pub mod Paged
+pub mod Whole
