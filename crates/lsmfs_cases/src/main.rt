@@ -109,6 +109,14 @@ fn wrong_numbers(img: &mut [u8]) {
     spoilt(b"used count 129", img, 4113, 129);
 }
 
+// What only the whole check sees: a bit that is clear for a reached block or set for another, a count of its own, and a size without its blocks.
+fn damage(img: &mut [u8]) {
+    spoilt(b"the bit of block 13 clear", img, 5120, 3);
+    spoilt(b"the bit of block 14 set", img, 5120, 15);
+    spoilt(b"used count 15", img, 4113, 15);
+    spoilt(b"a file of 515 bytes in one block", img, 5643, 2);
+}
+
 // A device, whose chain may have any length, in place of the file; the largest size and time.
 fn device(img: &mut [u8]) {
     set(img, 5636, 2);
@@ -157,6 +165,7 @@ fn main() {
     empty_root(&mut img);
     wrong_marks(&mut img);
     wrong_numbers(&mut img);
+    damage(&mut img);
     device(&mut img);
     long_root(&mut img);
 }
