@@ -4,7 +4,6 @@
 // May use: every crate below; io and libc to read and write.
 use mfs::Answer;
 use mfs::Listing;
-use mfs::Space;
 use model::Refusal;
 ghost use Prim.Native.Nat.{_*_, _≤_};
 ghost use lib.ListN.{length};
@@ -26,13 +25,10 @@ fn refuse(r: Refusal) {
     put(&out, n);
 }
 
-// The check that comes before the listing.
+// The check that comes before the listing. 16 bytes have a bit for each block of 65,536 bytes.
 fn checked(img: &[u8]) -> Answer {
-    let u = mfs::usage(img, K);
-    match u {
-        Space::Bytes { .. } => Answer::Success,
-        Space::Refused(r) => Answer::Refused(r),
-    }
+    let mut work = [0u8; 16];
+    mfs::check(img, K, &mut work)
 }
 
 // A listing's answer with the text of its records in their place.
