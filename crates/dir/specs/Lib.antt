@@ -1,2 +1,3 @@
 pub mod Resolve
 pub mod Post
+pub mod Hold
