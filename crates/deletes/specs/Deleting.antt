@@ -37,11 +37,14 @@ onPlaced found.Missing f = refused 5
 onPlaced found.Damaged f = refused 17
 
 module _ (g : Geo) (I : List ℕ) where
-  -- In the directory h, by the name x: 5, 14, 18, or the entry.
+  -- The entry e at p of the directory h: 14, 18, or the entry.
+  unfoldable pub doomedAt : Hold → DirEntry → Place → Reply Doomed
+  doomedAt h e p =
+      given (when 14 (hasEntries e)) (andThen (ownOf (blockSize g) (dataAt g) (g .n) I h) (λ o. accepted (record { dir = h .dir; entry = e; place = p; own = o })))
+
+  -- In the directory h, by the name x: 5, then these.
   unfoldable pub doomedIn : List ℕ → Hold → Reply Doomed
-  doomedIn x h =
-      onPlaced (findIn x (walk (blockSize g) (dataAt g) (g .n) I (h .dir)))
-      (λ e p. given (when 14 (hasEntries e)) (andThen (ownOf (blockSize g) (dataAt g) (g .n) I h) (λ o. accepted (record { dir = h .dir; entry = e; place = p; own = o }))))
+  doomedIn x h = onPlaced (findIn x (walk (blockSize g) (dataAt g) (g .n) I (h .dir))) (doomedAt h)
 
   -- At the full path l: "An empty last name gives 5 without a walk", 5/6 on the way, then these.
   unfoldable pub doomedOf : List ℕ → Reply Doomed
