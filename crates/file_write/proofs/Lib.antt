@@ -5,3 +5,6 @@ pub mod Extends
 pub mod Frees
 pub mod Resizes
 pub mod Loops
+pub mod Chops
+pub mod Fills
+pub mod Files
