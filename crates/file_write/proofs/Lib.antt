@@ -8,3 +8,5 @@ pub mod Loops
 pub mod Chops
 pub mod Fills
 pub mod Files
+pub mod Filing
+pub mod Writes
