@@ -1,17 +1,17 @@
 -- Bytes laid into blocks, and bytes stored over them: lists alone.
-use mathlib.Core.Path.{_≡_, refl, sym, ap, _∙_, subst}
+use mathlib.Core.Path.{_≡_, refl, sym, ap, _∙_}
 use mathlib.Core.List.{List, [], _∷_, _++_, append-assoc, append-nil}
-use Prim.Native.Nat.{ℕ, zero, suc, _+_, _-_, _*_, _≤_, _<_}
-use native.Mathlib.Nat.{mul-zero, mul-suc, add-comm, add-assoc}
+use Prim.Native.Nat.{ℕ, suc, _+_, _-_, _*_, _≤_, _<_}
+use native.Mathlib.Nat.{mul-zero, mul-suc}
 use native.Mathlib.Decide.{decLt}
 use native.Mathlib.Omega.{arith}
 use lib.ListN.{length, take, drop, length-append, length-take, length-drop, take-append-drop, drop-of-length-le}
-use lib.Seq.{length-take-le, take-all, take-at, drop-at, take-append-le, drop-append-le, take-append-add, drop-append-add, take-take, take-add}
+use lib.Seq.{length-take-le, take-all, take-at, drop-at, take-append-le, drop-append-le, take-append-add, drop-append-add, take-add}
 use Rattle.wire.specs.Be.{splice}
 use Rattle.wire.proofs.Laws.{length-splice, splice-nil}
 use Rattle.model.specs.Tree.{Cell}
 use Rattle.model.specs.Render.{cellsAt}
-use Rattle.model.specs.Volume.{All, GoodCell}
+use Rattle.model.specs.Volume.{All}
 use Rattle.model.specs.Calls.{places, stream, chop}
 
 -- ---- a store over two lists side by side

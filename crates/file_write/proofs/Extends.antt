@@ -2,19 +2,18 @@
 use mathlib.Core.Path.{_≡_, refl, sym, ap, _∙_, subst}
 use mathlib.Core.List.{List, [], _∷_, _++_, append-assoc, append-nil}
 use Prim.Native.Nat.{ℕ, zero, suc, _+_, _-_, _*_, _≤_, _<_}
-use native.Mathlib.Nat.{add-zero}
 use native.Mathlib.Decide.{decLt, ℕ-discrete}
 use native.Mathlib.Omega.{arith}
-use lib.ListN.{length, take, drop}
+use lib.ListN.{length, take}
 use Rattle.wire.specs.Be.{bytes}
 use Rattle.block.specs.Block.{cell, Off, Kept}
 use Rattle.block.proofs.Laws.{kept-refl, kept-trans, kept-less}
 use Rattle.model.specs.Tree.{Cell}
 use Rattle.model.specs.Render.{cellsAt, cellPieces, count, Shows, ShowsAll}
 use Rattle.model.specs.Geometry.{Geo, blockSize, dataAt, mapBits, superBytes, usedCount, Sound}
-use Rattle.model.specs.Volume.{All, GoodCell}
+use Rattle.model.specs.Volume.{GoodCell}
 use Rattle.model.specs.Calls.{places, emptyCell}
-use Rattle.model.proofs.Areas.{area, size-large}
+use Rattle.model.proofs.Areas.{size-large}
 use Rattle.model.proofs.Counts.{count-same, count-other, count-cons, count-none}
 use Rattle.model.proofs.Frame.{SameBlock}
 use Rattle.model.proofs.Full.{all-append}
@@ -22,7 +21,7 @@ use Rattle.bitmap_block.specs.Bitmap.{mark, clears, Room}
 use Rattle.bitmap_block.proofs.Steps.{index-in, Aside, aside-data}
 use Rattle.file_write.specs.Write.{fresh, grown, extended, Held}
 use Rattle.file_write.proofs.Cells.{count-places, count-cell, count-no-cell, count-one, all-front, all-back, block-long, tail-shows, back-shows, empties, empty-zero, empty-good}
-use Rattle.file_write.proofs.Grows.{fresh-low, fresh-index, fresh-head, fresh-high, fresh-clear, grown-kept, grown-sound, grown-used, grown-clears, grown-room, grown-mark, grown-top, grown-zero, grown-links}
+use Rattle.file_write.proofs.Grows.{fresh-low, fresh-head, fresh-high, fresh-clear, grown-kept, grown-sound, grown-used, grown-clears, grown-room, grown-mark, grown-top, grown-zero, grown-links}
 
 -- ---- one block
 

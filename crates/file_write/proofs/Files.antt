@@ -2,30 +2,23 @@
 use mathlib.Core.Path.{_≡_, refl, sym, ap, _∙_, subst}
 use mathlib.Core.Bool.{true, false}
 use mathlib.Core.Logic.{_⊎_, inl, inr}
-use mathlib.Core.Option.{Option, none, some}
+use mathlib.Core.Option.{Option, some}
 use mathlib.Core.List.{List, [], _∷_, _++_, append-assoc}
-use Prim.Native.Nat.{ℕ, zero, suc, _+_, _-_, _*_, _≤_, _<_}
+use Prim.Native.Nat.{ℕ, zero, suc, _+_, _-_, _*_, _≤_}
 use native.Mathlib.Omega.{arith}
-use lib.ListN.{length, getD, replicate, length-append}
-use Rattle.wire.specs.Be.{bytes, splice}
+use lib.ListN.{length}
+use Rattle.wire.specs.Be.{bytes}
 use Rattle.wire.specs.Pick.{pick}
-use Rattle.wire.proofs.Laws.{length-bytes, length-splice}
 use Rattle.wire.proofs.Picks.{either, pick-true, pick-false}
-use Rattle.block.specs.Block.{Off, Kept}
-use Rattle.block.proofs.Laws.{kept-trans, kept-less, splice-kept}
-use Rattle.model.specs.Tree.{Name, Cell, Node, file, sub, Entry, Block, Below, Tree, first, then, called, holds, lookup, weight, used, sum, change, Edit, renew, edit, Some, find}
-use Rattle.model.specs.Render.{Piece, View, cellsAt, blocksAt, padded, kindOf, addressOf, sizeOf, entryBytes, nodePieces, entryPieces, dirPieces, view, render, ats, count, Shows, ShowsAll, offset, placeOf}
+use Rattle.model.specs.Tree.{Name, Cell, sub, Entry, Block, Below, Tree, first, then, called, holds, lookup, weight, used, change, Edit, renew, edit, Some, find}
+use Rattle.model.specs.Render.{Piece, View, padded, entryBytes, nodePieces, entryPieces, dirPieces, view, render, ats, count, offset, placeOf}
 use Rattle.model.specs.Volume.{All, GoodBlock}
-use Rattle.model.specs.Calls.{fileEntry, refiled, rewritten}
+use Rattle.model.specs.Calls.{refiled, rewritten}
 use Rattle.model.proofs.Alike.{change-at, change-sum, entry-above}
-use Rattle.model.proofs.Commit.{shows-both, shows-one, shows-two, shows-stored, shows-before, shows-after}
-use Rattle.model.proofs.Counts.{count-same, count-cons, count-append, ats-append, length-ats}
-use Rattle.model.proofs.Cuts.{Cut, OwnCut, cut-here, cut-in, own-cut}
+use Rattle.model.proofs.Counts.{count-same, count-cons, count-append, ats-append}
+use Rattle.model.proofs.Cuts.{Cut, cut-here, cut-in, own-cut}
 use Rattle.model.proofs.Edits.{refiled-name}
-use Rattle.model.proofs.Frame.{shows-right}
-use Rattle.model.proofs.Full.{Whole}
 use Rattle.model.proofs.Lists.{not-some, then-some, first-here, first-there}
-use Rattle.model.proofs.Owns.{renewedAt}
 use Rattle.dir_entry.specs.Entry.{placeAt}
 use Rattle.read_dir.specs.declared.Place.{Place}
 use Rattle.read_dir.specs.Finds.{placed}

@@ -1,20 +1,20 @@
 -- Size and time stored in a file's entry: what its block shows then.
-use mathlib.Core.Path.{_≡_, refl, sym, ap, _∙_, subst}
+use mathlib.Core.Path.{_≡_, sym, ap, _∙_, subst}
 use mathlib.Core.List.{List, [], _∷_, _++_}
-use Prim.Native.Nat.{ℕ, zero, suc, _+_, _-_, _*_, _≤_, _<_}
+use Prim.Native.Nat.{ℕ, _+_, _-_, _*_, _≤_}
 use native.Mathlib.Omega.{arith}
-use lib.ListN.{length, getD, replicate, length-append}
+use lib.ListN.{length, replicate, length-append}
 use Rattle.wire.specs.Be.{bytes, splice}
 use Rattle.wire.proofs.Laws.{length-bytes, length-splice}
 use Rattle.block.specs.Block.{cell, Off, Kept}
 use Rattle.block.proofs.Laws.{kept-trans, kept-less, splice-kept}
-use Rattle.model.specs.Tree.{Name, Cell, file, Entry, weight}
+use Rattle.model.specs.Tree.{Name, Cell, weight}
 use Rattle.model.specs.Render.{Piece, View, cellsAt, padded, kindOf, addressOf, sizeOf, entryBytes, ats, count, Shows, ShowsAll}
 use Rattle.model.specs.Volume.{All}
 use Rattle.model.specs.Calls.{fileEntry}
 use Rattle.model.proofs.Alike.{length-entry}
 use Rattle.model.proofs.Commit.{shows-both, shows-one, shows-two, shows-stored, shows-before, shows-after}
-use Rattle.model.proofs.Counts.{count-same, count-cons, count-append, ats-append, length-ats}
+use Rattle.model.proofs.Counts.{count-cons, count-append, ats-append, length-ats}
 use Rattle.model.proofs.Cuts.{Cut}
 use Rattle.model.proofs.Frame.{shows-right}
 use Rattle.model.proofs.Full.{Whole}

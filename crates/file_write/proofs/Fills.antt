@@ -1,6 +1,6 @@
 -- The buffer along a chain: the bytes that its blocks show then, and that no other block has changed.
 use mathlib.Core.Path.{_≡_, refl, sym, ap, _∙_, subst}
-use mathlib.Core.List.{List, [], _∷_, _++_, append-assoc, append-nil}
+use mathlib.Core.List.{List, [], _∷_, _++_, append-nil}
 use Prim.Native.Nat.{ℕ, zero, suc, _+_, _-_, _*_, _/_, _%_, _≤_, _<_}
 use native.Mathlib.Nat.{mul-zero, mul-suc, mul-add, mul-le-mul-left, div-add-mod, mod-lt}
 use native.Mathlib.Decide.{decLt}
@@ -22,7 +22,7 @@ use Rattle.model.proofs.Frame.{SameBlock}
 use Rattle.model.proofs.Owns.{shows-kept}
 use Rattle.bitmap_block.proofs.Steps.{sound-kept}
 use Rattle.file_write.specs.Write.{hop, poured, spread}
-use Rattle.file_write.proofs.Cells.{Front, front-of, count-places, count-cell, count-one, all-front, all-back, block-long, tail-shows, back-shows}
+use Rattle.file_write.proofs.Cells.{Front, front-of, count-places, count-cell, count-one, all-front, all-back, tail-shows, back-shows}
 use Rattle.file_write.proofs.Chops.{chop-same, chop-starts, chop-first, chop-past}
 use Rattle.file_write.proofs.Grows.{block-in}
 use Rattle.file_write.proofs.Hops.{next-cell, hop-cells}

@@ -1,8 +1,8 @@
 -- Blocks freed at the end of a chain: the chain that the image holds then, and what else has changed.
 use mathlib.Core.Path.{_≡_, refl, sym, ap, _∙_, subst}
 use mathlib.Core.List.{List, [], _∷_, _++_, append-assoc, append-nil}
-use Prim.Native.Nat.{ℕ, zero, suc, _+_, _-_, _*_, _≤_, _<_}
-use native.Mathlib.Decide.{decLt, ℕ-discrete}
+use Prim.Native.Nat.{ℕ, suc, _+_, _-_, _*_, _≤_, _<_}
+use native.Mathlib.Decide.{ℕ-discrete}
 use native.Mathlib.Omega.{arith}
 use lib.ListN.{length}
 use Rattle.wire.specs.Be.{bytes}
@@ -22,7 +22,7 @@ use Rattle.bitmap_block.proofs.Steps.{index-in, sound-kept, Aside, aside-data, 
 use Rattle.file_write.specs.Write.{dropped, cutAfter, Held}
 use Rattle.file_write.proofs.Cells.{count-places, count-cell, count-no-cell, count-one, all-front, all-back, block-long, tail-shows, back-shows, relinked}
 use Rattle.file_write.proofs.Grows.{block-in, link-kept, link-mark, link-top}
-use Rattle.file_write.proofs.Hops.{next-cell, cells-tail}
+use Rattle.file_write.proofs.Hops.{next-cell}
 
 -- ---- a chain that is held still
 
@@ -71,9 +71,6 @@ pub record Dropped (g : Geo) (I J : List ℕ) (ys : List Cell) : Type 0 where
 module _ (g : Geo) (I : List ℕ) (s : Sound g (length I)) (y : Cell) (ys : List Cell) (h : Held g I (y ∷ ys)) where
   here : (dataAt g ≤ y .at) × (y .at < g .n)
   here = h .range (y .at) (omega (arith, count-cell (y .at) y ys, count-one (y .at)))
-
-  x : ℕ
-  x = y .at - dataAt g
 
   F : List ℕ
   F = freed g I (y .at - dataAt g)

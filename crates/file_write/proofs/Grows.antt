@@ -1,7 +1,7 @@
 -- A next address stored in a block of the data, and a block added: what each reader sees.
-use mathlib.Core.Path.{_≡_, refl, sym, ap, _∙_, subst}
+use mathlib.Core.Path.{_≡_, refl, sym, ap, _∙_}
 use mathlib.Core.List.{List, [], _∷_, _++_}
-use Prim.Native.Nat.{ℕ, suc, _+_, _-_, _*_, _^_, _≤_, _<_}
+use Prim.Native.Nat.{ℕ, _+_, _-_, _*_, _≤_, _<_}
 use native.Mathlib.Nat.{mul-suc, mul-comm, mul-le-mul-left}
 use native.Mathlib.Decide.{ℕ-discrete}
 use native.Mathlib.Omega.{arith}
@@ -20,7 +20,7 @@ use Rattle.model.proofs.Demand.{whole-super}
 use Rattle.model.proofs.Free.{clear-lowest}
 use Rattle.model.proofs.Owns.{shows-kept}
 use Rattle.bitmap_block.specs.Bitmap.{mark, clears, taken, Room}
-use Rattle.bitmap_block.proofs.Steps.{mark-is, data-in, index-in, sound-kept, used-kept, mark-kept, clears-kept, Aside, aside-data, taken-kept, sound-taken, used-taken, top-taken, mark-taken, mark-taken-other, cell-taken, first-in, first-clear, clears-taken, set-taken, room-taken, clears-first}
+use Rattle.bitmap_block.proofs.Steps.{mark-is, index-in, sound-kept, used-kept, mark-kept, clears-kept, Aside, aside-data, taken-kept, sound-taken, used-taken, top-taken, mark-taken, mark-taken-other, cell-taken, first-in, first-clear, clears-taken, set-taken, clears-first}
 use Rattle.file_write.specs.Write.{fresh, grown}
 use Rattle.file_write.proofs.Cells.{relinked}
 
@@ -32,9 +32,6 @@ module _ (g : Geo) (I : List ℕ) (s : Sound g (length I)) (a : ℕ) (low : data
 
   pub link-kept : (v : ℕ) → Kept (blockSize g) (Off a 0 4) I (linked (blockSize g) I a v)
   link-kept v = linked-kept (blockSize g) I a (omega (arith, size-large g)) block-in v
-
-  pub link-sound : (v : ℕ) → Sound g (length (linked (blockSize g) I a v))
-  link-sound v = sound-kept g I s _ _ (link-kept v)
 
   pub link-used : (v : ℕ) → usedCount g (linked (blockSize g) I a v) ≡ usedCount g I
   link-used v = used-kept g I s _ _ (link-kept v) (λ o _ _ e _ _. omega (arith, area g (length I) s .maps))
@@ -62,9 +59,6 @@ fresh-low g I h = go (clears g I) refl h
     go (b ∷ c) e j = clear-lowest (λ b. mark g I (b - dataAt g)) (dataAt g) (reach g) b c e .from
 
 module _ (g : Geo) (I : List ℕ) (s : Sound g (length I)) (h : 1 ≤ length (clears g I)) where
-  index : ℕ
-  index = fresh g I - dataAt g
-
   pub fresh-index : dataAt g + (fresh g I - dataAt g) ≡ fresh g I
   fresh-index = omega (arith, fresh-low g I h)
 
@@ -92,10 +86,6 @@ module _ (g : Geo) (I : List ℕ) (s : Sound g (length I)) (h : 1 ≤ length (cl
   T-sound = sound-taken g I s (fresh g I - dataAt g) in-data
 
   module _ (last : ℕ) (low : dataAt g ≤ last) (high : last < g .n) where
-    grown-is : grown g I last ≡ linked (blockSize g) T last (fresh g I)
-    unfolding grown T
-    grown-is = refl
-
     -- every other byte is as it was
     pub grown-kept : Kept (blockSize g) (λ b o. Aside g b o × (Off last 0 4 b o × (b ≡ fresh g I → ⊥))) I (grown g I last)
     unfolding grown T
@@ -126,9 +116,6 @@ module _ (g : Geo) (I : List ℕ) (s : Sound g (length I)) (h : 1 ≤ length (cl
     unfolding grown T
     grown-mark y q = (unfold T in link-mark g T T-sound last low high (fresh g I) y q) ∙ go (ℕ-discrete y (fresh g I - dataAt g))
       where
-        x : ℕ
-        x = fresh g I - dataAt g
-
         go : Dec (y ≡ fresh g I - dataAt g) → mark g (taken g I (fresh g I - dataAt g)) y ≡ mark g I y + count (dataAt g + y) (fresh g I ∷ [])
         go (yes e) =
             let a = ap (mark g (taken g I (fresh g I - dataAt g))) e ∙ mark-taken g I s (fresh g I - dataAt g) in-data in

@@ -1,10 +1,9 @@
 -- What the code's loops need and give, one law for each place. An address or a count that code holds is a variable with an equation.
-use mathlib.Core.Path.{_≡_, refl, sym, ap, _∙_, subst}
-use mathlib.Core.List.{List, [], _∷_, _++_}
-use Prim.Native.Nat.{ℕ, zero, suc, _+_, _-_, _*_, _/_, _%_, _^_, _≤_, _<_, min}
+use mathlib.Core.Path.{_≡_, sym, ap, _∙_, subst}
+use mathlib.Core.List.{List}
+use Prim.Native.Nat.{ℕ, suc, _+_, _-_, _*_, _/_, _%_, _≤_, _<_, min}
 use native.Mathlib.Decide.{decLt}
 use native.Mathlib.Omega.{arith}
-use lib.Dec.{ltb}
 use borrow.Author.Tests.{lt-ltb, le-ltb}
 use lib.ListN.{length, getD, take, drop, length-take, length-drop, drop-of-length-le}
 use lib.Seq.{take-all, drop-drop}
@@ -22,14 +21,13 @@ use Rattle.super_block.proofs.Fits.{placed, fit-long}
 use Rattle.bitmap_block.specs.Bitmap.{clears, taken, freed, Room}
 use Rattle.bitmap_block.proofs.Laws.{found-in}
 use Rattle.bitmap_block.proofs.Steps.{Aside, aside-data, freed-kept, used-freed}
-use Rattle.dir_entry.specs.Entry.{placeAt}
 use Rattle.dir_entry.specs.declared.DirEntry.{DirEntry}
 use Rattle.read_dir.specs.declared.Place.{Place}
 use Rattle.model.proofs.Contents.{blocks-enough}
 use Rattle.file_write.specs.Write.{hop, Along, fresh, grown, extended, dropped, cutAfter, resized, poured, spread, filed, wrote, Chained, Resizable, CanWrite}
 use Rattle.file_write.proofs.Hops.{hop-none, hop-more, hop-last, along-here, along-next, along-less, along-drop, along-kept, along-cells, SameNext}
 use Rattle.file_write.proofs.Resizes.{Outcome, resized-is}
-use Rattle.file_write.proofs.Grows.{grown-kept, grown-room, grown-set, fresh-low, fresh-high, fresh-index}
+use Rattle.file_write.proofs.Grows.{grown-kept, grown-room, grown-set, fresh-high}
 
 -- ---- how many blocks a size needs
 
@@ -153,9 +151,6 @@ extend-ends g I L b left last k t h = let e : 0 ≡ left = omega arith in ap (ex
 -- ---- blocks freed: left are to be freed from b on
 
 module _ (s : SuperBlock) (I : List ℕ) (b left : ℕ) (f : Fit s I) (h : 0 < left) (w : Along (geoOf s) I b left) (x : ℕ) (d : ℕ) (q : d ≡ s .area .0) (e : x ≡ b - d) where
-  free-low : dataAt (geoOf s) ≤ b
-  free-low = along-here (geoOf s) I b left w h .0
-
   pub free-in : s .area .0 + x < s .blocks
   free-in = omega (arith, along-here (geoOf s) I b left w h, f .area)
 

@@ -1,12 +1,12 @@
 -- A chain given another number of blocks: the blocks that it has then, their bytes, and what else has changed.
 use mathlib.Core.Path.{_≡_, refl, sym, ap, _∙_, subst}
 use mathlib.Core.List.{List, [], _∷_, _++_, append-assoc, append-nil}
-use Prim.Native.Nat.{ℕ, zero, suc, _+_, _-_, _*_, _≤_, _<_}
-use native.Mathlib.Nat.{mul-zero, mul-suc, mul-add, add-comm}
+use Prim.Native.Nat.{ℕ, suc, _+_, _-_, _*_, _≤_, _<_}
+use native.Mathlib.Nat.{mul-zero, mul-suc, mul-add}
 use native.Mathlib.Decide.{decLt}
 use native.Mathlib.Omega.{arith}
 use borrow.Author.Tests.{lt-ltb, le-ltb}
-use lib.ListN.{length, take, drop, length-append, length-replicate, replicate-append-replicate}
+use lib.ListN.{length, take, length-append, length-replicate, replicate-append-replicate}
 use lib.Seq.{length-take-le, take-all, take-at, take-append-add}
 use Rattle.wire.specs.Be.{zeros}
 use Rattle.wire.proofs.Picks.{pick-true, pick-false}
@@ -18,14 +18,14 @@ use Rattle.model.specs.Geometry.{Geo, blockSize, dataAt, mapBits, superBytes, u
 use Rattle.model.specs.Volume.{All, GoodCell}
 use Rattle.model.specs.Calls.{places, stream}
 use Rattle.model.proofs.Contents.{length-stream, length-places}
-use Rattle.model.proofs.Counts.{count-append, count-same}
+use Rattle.model.proofs.Counts.{count-same}
 use Rattle.bitmap_block.specs.Bitmap.{mark, clears, Room}
-use Rattle.bitmap_block.proofs.Steps.{sound-kept, Aside}
-use Rattle.file_write.specs.Write.{hop, Along, extended, cutAfter, resized, Held, Chained, Resizable}
+use Rattle.bitmap_block.proofs.Steps.{Aside}
+use Rattle.file_write.specs.Write.{hop, extended, cutAfter, resized, Held}
 use Rattle.file_write.proofs.Cells.{Front, front-of, places-append, count-places, count-cell, count-no-cell, count-one, all-front, empties, places-empties}
 use Rattle.file_write.proofs.Extends.{Extended, extended-held, extended-is}
 use Rattle.file_write.proofs.Frees.{cut-held, cut-kept, cut-marks, cut-top}
-use Rattle.file_write.proofs.Hops.{hop-cells, along-cells}
+use Rattle.file_write.proofs.Hops.{hop-cells}
 
 -- The chain cs of I is the chain ds of J, with `new` blocks: of cs and then of the free ones; their bytes are those of cs and then zeros.
 pub record Resized (g : Geo) (I J : List ℕ) (cs ds : List Cell) (new : ℕ) : Type 0 where
@@ -185,9 +185,6 @@ pub resized-is : (g : Geo) (I : List ℕ) → Sound g (length I) → (cs : List 
     → Outcome g I (resized g I (cellsAt cs) (length cs) new) cs new
 resized-is g I s cs new h p q r l = go (decLt (length cs) new)
   where
-    B : ℕ
-    B = blockSize g
-
     grows : length cs < new → (f : Front (length cs - 1) cs) → Outcome g I (extended g I (hop (blockSize g) I (length cs - 1) (cellsAt cs)) (new - length cs)) cs new
     grows a f =
         let none : f .back ≡ [] = empty (f .back) (omega (arith, ap length (f .is), length-append (f .front) (f .cell ∷ f .back), f .long)) in

@@ -1,6 +1,6 @@
 -- The stores of a write are the edit of the model: every byte of the image that they leave, on every well-formed volume.
 use mathlib.Core.Path.{_≡_, refl, sym, ap, _∙_, subst}
-use mathlib.Core.Option.{Option, some}
+use mathlib.Core.Option.{some}
 use mathlib.Core.List.{List, [], _∷_, _++_}
 use Prim.Native.Nat.{ℕ, zero, suc, _+_, _-_, _*_, _^_, _≤_, _<_}
 use native.Mathlib.Nat.{mul-add, mul-le-mul-left}
@@ -11,31 +11,31 @@ use Rattle.wire.specs.Be.{bytes, splice, zeros}
 use Rattle.block.specs.Block.{cell, Off, Kept}
 use Rattle.block.proofs.Laws.{kept-trans, kept-less}
 use Rattle.bits.specs.Bit.{bit}
-use Rattle.model.specs.Tree.{Name, Cell, Node, file, Entry, Below, Tree, lookup, change, Edit, edit, Some, find}
-use Rattle.model.specs.Render.{Piece, View, cellsAt, blocksAt, padded, addressOf, sizeOf, entryBytes, cellPieces, nodePieces, view, render, ats, blocks, count, placeOf, Shows, ShowsAll}
+use Rattle.model.specs.Tree.{Name, Cell, Entry, Below, Tree, lookup, change, edit, Some, find}
+use Rattle.model.specs.Render.{View, cellsAt, blocksAt, padded, addressOf, sizeOf, entryBytes, cellPieces, nodePieces, view, render, ats, blocks, count, placeOf, Shows, ShowsAll}
 use Rattle.model.specs.Geometry.{Geo, blockSize, mapAt, dataAt, mapBits, superBytes, usedCount, Sound}
 use Rattle.model.specs.Volume.{All, fileLimit, blocksFor, GoodCell, GoodFile, GoodEntry, GoodBelow, GoodTree, Volume, maxDepth}
-use Rattle.model.specs.Calls.{Occupied, freeBlocks, fileEntry, stream, places, chop, rewrite, refiled, rewritten, Outside, Makes, Writes}
+use Rattle.model.specs.Calls.{freeBlocks, fileEntry, stream, places, chop, rewrite, refiled, rewritten, Outside, Makes, Writes}
 use Rattle.model.proofs.Alike.{change-at}
-use Rattle.model.proofs.Areas.{area, few, size-large, laid-volume, volume-laid}
+use Rattle.model.proofs.Areas.{area, size-large, laid-volume, volume-laid}
 use Rattle.model.proofs.Contents.{blocks-some, blocks-enough, length-stream, length-places, rewrite-good, rewrite-length, rewrite-places}
-use Rattle.model.proofs.Counts.{count-append, count-none, count-same}
+use Rattle.model.proofs.Counts.{count-append, count-same}
 use Rattle.model.proofs.Cuts.{Cut, edit-below-at}
 use Rattle.model.proofs.Demand.{whole-super}
 use Rattle.model.proofs.Edits.{refiled-name}
-use Rattle.model.proofs.Frame.{SameBlock, cut-count, cut-shows, shows-frame}
+use Rattle.model.proofs.Frame.{cut-count, cut-shows, shows-frame}
 use Rattle.model.proofs.Free.{free-found, free-once}
 use Rattle.model.proofs.Full.{Whole, whole-tree, good-lookup}
 use Rattle.model.proofs.Good.{good-change, good-edit}
-use Rattle.model.proofs.OneVolume.{used-is, used-small}
+use Rattle.model.proofs.OneVolume.{used-is}
 use Rattle.model.proofs.Owns.{renewedAt, shows-kept}
-use Rattle.bitmap_block.specs.Bitmap.{mark, clears, Room}
+use Rattle.bitmap_block.specs.Bitmap.{mark, Room}
 use Rattle.bitmap_block.proofs.Steps.{mark-is, index-in, sound-kept, mark-kept, Aside, aside-data, aside-other, volume-clears, volume-room}
 use Rattle.dir_entry.specs.declared.DirEntry.{DirEntry}
 use Rattle.read_dir.specs.declared.Place.{Place}
 use Rattle.tree_walk.specs.Shown.{headOf, spotOf}
 use Rattle.tree_walk.proofs.Parts.{Stored, Part, laid-part, part-find, stored-lookup, cells-long, block-inside}
-use Rattle.file_write.specs.Write.{resized, spread, filed, wrote, Held, Chained, Resizable, Stands, CanWrite}
+use Rattle.file_write.specs.Write.{resized, spread, filed, wrote, Held, CanWrite}
 use Rattle.file_write.proofs.Cells.{block-long}
 use Rattle.file_write.proofs.Chops.{chop-splice}
 use Rattle.file_write.proofs.Files.{newEntry, file-cut, spot-byte, spot-fits, spot-block}
@@ -74,26 +74,26 @@ module _ (g : Geo) (I : List ℕ) (d : ℕ) (t : Tree d) (v : Volume g I d t) (p
   abbrev B : ℕ
   B = blockSize g
 
-  abbrev W : View (Below (s .0))
-  W = view (blockSize g) (s .0)
+  abbrev dirView : View (Below (s .0))
+  dirView = view (blockSize g) (s .0)
 
   part : Part g I (s .0) (s .1)
   part = part-find g I d p t s (laid-part g I d t _ (v .laid)) f
 
   stored : Stored g I (cellPieces cs)
   unfolding render nodePieces fileEntry
-  stored = stored-lookup g I W n (s .1) (fileEntry n k z cs) l (part .stored)
+  stored = stored-lookup g I dirView n (s .1) (fileEntry n k z cs) l (part .stored)
 
   pub good-file : GoodFile (blockSize g) z cs
   unfolding fileEntry
   good-file = good-lookup B (GoodBelow B (s .0)) n (s .1) (fileEntry n k z cs) (part .good) l .below
 
-  good-name : GoodEntry B (GoodBelow B (s .0)) (fileEntry n k z cs)
-  good-name = good-lookup B (GoodBelow B (s .0)) n (s .1) (fileEntry n k z cs) (part .good) l
+  good-entry : GoodEntry B (GoodBelow B (s .0)) (fileEntry n k z cs)
+  good-entry = good-lookup B (GoodBelow B (s .0)) n (s .1) (fileEntry n k z cs) (part .good) l
 
   -- what a write of it does to the pieces
   cut : (now z′ : ℕ) (es : List Cell) → Cut B (render B d t) (render B d (rewritten d p n now z′ es t)) (cellPieces cs) (cellPieces es) (placeOf B n (s .1))
-      (entryBytes W (fileEntry n k z cs)) (entryBytes W (fileEntry n now z′ es))
+      (entryBytes dirView (fileEntry n k z cs)) (entryBytes dirView (fileEntry n now z′ es))
   unfolding refiled fileEntry nodePieces
   cut now z′ es = file-cut B n now z′ es d p t s f (fileEntry n k z cs) l
 
@@ -166,7 +166,7 @@ module _ (g : Geo) (I : List ℕ) (d : ℕ) (t : Tree d) (v : Volume g I d t) (p
             enough = omega (arith, enough);
           };
           entry = record {
-            block = part .stored .range (spotOf n (s .1) .block .0) (spot-block n B W (s .1) (fileEntry n k z cs) l) .1;
+            block = part .stored .range (spotOf n (s .1) .block .0) (spot-block n B dirView (s .1) (fileEntry n k z cs) l) .1;
             fits = spot-fits n B (GoodBelow B (s .0)) (s .1) (fileEntry n k z cs) (part .good .all) l;
           };
         }
@@ -246,7 +246,7 @@ module _ (g : Geo) (I : List ℕ) (d : ℕ) (t : Tree d) (v : Volume g I d t) (p
     abbrev u : Tree d
     u = rewritten d p n now (c + length buf) es t
 
-    C : Cut B (render B d t) (render B d u) (cellPieces cs) (cellPieces es) (placeOf B n (s .1)) (entryBytes W (fileEntry n k z cs)) (entryBytes W (fileEntry n now (c + length buf) es))
+    C : Cut B (render B d t) (render B d u) (cellPieces cs) (cellPieces es) (placeOf B n (s .1)) (entryBytes dirView (fileEntry n k z cs)) (entryBytes dirView (fileEntry n now (c + length buf) es))
     C = cut now (c + length buf) es
 
     es-spots : places es ≡ places ds
@@ -295,7 +295,7 @@ module _ (g : Geo) (I : List ℕ) (d : ℕ) (t : Tree d) (v : Volume g I d t) (p
 
     entry-kept : Kept B (Off (C .at) (4 + length (C .low) + 5) 12) J₂ J₃
     unfolding J₃
-    entry-kept = filing-kept B _ _ _ _ _ W n k now z (c + length buf) cs es C (omega (arith, size-large g)) whole J₂ inside
+    entry-kept = filing-kept B _ _ _ _ _ dirView n k now z (c + length buf) cs es C (omega (arith, size-large g)) whole J₂ inside
 
     -- every other byte is as it was
     kept₃ : Kept B (λ b o. Aside g b o × ((count b (places ds) ≡ 0) × Off (C .at) (4 + length (C .low) + 5) 12 b o)) I J₃
@@ -303,9 +303,9 @@ module _ (g : Geo) (I : List ℕ) (d : ℕ) (t : Tree d) (v : Volume g I d t) (p
 
     -- ---- what the image shows
 
-    dir-old : Shows J₂ (B * C .at) (bytes 4 (C .next) ++ padded (B - 4) (C .low ++ (entryBytes W (fileEntry n k z cs) ++ C .high)))
+    dir-old : Shows J₂ (B * C .at) (bytes 4 (C .next) ++ padded (B - 4) (C .low ++ (entryBytes dirView (fileEntry n k z cs) ++ C .high)))
     dir-old =
-        shows-kept B _ I J₂ (C .at) (bytes 4 (C .next) ++ padded (B - 4) (C .low ++ (entryBytes W (fileEntry n k z cs) ++ C .high))) kept₂ (λ o _. (aside-data g (length I) (v .laid .sound) (C .at) o (dir-in .0), no-cell))
+        shows-kept B _ I J₂ (C .at) (bytes 4 (C .next) ++ padded (B - 4) (C .low ++ (entryBytes dirView (fileEntry n k z cs) ++ C .high))) kept₂ (λ o _. (aside-data g (length I) (v .laid .sound) (C .at) o (dir-in .0), no-cell))
         (omega (arith, cut-whole B _ _ _ _ _ _ _ C whole)) (cut-shown B _ _ _ _ _ _ _ C I (v .laid .shown))
 
     first-same : cellsAt es ≡ cellsAt cs
@@ -318,9 +318,9 @@ module _ (g : Geo) (I : List ℕ) (d : ℕ) (t : Tree d) (v : Volume g I d t) (p
             head [] = unfold places cellsAt in refl
             head (x ∷ zs) = unfold places cellsAt in refl
 
-    dir-new : Shows J₃ (B * C .at) (bytes 4 (C .next) ++ padded (B - 4) (C .low ++ (entryBytes W (fileEntry n now (c + length buf) es) ++ C .high)))
+    dir-new : Shows J₃ (B * C .at) (bytes 4 (C .next) ++ padded (B - 4) (C .low ++ (entryBytes dirView (fileEntry n now (c + length buf) es) ++ C .high)))
     unfolding J₃
-    dir-new = filing-shown B _ _ _ _ _ W n k now z (c + length buf) cs es C (omega (arith, size-large g)) whole J₂ inside first-same dir-old
+    dir-new = filing-shown B _ _ _ _ _ dirView n k now z (c + length buf) cs es C (omega (arith, size-large g)) whole J₂ inside first-same dir-old
 
     cells-new : ShowsAll B J₃ (cellPieces es)
     unfolding cell
@@ -403,7 +403,7 @@ module _ (g : Geo) (I : List ℕ) (d : ℕ) (t : Tree d) (v : Volume g I d t) (p
       where
         renewed : (x : Entry (Below (s .0))) → fileEntry n k z cs ≡ x → GoodEntry B (GoodBelow B (s .0)) (newEntry B n now (c + length buf) es x)
         renewed x e = subst (λ (y : Entry (Below (s .0))). GoodEntry B (GoodBelow B (s .0)) (newEntry B n now (c + length buf) es y)) e
-            (unfold refiled fileEntry in record { good-name = good-name .good-name; clock = clock; below = es-good })
+            (unfold refiled fileEntry in record { good-name = good-entry .good-name; clock = clock; below = es-good })
 
     volume : now < 2 ^ 64 → Volume g J₃ d u
     unfolding rewritten
