@@ -1,7 +1,7 @@
 // Deleting an entry by its full path, on a volume that is opened and checked: refusals 5, 6, 14, 18 in this order, then the stores of `dir_delete`.
 // All that may refuse is read before the first store, and the contracts hold on any opened image; on a volume they are the tree's delete
-// (proofs/Deletes.antt). A path is the first bytes of a lent buffer, as the crate path leaves it.
-// May use: wire, block, model, super_block, dir_entry, read_dir, own_entry, dir_delete, path, dir.
+// (proofs/OnVolume.antt). A path is the first bytes of a lent buffer, as the crate path leaves it.
+// May use: wire, block, model, super_block, dir_entry, read_dir, own_entry, dir_delete, path, dir; the theorems also tree_walk and dir_tree.
 use block::Addr;
 use dir::Holding;
 use dir::Holds;
