@@ -3,7 +3,7 @@ use mathlib.Core.Path.{_≡_, refl, sym, ap, _∙_}
 use mathlib.Core.Bool.{Bool, true, false}
 use mathlib.Core.Logic.{_⊎_, inl, inr}
 use mathlib.Core.List.{List, [], _∷_}
-use Prim.Native.Nat.{ℕ, zero, suc, _-_, _<_}
+use Prim.Native.Nat.{ℕ, _-_, _<_}
 use native.Mathlib.Omega.{arith}
 use Rattle.wire.specs.Pick.{pick}
 use Rattle.wire.proofs.Picks.{either}
@@ -19,11 +19,10 @@ use Rattle.read_dir.specs.Finds.{findIn}
 use Rattle.read_dir.specs.Cursor.{Lies}
 use Rattle.read_dir.proofs.Items.{found-item}
 use Rattle.read_dir.proofs.Unroll.{area-true, chain-out}
-use Rattle.own_entry.specs.declared.Own.{Own}
 use Rattle.path.specs.Path.{lastName, dirPart}
 use Rattle.dir.specs.Resolve.{onName}
 use Rattle.dir.specs.Hold.{Hold, holdDir, ownOf}
-use Rattle.deletes.specs.Deleting.{Doomed, hasEntries, onPlaced, doomedAt, doomedIn, doomedOf}
+use Rattle.deletes.specs.Deleting.{Doomed, hasEntries, onPlaced, doomedAt, doomedIn, doomedOf, deletedOn, imageAt, deletedImage}
 
 -- ---- replies
 
@@ -94,6 +93,31 @@ module _ (g : Geo) (I l : List ℕ) where
         bare = ap (λ (y : Doomed). hasEntries (y .entry)) (sym z) ∙ c .0;
         own = o .1 ∙ ap (λ (y : Doomed). accepted (y .own)) z;
       }
+
+-- ---- the call's answer
+
+same-refusal : {A C : Type 0} (j k : ℕ) → _≡_ {A = Reply A} (refused j) (refused k) → _≡_ {A = Reply C} (refused j) (refused k)
+same-refusal j k e = let z : j ≡ k = cc in ap (λ (i : ℕ). refused i) z
+
+module _ (g : Geo) (I l : List ℕ) where
+  -- plain success is an entry that is accepted,
+  pub done-doomed : deletedOn g I l ≡ accepted tt → (x : Doomed) × (doomedOf g I l ≡ accepted x)
+  unfolding deletedOn
+  done-doomed k = let r = then-some (doomedOf g I l) (λ d. accepted tt) tt k in (r .0, r .1)
+
+  -- a refusal is that of the entry,
+  pub refused-doomed : (k : ℕ) → deletedOn g I l ≡ refused k → doomedOf g I l ≡ refused k
+  unfolding deletedOn andThen
+  refused-doomed k e = go (doomedOf g I l) e
+    where
+      go : (r : Reply Doomed) → _≡_ {A = Reply (Unit {0})} (andThen r (λ d. accepted tt)) (refused k) → r ≡ refused k
+      go (accepted x) q = absurd (not-refused k tt (sym q))
+      go (refused j) q = same-refusal j k q
+
+  -- and it leaves the image.
+  pub refused-keeps : (k time : ℕ) → deletedOn g I l ≡ refused k → deletedImage g I l time ≡ I
+  unfolding deletedImage
+  refused-keeps k time e = ap (imageAt g I time) (refused-doomed k e)
 
 -- ---- what the stores ask of it
 

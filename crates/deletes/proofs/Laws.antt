@@ -1,14 +1,12 @@
 -- What the code of a delete needs and gives: one law for each place.
 use mathlib.Core.Path.{_≡_, refl, sym, ap, _∙_, subst}
 use mathlib.Core.Bool.{Bool, true, false, not, _&&_}
-use mathlib.Core.List.{List, [], _∷_}
+use mathlib.Core.List.{List}
 use Prim.Native.Nat.{ℕ, zero, suc, _+_, _-_, _≤_, _<_}
 use native.Mathlib.Omega.{arith}
 use lib.Dec.{ltb, eqb}
 use lib.ListN.{length, take, length-take, length-drop}
 use borrow.Author.Tests.{lt-ltb, ne-eqb}
-use Rattle.wire.specs.Pick.{pick}
-use Rattle.wire.proofs.Picks.{pick-true, pick-false}
 use Rattle.model.specs.Answers.{Reply, accepted, refused, andThen, refusalNumber}
 use Rattle.model.specs.declared.Refusal.{Refusal}
 use Rattle.model.specs.Geometry.{dataAt}
@@ -26,7 +24,7 @@ use Rattle.read_dir.specs.Finds.{findIn}
 use Rattle.own_entry.specs.declared.Own.{Own}
 use Rattle.own_entry.specs.Own.{OwnIn}
 use Rattle.dir_delete.specs.Delete.{removed}
-use Rattle.path.specs.Path.{lastName, dirPart}
+use Rattle.path.specs.Path.{lastName}
 use Rattle.path.specs.Post.{between, PartsIs}
 use Rattle.path.specs.declared.Parts.{Parts}
 use Rattle.dir.specs.declared.Holding.{Holding}
@@ -38,7 +36,7 @@ use Rattle.dir.specs.Hold.{Hold, holdDir, ownOf}
 use Rattle.dir.specs.Post.{holdOf, holdsSays, HoldsIn, ownedSays, OwnedIn}
 use Rattle.dir.proofs.Laws.{name-empty, name-some, and-then-ok, and-then-no}
 use Rattle.deletes.specs.Deleting.{Doomed, hasEntries, onPlaced, doomedAt, doomedIn, doomedOf, deletedOn, imageAt, deletedImage}
-use Rattle.deletes.specs.Post.{markedSays, MarkedIn, deletedSays}
+use Rattle.deletes.specs.Post.{markedSays, MarkedIn}
 use Rattle.deletes.specs.declared.Marked.{Marked}
 use Rattle.deletes.specs.declared.Marked.the-variants as marked
 use Rattle.deletes.proofs.Accepted.{Ready, given-some, given-none, doomed-by, doomed-ready}
