@@ -24,7 +24,7 @@ ghost use Rattle.deletes.specs.Deleting.{hasEntries, doomedAt, doomedIn,
 ghost use Rattle.deletes.specs.Post.{markedSays, MarkedIn, deletedSays};
 
 // The entry to delete: the first address of its directory, its fixed part, its place there, and that directory's own entry.
-pub enum Marked {
+enum Marked {
     At(Addr, DirEntry, Place, Own),
     Refused(Refusal),
 }
@@ -87,7 +87,7 @@ fn mark_in(img: &[u8], s: SuperBlock, full: &[u8], h: Holding, from: usize, to: 
 }
 
 // The entry to delete at the full path full[..len]. An empty last name is not found, and nothing is walked for it.
-pub fn mark(img: &[u8], s: SuperBlock, full: &[u8], len: usize) -> Marked
+fn mark(img: &[u8], s: SuperBlock, full: &[u8], len: usize) -> Marked
     requires { ⌜ Fit s (now img) ⌝ }
     requires { ⌜ len ≤ length (now full) ⌝ }
     requires { ⌜ length (now full) ≤ pathLimit ⌝ }
