@@ -87,15 +87,15 @@ find-at a x w f e p q g = found-at x w f (λ y. accepted (held a y)) q e p g
 
 -- ---- name after name
 
-and-then-ok : {A B : Type 0} {r : Reply A} (a : A) (f : A → Reply B) → r ≡ accepted a → andThen r f ≡ f a
+pub and-then-ok : {A B : Type 0} {r : Reply A} (a : A) (f : A → Reply B) → r ≡ accepted a → andThen r f ≡ f a
 unfolding andThen
 and-then-ok a f e = rw e
 
-and-then-no : {A B : Type 0} {r : Reply A} (k : ℕ) (f : A → Reply B) → r ≡ refused k → andThen r f ≡ refused k
+pub and-then-no : {A B : Type 0} {r : Reply A} (k : ℕ) (f : A → Reply B) → r ≡ refused k → andThen r f ≡ refused k
 unfolding andThen
 and-then-no k f e = rw e
 
-and-then-pick : {A B : Type 0} (b : Bool) (x y : Reply A) (f : A → Reply B) → andThen (pick b x y) f ≡ pick b (andThen x f) (andThen y f)
+pub and-then-pick : {A B : Type 0} (b : Bool) (x y : Reply A) (f : A → Reply B) → andThen (pick b x y) f ≡ pick b (andThen x f) (andThen y f)
 unfolding pick
 and-then-pick true x y f = refl
 and-then-pick false x y f = refl
@@ -119,7 +119,7 @@ module _ (B D n : ℕ) (I : List ℕ) where
       go found.Missing = refl
       go found.Damaged = refl
 
-lt-of-ne : {a b : ℕ} → a ≤ b → (a ≡ b → ⊥) → a < b
+pub lt-of-ne : {a b : ℕ} → a ≤ b → (a ≡ b → ⊥) → a < b
 lt-of-ne h z = omega arith
 
 -- ---- one piece of the path: r is what entering it from the directory at `dir` gave, and the rest is to be resolved from there

@@ -1,0 +1,29 @@
+use Rattle.dir.proofs.HoldLaws.{hold-root, hold-path}
+use borrow.Author.Needs.{needs}
+use Rattle.dir.proofs.hold.Statement.{statement}
+use Rattle.dir.proofs.hold.Tie as tie
+use Rattle.dir.proofs.hold.Reads as reads
+use Rattle.dir.proofs.hold.Lts as lts
+use Rattle.dir.proofs.hold_along.Reads as hold-along-reads
+use Rattle.path.proofs.first_piece.Reads as first-piece-reads
+use Rattle.path.proofs.is_root.Reads as is-root-reads
+
+is-root-requires : tie.Need-is-root-requires
+is-root-requires c κs = search needs
+
+returns : tie.Need-returns
+returns c = (search hold-root, (search needs, search needs))
+
+first-piece-requires : tie.Need-first-piece-requires
+first-piece-requires c κs = search needs
+
+hold-along-requires : tie.Need-hold-along-requires
+hold-along-requires c κs = search needs
+
+returns-2 : tie.Need-returns-2
+returns-2 c = (search hold-path, search needs)
+
+pub hold-spec : {M : Type 1} → statement M
+hold-spec =
+    tie.close
+    (tie.spec is-root-requires returns first-piece-requires hold-along-requires returns-2)
