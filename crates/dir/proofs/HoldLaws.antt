@@ -5,16 +5,16 @@ use mathlib.Core.List.{List, [], _∷_}
 use Prim.Native.Nat.{ℕ, _+_, _<_}
 use native.Mathlib.Decide.{decLt}
 use native.Mathlib.Omega.{arith}
-use lib.Dec.{eqb}
 use lib.ListN.{length, take, drop}
 use borrow.Author.Tests.{eq-eqb, ne-eqb}
 use Rattle.wire.specs.Pick.{pick, same}
 use Rattle.wire.proofs.Picks.{pick-true, pick-false}
 use Rattle.model.specs.Answers.{Reply, accepted, refused, andThen, refusalNumber}
+use Rattle.model.specs.Geometry.{blockSize, dataAt}
 use Rattle.model.specs.declared.Refusal.{Refusal}
 use Rattle.block.specs.declared.Addr.{Addr}
 use Rattle.super_block.specs.declared.SuperBlock.{SuperBlock}
-use Rattle.super_block.specs.Super.{Fit}
+use Rattle.super_block.specs.Super.{geoOf, Fit}
 use Rattle.super_block.proofs.Fits.{placed}
 use Rattle.dir_entry.specs.declared.DirEntry.{DirEntry}
 use Rattle.dir_entry.specs.Entry.{isDir}
@@ -25,7 +25,6 @@ use Rattle.read_dir.specs.declared.Place.{Place}
 use Rattle.read_dir.specs.Walk.{walk}
 use Rattle.read_dir.specs.Finds.{findIn}
 use Rattle.read_dir.proofs.Items.{found-item}
-use Rattle.own_entry.specs.declared.Own.{Own}
 use Rattle.own_entry.specs.declared.Own.the-variants as own
 use Rattle.own_entry.specs.Own.{OwnIn}
 use Rattle.path.specs.Path.{slash, split}
@@ -157,3 +156,12 @@ found-inside s I x a f e p fit q g =
     let i = found-item 512 (s .area .0) (s .blocks) I a x e p (sym q ∙ g) in
     let t = slot-stands 512 I (p .block .0) (p .offset) e (i .stands) in
     (omega (arith, placed fit .inside, i .below), omega (arith, t .ends))
+
+-- ---- the paper's numbers for the struct's
+
+module _ (s : SuperBlock) (I : List ℕ) (fit : Fit s I) where
+  pub hold-numbers : (d : List ℕ) → holdDir 512 (s .area .0) (s .blocks) I d ≡ holdDir (blockSize (geoOf s)) (dataAt (geoOf s)) (geoOf s .n) I d
+  hold-numbers d = ap (λ (D : ℕ). holdDir 512 D (s .blocks) I d) (fit .area)
+
+  pub own-numbers : (h : Hold) → ownOf 512 (s .area .0) (s .blocks) I h ≡ ownOf (blockSize (geoOf s)) (dataAt (geoOf s)) (geoOf s .n) I h
+  own-numbers h = ap (λ (D : ℕ). ownOf 512 D (s .blocks) I h) (fit .area)

@@ -33,11 +33,11 @@ use Rattle.mfs.proofs.Opening.{entry-dir, entry-device, entry-file}
 use Rattle.mfs.proofs.Paths.{given-none}
 use Rattle.tree_walk.specs.Shown.{kindIs, headOf, walkOf}
 use Rattle.tree_walk.proofs.Walks.{walk-is}
-use Rattle.on_tree.specs.Shown.{wayTo}
+use Rattle.dir_tree.specs.Shown.{wayTo}
 use Rattle.on_tree.specs.Handles.{HandleOf}
 use Rattle.on_tree.specs.Named.{wayOf, lastOf, allOf, LeadsTo, viewAt, headAt, recordsLong, recordsOf, listedFrom}
-use Rattle.on_tree.proofs.Finds.{sum-is}
-use Rattle.on_tree.proofs.Resolves.{lookup-name, Agree, leads, stops, way-agrees, starts, resolve-way, resolve-is, entry-is, entry-missing, entry-stops}
+use Rattle.dir_tree.proofs.Finds.{sum-is}
+use Rattle.dir_tree.proofs.Resolves.{lookup-name, Agree, leads, stops, way-agrees, starts, resolve-way, resolve-is, entry-is, entry-missing, entry-stops}
 use Rattle.on_tree.proofs.Listings.{listed-all, dir-counts, dir-records}
 use Rattle.on_tree.proofs.FileReads.{read-accepted, read-is}
 

@@ -38,8 +38,8 @@ use Rattle.tree_walk.specs.Shown.{kindIs, headOf, itemsOf, walkOf}
 use Rattle.tree_walk.proofs.Parts.{Stored, Part, laid-part, part-find, stored-tail, stored-in, stored-few, stored-lookup, cells-long, block-inside, next-shown}
 use Rattle.tree_walk.proofs.Walks.{in-area, walk-is}
 use Rattle.on_tree.specs.Handles.{HandleOf, heldBy}
-use Rattle.on_tree.proofs.Finds.{same-swap}
-use Rattle.on_tree.proofs.Resolves.{lookup-name}
+use Rattle.dir_tree.proofs.Finds.{same-swap}
+use Rattle.dir_tree.proofs.Resolves.{lookup-name}
 
 -- ---- a chain
 

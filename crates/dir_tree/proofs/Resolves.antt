@@ -25,8 +25,8 @@ use Rattle.dir.specs.Resolve.{onFound, onName, Held, lookupIn, resolve, entryOf
 use Rattle.tree_walk.specs.Shown.{kindIs, headOf}
 use Rattle.tree_walk.proofs.Parts.{Part, laid-part, part-sub}
 use Rattle.tree_walk.proofs.Walks.{part-walk}
-use Rattle.on_tree.specs.Shown.{onNode, onEntry, wayTo}
-use Rattle.on_tree.proofs.Finds.{lookup-or, walk-finds, walk-misses, find-is, find-missing}
+use Rattle.dir_tree.specs.Shown.{onNode, onEntry, wayTo}
+use Rattle.dir_tree.proofs.Finds.{lookup-or, walk-finds, walk-misses, find-is, find-missing}
 
 -- ---- names
 

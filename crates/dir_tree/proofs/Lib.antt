@@ -1,0 +1,3 @@
+pub mod Finds
+pub mod Resolves
+pub mod Holding

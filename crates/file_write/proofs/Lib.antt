@@ -1,0 +1,12 @@
+pub mod Hops
+pub mod Cells
+pub mod Grows
+pub mod Extends
+pub mod Frees
+pub mod Resizes
+pub mod Loops
+pub mod Chops
+pub mod Fills
+pub mod Files
+pub mod Filing
+pub mod Writes
