@@ -1,1 +1,2 @@
 pub mod Creating
+pub mod Post
