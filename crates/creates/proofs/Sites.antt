@@ -1,6 +1,6 @@
 -- What the code knows where it answers: one law for each answer.
 use mathlib.Core.Path.{_≡_, refl, sym, ap, _∙_, subst}
-use mathlib.Core.Bool.{Bool, true, false, _&&_, _||_}
+use mathlib.Core.Bool.{Bool, true, false, _&&_}
 use mathlib.Core.List.{List}
 use Prim.Native.Nat.{ℕ, zero, suc, _+_, _-_, _≤_, _<_}
 use native.Mathlib.Omega.{arith}
@@ -21,7 +21,7 @@ use Rattle.bitmap_block.specs.Bitmap.{clears, Room}
 use Rattle.bitmap_block.proofs.Steps.{volume-clears, volume-room}
 use Rattle.dir_entry.specs.declared.DirEntry.{DirEntry}
 use Rattle.dir_entry.specs.declared.Kind.{Kind}
-use Rattle.dir_entry.specs.declared.Kind.the-variants.{Dir, File, Device}
+use Rattle.dir_entry.specs.declared.Kind.the-variants.{Dir}
 use Rattle.dir_entry.specs.Entry.{header, isDir}
 use Rattle.dir_entry.proofs.Slots.{pick-case}
 use Rattle.read_dir.specs.declared.Found.{Found}
