@@ -28,6 +28,11 @@ pub record Site : Type 0 where
   pub spot : Spot
   pub own : Own
 
+-- The directory and the new entry's block, which a handle on it holds.
+pub record Fresh : Type 0 where
+  pub dir : ℕ
+  pub block : ℕ
+
 -- "8 create: last name empty or over 255"
 unfoldable pub badName : List ℕ → Bool
 badName x = eqb (length x) 0 || ltb 255 (length x)
@@ -52,27 +57,31 @@ module _ (g : Geo) (I : List ℕ) where
   unfoldable pub noRoom : ℕ → Bool
   noRoom k = ltb (length (clears g I)) k
 
-  -- In the directory h, for the name x: 15, 7, 9, 18, or the site.
+  -- In the directory h, for a name that goes to the spot p: 9, 18, or the site; damage on the way to the spot is 17.
+  unfoldable pub siteAt : Hold → Spot → Reply Site
+  siteAt h p =
+      given (spotNumber p)
+      (given (when 9 (noRoom (needed p)))
+      (andThen (ownOf (blockSize g) (dataAt g) (g .n) I h)
+      (λ o. accepted (record { dir = h .dir; spot = p; own = o }))))
+
+  -- In the directory h, for the name x: 15, 7, then these.
   unfoldable pub siteIn : Kind → List ℕ → Hold → Reply Site
   siteIn k x h =
       given (when 15 (tooDeep k h))
       (given (existsNumber (findIn x (walk (blockSize g) (dataAt g) (g .n) I (h .dir))))
-      (given (spotNumber (spotFor (blockSize g) (dataAt g) (g .n) I (h .dir) (length x)))
-      (given (when 9 (noRoom (needed (spotFor (blockSize g) (dataAt g) (g .n) I (h .dir) (length x)))))
-      (andThen (ownOf (blockSize g) (dataAt g) (g .n) I h)
-      (λ o. accepted (record { dir = h .dir; spot = spotFor (blockSize g) (dataAt g) (g .n) I (h .dir) (length x); own = o }))))))
+      (siteAt h (spotFor (blockSize g) (dataAt g) (g .n) I (h .dir) (length x))))
 
   -- At the full path l: 8, 5/6, then these.
   unfoldable pub siteOf : Kind → List ℕ → Reply Site
   siteOf k l = given (when 8 (badName (lastName l))) (andThen (holdDir (blockSize g) (dataAt g) (g .n) I (dirPart l)) (siteIn k (lastName l)))
 
-  -- The directory and the new entry's block, which a handle on it holds.
-  pub record Fresh : Type 0 where
-    pub dir : ℕ
-    pub block : ℕ
+  -- What is answered: at a site, the blocks.
+  unfoldable pub freshOf : Reply Site → Reply Fresh
+  freshOf r = andThen r (λ s. accepted (record { dir = s .dir; block = insertedAt g I (s .spot) }))
 
   unfoldable pub createdOn : Kind → List ℕ → Reply Fresh
-  createdOn k l = andThen (siteOf k l) (λ s. accepted (record { dir = s .dir; block = insertedAt g I (s .spot) }))
+  createdOn k l = freshOf (siteOf k l)
 
   -- The image afterwards: the entry is stored, or all is as it was.
   abbrev pub imageAt : Kind → List ℕ → ℕ → Reply Site → List ℕ

@@ -1,1 +1,3 @@
 pub mod Creating
+pub mod Post
+pub mod OnTree
