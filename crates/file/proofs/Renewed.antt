@@ -28,7 +28,7 @@ use Rattle.file_write.proofs.Writes.{good-file}
 use Rattle.file.specs.declared.Handle.{Handle}
 use Rattle.file.specs.File.{nameOf, staleFields}
 use Rattle.file.specs.Writing.{Target, currentIn, targetOf, writtenImage, grownHandle}
-use Rattle.file.specs.OnTree.{FileIn, OnFile, Accepts}
+use Rattle.file.specs.OnTree.{FileIn, OnFile}
 use Rattle.file.proofs.Seeks.{fresh}
 use Rattle.file.proofs.Targets.{accepted-is, found-there, written-is}
 
