@@ -1,7 +1,12 @@
+pub mod Aims
 pub mod Chains
+pub mod Currents
 pub mod Fetches
 pub mod Follows
 pub mod Frames
 pub mod Handles
 pub mod Pours
+pub mod Renewed
 pub mod Seeks
+pub mod Stores
+pub mod Targets

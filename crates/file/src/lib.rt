@@ -1,11 +1,12 @@
-// Files by their handle, on any image: seeking and reading, the reading half of file.rs.
+// Files by their handle: seeking and reading on any image, and writing on a checked volume, by the stores of `file_write`.
 // A handle goes in by value and comes back advanced; a refusal hands back the very handle that was given.
-// May use: wire, block, model, super_block, dir_entry, read_dir.
+// May use: wire, block, model, super_block, bitmap_block, dir_entry, read_dir, reached, file_write; the proofs also bits, tree_walk.
 use block::Addr;
 use block::LinkedBlock;
 use dir_entry::DirEntry;
 use dir_entry::Kind;
 use model::Refusal;
+use read_dir::Found;
 use read_dir::Place;
 use read_dir::ReadDir;
 use read_dir::Step;
@@ -18,13 +19,20 @@ ghost use Rattle.wire.specs.Be.{splice};
 ghost use Rattle.wire.specs.Pick.{same};
 ghost use Rattle.block.specs.Block.{blockBytes};
 ghost use Rattle.dir_entry.specs.Entry.{isFile, header, placeAt, nameAt};
-ghost use Rattle.super_block.specs.Super.{Fit};
+ghost use Rattle.model.specs.Geometry.{countAt};
+ghost use Rattle.model.specs.Volume.{WellFormed};
+ghost use Rattle.super_block.specs.Super.{geoOf, Fit};
 ghost use Rattle.read_dir.specs.Walk.{walk};
 ghost use Rattle.file.specs.File.{nameOf, staleFields, moved, target, within, placeIn, current, heldIn, toRead};
 ghost use Rattle.file.specs.Post.{outcomeNumber, SoughtIs, ReadIs, handleRefusal, FetchIs, after, partAt, Whole, BeginsIs, WalkedIs};
+ghost use Rattle.file.specs.Writing.{currentIn, tooLong, unreached, noRoom, targetOf, grownHandle};
+ghost use Rattle.file.specs.Written.{aimedSays, fitsAt, WriteIs};
 
 // The bytes of the largest file.
 pub const FILE_LIMIT: u32 = 2_147_483_647;
+
+// The same, as ends of buffers are counted.
+const END_LIMIT: usize = FILE_LIMIT as usize;
 
 // A block's data bytes, as positions are counted.
 const CAPACITY: u32 = LinkedBlock::CAPACITY as u32;
@@ -57,7 +65,7 @@ pub struct Sought {
     pub handle: Handle,
 }
 
-// How many bytes were read.
+// How many bytes were read or written.
 pub enum Counted {
     Bytes(usize),
     Refused(Refusal),
@@ -67,6 +75,18 @@ pub enum Counted {
 pub struct ReadOut {
     pub answer: Counted,
     pub handle: Handle,
+}
+
+// What a write gives: its answer, and the handle after it.
+pub struct WriteOut {
+    pub answer: Counted,
+    pub handle: Handle,
+}
+
+// Where a write goes: the entry of the handle's file, and its place.
+enum Aimed {
+    At(DirEntry, Place),
+    Refused(Refusal),
 }
 
 // Where a walk along a chain came to.
@@ -357,6 +377,133 @@ impl Handle {
                 handle: self,
             },
             Outcome::Success => self.fetch(img, s, buf),
+        }
+    }
+
+    // Whether the file would pass its limit with len bytes at the position. A length that passes it alone is told before the sum.
+    fn too_long(self, len: usize) -> bool
+        ensures { λ r. ⌜ r ≡ tooLong self len ⌝ }
+    {
+        if END_LIMIT < len {
+            return true;
+        }
+        let end = (self.position as usize) + len;
+        END_LIMIT < end
+    }
+
+    // Whether the handle's directory is not one reached from the root.
+    fn unreached(self, img: &[u8], s: SuperBlock) -> bool
+        requires { ⌜ Fit s (now img) ⌝ }
+        ensures { λ r. ⌜ r ≡ unreached (geoOf s) (now (img .entry)) self ⌝ }
+    {
+        let at = self.dir;
+        !reached::reached(img, s, at)
+    }
+
+    // The handle's entry in its directory, with its place.
+    fn entry(self, img: &[u8], s: SuperBlock) -> Found
+        requires { ⌜ Fit s (now img) ⌝ }
+        requires { ⌜ self .len ≤ 255 ⌝ }
+        ensures { λ r. ⌜ r ≡ currentIn self (walk blockBytes (s .area .0) (s .blocks) (now (img .entry)) (self .dir .0)) ⌝ }
+    {
+        let dir = self.dir;
+        let mut c = ReadDir::new(s, dir);
+        loop {
+            match c.next(img, s) {
+                Step::Entry(e, p, d) => {
+                    if self.current(img, e, p) {
+                        return Found::At(e, p);
+                    }
+                    c = d;
+                }
+                Step::End => return Found::Missing,
+                Step::Damaged => return Found::Damaged,
+            }
+        }
+    }
+
+    // Whether fewer indexes are clear than blocks are to be added for len bytes at the position.
+    fn no_room(self, img: &[u8], s: SuperBlock, len: u32) -> bool
+        requires { ⌜ Fit s (now img) ⌝ }
+        requires { ⌜ self .position + len ≤ 2147483647 ⌝ }
+        ensures { λ r. ⌜ r ≡ noRoom (geoOf s) (now (img .entry)) self len ⌝ }
+    {
+        let old = file_write::blocks_for(self.size);
+        let new = file_write::blocks_for(self.position + len);
+        if new <= old {
+            return false;
+        }
+        bitmap_block::count_free(img, s) < new - old
+    }
+
+    // Refusals 10 and 9 of a write of len bytes to the file of entry e, which stands at p.
+    fn fits(self, img: &[u8], s: SuperBlock, len: usize, e: DirEntry, p: Place) -> Aimed
+        requires { ⌜ Fit s (now img) ⌝ }
+        ensures { λ r. ⌜ aimedSays r ≡ fitsAt (geoOf s) (now (img .entry)) self len e p ⌝ }
+    {
+        if self.too_long(len) {
+            return Aimed::Refused(Refusal::TooLarge);
+        }
+        if self.no_room(img, s, len as u32) {
+            return Aimed::Refused(Refusal::NoRoom);
+        }
+        Aimed::At(e, p)
+    }
+
+    // Where a write of len bytes goes, or the first of 13, 11, 10, 9 that refuses it.
+    fn aim(self, img: &[u8], s: SuperBlock, len: usize) -> Aimed
+        requires { ⌜ Fit s (now img) ⌝ }
+        ensures { λ r. ⌜ aimedSays r ≡ targetOf (geoOf s) (now (img .entry)) self len ⌝ }
+    {
+        if len == 0 {
+            return Aimed::Refused(Refusal::EmptyWrite);
+        }
+        if self.stale() {
+            return Aimed::Refused(Refusal::Stale);
+        }
+        if self.unreached(img, s) {
+            return Aimed::Refused(Refusal::Stale);
+        }
+        match self.entry(img, s) {
+            Found::At(e, p) => self.fits(img, s, len, e, p),
+            Found::Missing => Aimed::Refused(Refusal::Stale),
+            Found::Damaged => Aimed::Refused(Refusal::Damaged),
+        }
+    }
+
+    // The handle after len bytes were written: its file ends there, and so does its position.
+    fn grown(mut self, len: u32) -> Handle
+        requires { ⌜ self .position + len ≤ 2147483647 ⌝ }
+        ensures { λ r. ⌜ r ≡ grownHandle self len ⌝ }
+    {
+        let from = self.position;
+        let end = from + len;
+        self.size = end;
+        self.position = end;
+        self
+    }
+
+    // The file becomes its bytes before the position, and the buffer. Refused by 13, 11, 10 or 9, or the handle past what was written.
+    pub fn write(self, img: &mut [u8], s: SuperBlock, buf: &[u8], time: u64) -> WriteOut
+        requires { ⌜ Fit s (now img) ⌝ }
+        requires { ⌜ WellFormed (s .addr .0) (now img) ⌝ }
+        requires { ⌜ s .blocks ≡ countAt (s .addr .0) (now img) ⌝ }
+        ensures { λ r. ⌜ WriteIs (geoOf s) self (now (buf .entry)) time (now (img .entry)) (now (img .exit)) r ⌝ }
+    {
+        let aimed = self.aim(img, s, buf.len());
+        match aimed {
+            Aimed::Refused(r) => WriteOut {
+                answer: Counted::Refused(r),
+                handle: self,
+            },
+            Aimed::At(e, p) => {
+                let c = self.position;
+                file_write::write(img, s, e, p, c, buf, time);
+                WriteOut {
+                    answer: Counted::Bytes(buf.len()),
+                    handle: self.grown(buf.len() as u32),
+                }
+            }
         }
     }
 }

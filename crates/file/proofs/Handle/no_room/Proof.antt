@@ -1,0 +1,37 @@
+use Rattle.file.proofs.Aims.{room-kept, room-counted}
+use borrow.Author.Needs.{needs}
+use Rattle.file.proofs.Handle.no_room.Statement.{statement}
+use Rattle.file.proofs.Handle.no_room.Tie as tie
+
+blocks-for-requires : tie.Need-blocks-for-requires
+blocks-for-requires c κs = search needs
+
+add-blocks-for : tie.Need-add-blocks-for
+add-blocks-for c = search needs
+
+blocks-for-requires-2 : tie.Need-blocks-for-requires-2
+blocks-for-requires-2 c κs = search needs
+
+returns : tie.Need-returns
+returns c = search room-kept
+
+count-free-requires : tie.Need-count-free-requires
+count-free-requires c κs = search needs
+
+sub-result : tie.Need-sub-result
+sub-result c = search needs
+
+returns-2 : tie.Need-returns-2
+returns-2 c = search room-counted
+
+pub no-room-spec : {M : Type 1} → statement M
+no-room-spec =
+    tie.close
+    (tie.spec
+    blocks-for-requires
+    add-blocks-for
+    blocks-for-requires-2
+    returns
+    count-free-requires
+    sub-result
+    returns-2)

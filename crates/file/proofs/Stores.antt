@@ -1,0 +1,64 @@
+-- What the code of a write knows before its stores, and where it ends.
+use mathlib.Core.Path.{_≡_, sym, ap, _∙_, subst}
+use mathlib.Core.List.{List}
+use Prim.Native.Nat.{ℕ, _+_, _≤_, _<_}
+use native.Mathlib.Omega.{arith}
+use lib.ListN.{length}
+use Rattle.model.specs.Answers.{accepted, refused, refusalNumber, andThen}
+use Rattle.model.specs.declared.Refusal.{Refusal}
+use Rattle.model.specs.Geometry.{Geo, geo, countAt}
+use Rattle.model.specs.Volume.{Volume, WellFormed, maxDepth}
+use Rattle.model.proofs.OneVolume.{well-formed-geo}
+use Rattle.super_block.specs.declared.SuperBlock.{SuperBlock}
+use Rattle.super_block.specs.Super.{geoOf}
+use Rattle.dir_entry.specs.declared.DirEntry.{DirEntry}
+use Rattle.read_dir.specs.declared.Place.{Place}
+use Rattle.file_write.specs.Write.{wrote, CanWrite}
+use Rattle.file.specs.declared.Handle.{Handle}
+use Rattle.file.specs.declared.Counted.the-variants as counted
+use Rattle.file.specs.declared.Aimed.{Aimed}
+use Rattle.file.specs.declared.Aimed.the-variants as aimed
+use Rattle.file.specs.Writing.{targetOf, imageAt, writtenImage, grownHandle, handleAfter, countOf}
+use Rattle.file.specs.Written.{aimedSays, WriteIs}
+use Rattle.file.proofs.Targets.{accepted-can}
+
+-- The volume of a checked image, by the struct's own numbers.
+pub well-volume : (s : SuperBlock) (I : List ℕ) (w : WellFormed (s .addr .0) I) → s .blocks ≡ countAt (s .addr .0) I → Volume (geoOf s) I maxDepth (w .tree)
+well-volume s I w b = subst (λ (g : Geo). Volume g I maxDepth (w .tree)) (well-formed-geo (s .addr .0) I w ∙ ap (geo (s .addr .0)) (sym b)) (w .volume)
+
+module _ (s : SuperBlock) (I : List ℕ) (h : Handle) (buf : List ℕ) (r : Aimed) (er : aimedSays r ≡ targetOf (geoOf s) I h (length buf)) where
+  -- ---- before the stores
+
+  module _ (w : WellFormed (s .addr .0) I) (b : s .blocks ≡ countAt (s .addr .0) I) (e : DirEntry) (p : Place) (q : r ≡ aimed.At e p) where
+    pub store-can : CanWrite (geoOf s) I e p (h .position) (length buf)
+    store-can = accepted-can (geoOf s) I (w .tree) (well-volume s I w b) h buf (record { entry = e; place = p }) (sym er ∙ ap aimedSays q)
+
+    pub store-end : h .position + length buf ≤ 2147483647
+    store-end = store-can .limit
+
+    pub store-few : length buf < 4294967296
+    store-few = omega (arith, store-end)
+
+  -- ---- the end
+
+  module _ (time : ℕ) where
+    pub write-refused : (k : Refusal) → r ≡ aimed.Refused k → WriteIs (geoOf s) h buf time I I (record { answer = counted.Refused k; handle = h })
+    unfolding countOf andThen writtenImage
+    write-refused k q =
+        let t : refused (refusalNumber k) ≡ targetOf (geoOf s) I h (length buf) = sym (ap aimedSays q) ∙ er in
+        record {
+          answer = ap (countOf (length buf)) t;
+          handle = ap (handleAfter h (length buf)) t;
+          image = ap (imageAt (geoOf s) I h buf time) t;
+        }
+
+    pub write-done : (e : DirEntry) (p : Place) (J : List ℕ) (after : Handle) → r ≡ aimed.At e p → J ≡ wrote (geoOf s) I e p (h .position) buf time → after ≡ grownHandle h (length buf)
+        → WriteIs (geoOf s) h buf time I J (record { answer = counted.Bytes (length buf); handle = after })
+    unfolding countOf andThen writtenImage
+    write-done e p J after q j g =
+        let t : accepted (record { entry = e; place = p }) ≡ targetOf (geoOf s) I h (length buf) = sym (ap aimedSays q) ∙ er in
+        record {
+          answer = ap (countOf (length buf)) t;
+          handle = g ∙ ap (handleAfter h (length buf)) t;
+          image = j ∙ ap (imageAt (geoOf s) I h buf time) t;
+        }

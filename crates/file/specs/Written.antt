@@ -1,0 +1,35 @@
+-- What the functions of a write give. Definitions alone.
+use mathlib.Core.Path.{_≡_}
+use mathlib.Core.List.{List}
+use Prim.Native.Nat.{ℕ}
+use lib.ListN.{length}
+use Rattle.model.specs.Answers.{Reply, accepted, refused, refusalNumber, given, when}
+use Rattle.model.specs.Geometry.{Geo}
+use Rattle.dir_entry.specs.declared.DirEntry.{DirEntry}
+use Rattle.read_dir.specs.declared.Place.{Place}
+use Rattle.file.specs.declared.Handle.{Handle}
+use Rattle.file.specs.declared.Counted.{Counted}
+use Rattle.file.specs.declared.Counted.the-variants as counted
+use Rattle.file.specs.declared.Aimed.{Aimed}
+use Rattle.file.specs.declared.Aimed.the-variants as aimed
+use Rattle.file.specs.declared.WriteOut.{WriteOut}
+use Rattle.file.specs.Writing.{Target, tooLong, noRoom, targetOf, writtenImage, handleAfter, countOf}
+
+-- what the code's answers say
+abbrev pub countedSays : Counted → Reply ℕ
+countedSays (counted.Bytes k) = accepted k
+countedSays (counted.Refused r) = refused (refusalNumber r)
+
+abbrev pub aimedSays : Aimed → Reply Target
+aimedSays (aimed.At e p) = accepted (record { entry = e; place = p })
+aimedSays (aimed.Refused r) = refused (refusalNumber r)
+
+-- "10, 9": the last two refusals, or the target
+abbrev pub fitsAt : Geo → List ℕ → Handle → ℕ → DirEntry → Place → Reply Target
+fitsAt g I h len e p = given (when 10 (tooLong h len)) (given (when 9 (noRoom g I h len)) (accepted (record { entry = e; place = p })))
+
+-- "write 13, 11, 10, 9": the answer, the handle and the image after a write of buf, where the image was I and is J.
+pub record WriteIs (g : Geo) (h : Handle) (buf : List ℕ) (time : ℕ) (I J : List ℕ) (r : WriteOut) : Type 0 where
+  pub answer : countedSays (r .answer) ≡ countOf (length buf) (targetOf g I h (length buf))
+  pub handle : r .handle ≡ handleAfter h (length buf) (targetOf g I h (length buf))
+  pub image : J ≡ writtenImage g I h buf time
