@@ -6,3 +6,4 @@ pub mod Handles
 pub mod Outcomes
 pub mod Examples
 pub mod Checked
+pub mod Changes

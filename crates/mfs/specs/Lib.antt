@@ -3,3 +3,4 @@ pub mod Format
 pub mod Reading
 pub mod Examples
 pub mod Checking
+pub mod Changing

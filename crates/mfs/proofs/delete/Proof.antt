@@ -1,4 +1,6 @@
 use borrow.Author.Needs.{needs}
+use Rattle.model.specs.Steps.{Bytes}
+use Rattle.mfs.proofs.Changes.{ready, delete-no, delete-yes}
 use Rattle.mfs.proofs.delete.Statement.{statement}
 use Rattle.mfs.proofs.delete.Tie as tie
 use Rattle.mfs.proofs.delete.Reads as reads
@@ -20,7 +22,9 @@ enum-known-checked-2 c = search needs
 
 -- src/lib.rt:472:26
 delete-path-requires : tie.Need-delete-path-requires
-delete-path-requires c κs = ?
+delete-path-requires c κs =
+    let all : Bytes (c .before .before .before .before .before .before .before .before .before .before .before .before .before .args .img .now) = λ i. c .before .before .before .before .before .before .before .before .before .before .before .before .slice-known .given i .fits in
+    search (ready, all, needs)
 
 -- src/lib.rt:466:1
 same-length : tie.Need-same-length
@@ -32,7 +36,7 @@ same-length-2 c = search needs
 
 -- src/lib.rt:466:1
 returns : tie.Need-returns
-returns c = ?
+returns c = search (delete-no, needs)
 
 -- src/lib.rt:466:1
 same-length-3 : tie.Need-same-length-3
@@ -44,7 +48,7 @@ same-length-4 c = search needs
 
 -- src/lib.rt:466:1
 returns-2 : tie.Need-returns-2
-returns-2 c = ?
+returns-2 c = search (delete-yes, needs)
 
 pub delete-spec : {M : Type 1} → statement M
 delete-spec =

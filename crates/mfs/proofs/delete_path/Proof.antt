@@ -1,6 +1,6 @@
 use borrow.Author.Needs.{needs}
-use Rattle.mfs.proofs.Paths.{array-long, path-refused, path-fits, path-at}
-use Rattle.mfs.proofs.Changes.{image-refused, image-at, path-short, ready-fit, delete-refused, delete-done}
+use Rattle.mfs.proofs.Paths.{array-long, path-refused, path-fits}
+use Rattle.mfs.proofs.Changes.{image-refused, path-short, ready-fit, delete-refused, delete-done, delete-image}
 use Rattle.mfs.proofs.delete_path.Statement.{statement}
 use Rattle.mfs.proofs.delete_path.Tie as tie
 use Rattle.mfs.proofs.delete_path.Reads as reads
@@ -50,7 +50,7 @@ same-length c = search needs
 
 -- src/lib.rt:448:1
 returns-2 : tie.Need-returns-2
-returns-2 c = (search (delete-refused, path-at, array-long, needs), search (image-at, array-long, needs))
+returns-2 c = (search (delete-refused, array-long, needs), search (delete-image, array-long, needs))
 
 -- src/lib.rt:448:1
 same-length-2 : tie.Need-same-length-2
@@ -58,7 +58,7 @@ same-length-2 c = search needs
 
 -- src/lib.rt:448:1
 returns-3 : tie.Need-returns-3
-returns-3 c = (search (delete-done, path-at, array-long, needs), search (image-at, array-long, needs))
+returns-3 c = (search (delete-done, array-long, needs), search (delete-image, array-long, needs))
 
 pub delete-path-spec : {M : Type 1} → statement M
 delete-path-spec =
