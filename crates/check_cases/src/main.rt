@@ -172,19 +172,35 @@ fn build(img: &mut [u8]) {
     links(img);
 }
 
+// The volume with byte b at `at`.
+fn spoilt(what: &[u8], at: usize, b: u8) {
+    let mut img = [0u8; 65536];
+    build(&mut img);
+    set(&mut img, at, b);
+    show(what, &img);
+}
+
 // The volume with text laid over it.
-fn spoilt(what: &[u8], at: usize, text: &[u8]) {
+fn laid(what: &[u8], at: usize, text: &[u8]) {
     let mut img = [0u8; 65536];
     build(&mut img);
     lay(&mut img, at, text);
     show(what, &img);
 }
 
-// The same, and the counts made to agree with what is reached then.
-fn counted(what: &[u8], at: usize, text: &[u8], used: u8, low: u8, high: u8) {
+// The volume with other counts.
+fn recounted(what: &[u8], used: u8, low: u8, high: u8) {
     let mut img = [0u8; 65536];
     build(&mut img);
-    lay(&mut img, at, text);
+    count(&mut img, used, low, high);
+    show(what, &img);
+}
+
+// The volume with byte b at `at`, and with counts that agree with what is reached then.
+fn counted(what: &[u8], at: usize, b: u8, used: u8, low: u8, high: u8) {
+    let mut img = [0u8; 65536];
+    build(&mut img);
+    set(&mut img, at, b);
     count(&mut img, used, low, high);
     show(what, &img);
 }
@@ -200,32 +216,35 @@ fn unseen() {
 }
 
 fn accepted() {
-    spoilt(b"the volume", 0, b"");
+    recounted(b"the volume", 25, 255, 63);
     unseen();
-    spoilt(b"n 128, all of the image", 4109, b"\x80");
-    spoilt(b"n 25, no block is free", 4109, b"\x19");
+    spoilt(b"n 128, all of the image", 4109, 128);
+    spoilt(b"n 25, no block is free", 4109, 25);
 }
 
 // The superblock: 17 for its rest alone.
 fn w1() {
-    spoilt(b"W1, the byte after the used count is 1", 4114, b"\x01");
-    spoilt(b"W1, the superblock's last byte is 1", 4607, b"\x01");
-    spoilt(b"the signature's first byte", 4096, b"N");
-    spoilt(b"the signature's last byte", 4103, b"s");
-    spoilt(b"version 1", 4104, b"\x01");
-    spoilt(b"version 3", 4104, b"\x03");
-    spoilt(b"size code 1", 4105, b"\x01");
+    spoilt(b"W1, the byte after the used count is 1", 4114, 1);
+    spoilt(b"W1, the superblock's last byte is 1", 4607, 1);
+    spoilt(b"the signature's first byte", 4096, b'N');
+    spoilt(b"the signature's last byte", 4103, b's');
+    spoilt(b"version 1", 4104, 1);
+    spoilt(b"version 3", 4104, 3);
+    spoilt(b"size code 1", 4105, 1);
 }
 
-fn block_count() {
-    spoilt(b"n 129, the image has 128", 4109, b"\x81");
-    spoilt(b"n 2147483768", 4106, b"\x80");
-    spoilt(b"n 0", 4109, b"\x00");
-    spoilt(b"n 9", 4109, b"\x09");
-    spoilt(b"n 10, so N 0", 4109, b"\x0a");
-    spoilt(b"n 11, so N 1", 4109, b"\x0b");
-    spoilt(b"n 12, so N 2 and the data is block 11", 4109, b"\x0c");
-    spoilt(b"n 24, so block 24 is outside", 4109, b"\x18");
+fn many_blocks() {
+    spoilt(b"n 129, the image has 128", 4109, 129);
+    spoilt(b"n 2147483768", 4106, 128);
+}
+
+fn few_blocks() {
+    spoilt(b"n 0", 4109, 0);
+    spoilt(b"n 9", 4109, 9);
+    spoilt(b"n 10, so N 0", 4109, 10);
+    spoilt(b"n 11, so N 1", 4109, 11);
+    spoilt(b"n 12, so N 2 and the data is block 11", 4109, 12);
+    spoilt(b"n 24, so block 24 is outside", 4109, 24);
 }
 
 // Images and superblock numbers with no room for a superblock and more.
@@ -256,20 +275,16 @@ fn odd_images() {
 
 // The device goes on after its second block: its chain has any length, so that only the way it takes can be wrong.
 fn w2_range() {
-    spoilt(b"W2, a chain goes on at D - 1", 12291, b"\x0a");
-    spoilt(b"W2, a chain ends in block K + 1", 12291, b"\x09");
-    spoilt(b"W2, a chain goes on at n", 12291, b"\x78");
-    spoilt(
+    spoilt(b"W2, a chain goes on at D - 1", 12291, 10);
+    spoilt(b"W2, a chain ends in block K + 1", 12291, 9);
+    spoilt(b"W2, a chain goes on at n", 12291, 120);
+    laid(
         b"W2, a chain goes on at 4294967295",
         12288,
         b"\xff\xff\xff\xff",
     );
-    spoilt(
-        b"W5, a chain ends in block 25, its bit clear",
-        12291,
-        b"\x19",
-    );
-    counted(b"block 25 with its bit", 12291, b"\x19", 26, 255, 127);
+    spoilt(b"W5, a chain ends in block 25, its bit clear", 12291, 25);
+    counted(b"block 25 with its bit", 12291, 25, 26, 255, 127);
 }
 
 // The last block of the volume, after the device's second: index 108.
@@ -283,81 +298,56 @@ fn last_of_all() {
 }
 
 fn w2_circle() {
-    spoilt(b"W2, a device in a circle", 12291, b"\x17");
-    spoilt(b"W2, a device's block follows itself", 12291, b"\x18");
-    spoilt(b"W2, a file in a circle", 7171, b"\x0c");
-    spoilt(b"W2, a directory in a circle", 10243, b"\x13");
-    spoilt(b"W2, the root's block follows itself", 5635, b"\x0b");
+    spoilt(b"W2, a device in a circle", 12291, 23);
+    spoilt(b"W2, a device's block follows itself", 12291, 24);
+    spoilt(b"W2, a file in a circle", 7171, 12);
+    spoilt(b"W2, a directory in a circle", 10243, 19);
+    spoilt(b"W2, the root's block follows itself", 5635, 11);
 }
 
 fn w2_shared() {
-    spoilt(b"W2, a device runs into a file", 12291, b"\x0e");
-    spoilt(b"W2, a device runs into the root", 12291, b"\x0b");
-    counted(b"W2, two files in one block", 8219, b"\x11", 24, 127, 63);
-    counted(
-        b"W2, a file in a directory's block",
-        5662,
-        b"\x10",
-        24,
-        239,
-        63,
-    );
-    spoilt(b"W2, a directory that is the root", 5684, b"\x0b");
+    spoilt(b"W2, a device runs into a file", 12291, 14);
+    spoilt(b"W2, a device runs into the root", 12291, 11);
+    counted(b"W2, two files in one block", 8219, 17, 24, 127, 63);
+    counted(b"W2, a file in a directory's block", 5662, 16, 24, 239, 63);
+    spoilt(b"W2, a directory that is the root", 5684, 11);
 }
 
-fn w3_bytes() {
-    spoilt(b"W3, byte 0x1F in a name", 5654, b"\x1f");
-    spoilt(b"byte 0x20 in a name", 5654, b"\x20");
-    spoilt(b"byte 0x2E in a name", 5654, b".");
-    spoilt(b"W3, byte 0x2F in a name", 5654, b"/");
-    spoilt(b"byte 0x30 in a name", 5654, b"0");
-    spoilt(b"byte 0x7E in a name", 5654, b"\x7e");
-    spoilt(b"W3, byte 0x7F in a name", 5654, b"\x7f");
-    spoilt(b"W3, byte 0x80 in a name", 5654, b"\x80");
-    spoilt(b"W3, the last byte of a name is /", 5657, b"/");
-    spoilt(b"W3, the last byte of the last name is 0", 10262, b"\x00");
+fn w3_low_bytes() {
+    spoilt(b"W3, byte 0x1F in a name", 5654, 31);
+    spoilt(b"byte 0x20 in a name", 5654, 32);
+    spoilt(b"byte 0x2E in a name", 5654, b'.');
+    spoilt(b"W3, byte 0x2F in a name", 5654, b'/');
+    spoilt(b"byte 0x30 in a name", 5654, b'0');
+}
+
+fn w3_high_bytes() {
+    spoilt(b"byte 0x7E in a name", 5654, 126);
+    spoilt(b"W3, byte 0x7F in a name", 5654, 127);
+    spoilt(b"W3, byte 0x80 in a name", 5654, 128);
+    spoilt(b"W3, the last byte of a name is /", 5657, b'/');
+    spoilt(b"W3, the last byte of the last name is 0", 10262, 0);
 }
 
 fn w3_equal() {
-    spoilt(b"W3, two equal names in a block", 8233, b"a");
-    spoilt(b"W3, two equal names in two blocks", 10262, b"x");
-    spoilt(b"W3, two equal names in the root", 5719, b"dir");
-    spoilt(b"equal names in two directories", 8214, b"x");
+    spoilt(b"W3, two equal names in a block", 8233, b'a');
+    spoilt(b"W3, two equal names in two blocks", 10262, b'x');
+    laid(b"W3, two equal names in the root", 5719, b"dir");
+    spoilt(b"equal names in two directories", 8214, b'x');
 }
 
 fn w3_rest() {
-    spoilt(b"W3, the byte after the last entry is 3", 5743, b"\x03");
-    spoilt(b"W3, the block's last byte is 1", 6143, b"\x01");
-    spoilt(b"W3, a later block's last byte is 1", 10751, b"\x01");
-    counted(
-        b"W3, the last entry is of kind 3",
-        5722,
-        b"\x03",
-        23,
-        255,
-        15,
-    );
-    counted(
-        b"W3, the last entry has no name",
-        5739,
-        b"\x00",
-        23,
-        255,
-        15,
-    );
+    spoilt(b"W3, the byte after the last entry is 3", 5743, 3);
+    spoilt(b"W3, the block's last byte is 1", 6143, 1);
+    spoilt(b"W3, a later block's last byte is 1", 10751, 1);
+    counted(b"W3, the last entry is of kind 3", 5722, 3, 23, 255, 15);
+    counted(b"W3, the last entry has no name", 5739, 0, 23, 255, 15);
 }
 
 fn w3_address() {
-    counted(b"W3, an entry's address is 0", 5662, b"\x00", 24, 239, 63);
-    counted(
-        b"W3, an entry's address is D - 1",
-        5662,
-        b"\x0a",
-        24,
-        239,
-        63,
-    );
-    counted(b"W3, an entry's address is n", 5662, b"\x78", 24, 239, 63);
+    counted(b"W3, an entry's address is 0", 5662, 0, 24, 239, 63);
+    counted(b"W3, an entry's address is D - 1", 5662, 10, 24, 239, 63);
+    counted(b"W3, an entry's address is n", 5662, 120, 24, 239, 63);
 }
 
 // The second name of `dir` has 255 bytes: its entry has 273, so that the size is 292.
@@ -393,33 +383,32 @@ fn full_block() {
     show(b"W3, an entry that would end at 508", &img);
 }
 
+fn w4_blocks() {
+    laid(b"W4, 1016 bytes in three blocks", 5643, b"\x03\xf8");
+    laid(b"1017 bytes in three blocks", 5643, b"\x03\xf9");
+    laid(b"1524 bytes in three blocks", 5643, b"\x05\xf4");
+    laid(b"W4, 1525 bytes in three blocks", 5643, b"\x05\xf5");
+    laid(b"W4, 0 bytes in three blocks", 5643, b"\x00\x00");
+}
+
 fn w4_files() {
-    spoilt(b"W4, 1016 bytes in three blocks", 5643, b"\x03\xf8");
-    spoilt(b"1017 bytes in three blocks", 5643, b"\x03\xf9");
-    spoilt(b"1524 bytes in three blocks", 5643, b"\x05\xf4");
-    spoilt(b"W4, 1525 bytes in three blocks", 5643, b"\x05\xf5");
-    spoilt(b"W4, 0 bytes in three blocks", 5643, b"\x00\x00");
-    spoilt(b"508 bytes in one block", 5665, b"\x01\xfc");
-    spoilt(b"W4, 509 bytes in one block", 5665, b"\x01\xfd");
-    spoilt(b"W4, a file of 2147484848 bytes", 5641, b"\x80");
-    spoilt(b"a device of 4294967295 bytes", 5727, b"\xff\xff\xff\xff");
-    spoilt(b"W4, a file of 5 bytes in two blocks", 5722, b"\x01");
+    laid(b"508 bytes in one block", 5665, b"\x01\xfc");
+    laid(b"W4, 509 bytes in one block", 5665, b"\x01\xfd");
+    spoilt(b"W4, a file of 2147484848 bytes", 5641, 128);
+    laid(b"a device of 4294967295 bytes", 5727, b"\xff\xff\xff\xff");
+    spoilt(b"W4, a file of 5 bytes in two blocks", 5722, 1);
 }
 
 fn w4_dirs() {
-    spoilt(b"W4, size 37 for a sum of 38", 5688, b"\x25");
-    spoilt(b"W4, size 39 for a sum of 38", 5688, b"\x27");
-    spoilt(b"W4, size 0 for a sum of 38", 5688, b"\x00");
-    spoilt(
-        b"W4, size 19, the sum of the first block alone",
-        5709,
-        b"\x13",
-    );
-    spoilt(b"W4, size 16777254 for a sum of 38", 5706, b"\x01");
+    spoilt(b"W4, size 37 for a sum of 38", 5688, 37);
+    spoilt(b"W4, size 39 for a sum of 38", 5688, 39);
+    spoilt(b"W4, size 0 for a sum of 38", 5688, 0);
+    spoilt(b"W4, size 19, the sum of the first block alone", 5709, 19);
+    spoilt(b"W4, size 16777254 for a sum of 38", 5706, 1);
     counted(
         b"W4, a later block without an entry",
         5635,
-        b"\x19",
+        25,
         26,
         255,
         127,
@@ -479,33 +468,26 @@ fn depth_17() {
 }
 
 fn w5_bits() {
-    counted(b"W5, the bit of block 25 set", 0, b"", 25, 255, 127);
-    counted(b"W5, the same counted", 0, b"", 26, 255, 127);
-    counted(b"W5, the bit of block 24 clear", 0, b"", 25, 255, 31);
-    counted(b"W5, the same not counted", 0, b"", 24, 255, 31);
-    counted(b"W5, the bit of the root clear", 0, b"", 24, 254, 63);
-    counted(
-        b"W5, the bit of block 25 set for that of 24",
-        0,
-        b"",
-        25,
-        255,
-        95,
-    );
+    recounted(b"W5, the bit of block 25 set", 25, 255, 127);
+    recounted(b"W5, the same counted", 26, 255, 127);
+    recounted(b"W5, the bit of block 24 clear", 25, 255, 31);
+    recounted(b"W5, the same not counted", 24, 255, 31);
+    recounted(b"W5, the bit of the root clear", 24, 254, 63);
+    recounted(b"W5, the bit of block 25 set for that of 24", 25, 255, 95);
 }
 
 fn w5_past() {
-    spoilt(b"W5, the bit past the last block set", 5133, b"\x20");
-    counted(b"W5, the same counted", 5133, b"\x20", 26, 255, 63);
-    spoilt(b"W5, the bitmap's last bit set", 5631, b"\x80");
-    counted(b"W5, the same counted", 5631, b"\x80", 26, 255, 63);
+    spoilt(b"W5, the bit past the last block set", 5133, 32);
+    counted(b"W5, the same counted", 5133, 32, 26, 255, 63);
+    spoilt(b"W5, the bitmap's last bit set", 5631, 128);
+    counted(b"W5, the same counted", 5631, 128, 26, 255, 63);
 }
 
 fn w5_used() {
-    spoilt(b"W5, used count 24 for 25", 4113, b"\x18");
-    spoilt(b"W5, used count 26 for 25", 4113, b"\x1a");
-    spoilt(b"W5, used count 14, the bits alone", 4113, b"\x0e");
-    spoilt(b"W5, used count 16777241", 4110, b"\x01");
+    spoilt(b"W5, used count 24 for 25", 4113, 24);
+    spoilt(b"W5, used count 26 for 25", 4113, 26);
+    spoilt(b"W5, used count 14, the bits alone", 4113, 14);
+    spoilt(b"W5, used count 16777241", 4110, 1);
 }
 
 // 109 blocks of data: 14 bytes of marks.
@@ -608,7 +590,8 @@ fn w2() {
 }
 
 fn w3() {
-    w3_bytes();
+    w3_low_bytes();
+    w3_high_bytes();
     w3_equal();
     w3_rest();
     w3_address();
@@ -617,6 +600,7 @@ fn w3() {
 }
 
 fn w4() {
+    w4_blocks();
     w4_files();
     w4_dirs();
     first_empty();
@@ -640,7 +624,8 @@ fn run_large(img: &mut [u8; 2103808]) {
 fn main() {
     accepted();
     w1();
-    block_count();
+    many_blocks();
+    few_blocks();
     odd_images();
     w2();
     w3();
