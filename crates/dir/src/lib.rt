@@ -94,7 +94,7 @@ fn descend(img: &[u8], s: SuperBlock, full: &[u8], first: usize, end: usize) -> 
     ensures { λ r. ⌜ openedSays r ≡ resolve blockBytes (s .area .0) (s .blocks) (now (img .entry)) (split (drop first (take end (now (full .entry))))) (s .area .0) ⌝ }
 {
     let mut at = first;
-    let mut dir = s.area;
+    let mut dir: Addr = s.area;
     loop {
         let e = path::piece_end(full, at, end);
         let r = enter(img, s, dir, &full[at..e]);

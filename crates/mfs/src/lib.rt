@@ -459,18 +459,16 @@ fn create_file_full(img: &mut [u8], s: SuperBlock, full: &[u8], len: usize, time
     let created = creates::create(img, s, full, len, Kind::File, time);
     match created {
         Created::Refused(r) => refused_open(r),
-        Created::At(dir, addr) => handle_for(
-            full,
-            len,
-            dir,
-            DirEntry {
+        Created::At(dir, addr) => {
+            let e = DirEntry {
                 kind: Kind::File,
                 addr,
                 size: 0,
                 time,
                 len: 0,
-            },
-        ),
+            };
+            handle_for(full, len, dir, e)
+        }
     }
 }
 
