@@ -1,3 +1,4 @@
 pub mod FileReads
 pub mod Listings
 pub mod Calls
+pub mod Changing
