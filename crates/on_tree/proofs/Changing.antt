@@ -204,7 +204,8 @@ module _ (K : ℕ) (I W : List ℕ) (h : Handle) (buf : List ℕ) (now : ℕ) (o
   unfolding countOf
   write-reply k e = then-accepted (writeReply K I (length W) h (length buf)) _ k (sym (ap countedSays (sym e) ∙ c .answer))
 
-  write-passed : (k : ℕ) → o .answer ≡ counted.Bytes k → (checkRefusal K I (length W) ≡ 0) × (τ : Target) × (targetOf (geoAt K I) I h (length buf) ≡ accepted τ)
+  -- what it has passed
+  pub write-passed : (k : ℕ) → o .answer ≡ counted.Bytes k → (checkRefusal K I (length W) ≡ 0) × (τ : Target) × (targetOf (geoAt K I) I h (length buf) ≡ accepted τ)
   unfolding writeReply
   write-passed k e =
       let b = write-reply k e in

@@ -2,3 +2,4 @@ pub mod FileReads
 pub mod Listings
 pub mod Calls
 pub mod Changing
+pub mod ReadsBack
