@@ -14,7 +14,7 @@ use Rattle.model.specs.Volume.{Volume, WellFormed, maxDepth}
 use Rattle.model.specs.Steps.{Bytes}
 use Rattle.model.specs.Calls.{DirAt, Makes}
 use Rattle.model.specs.Calls.{CreatesFile as TreeFile, CreatesDir as TreeDir, Deletes as TreeDelete, Writes as TreeWrite}
-use Rattle.model.proofs.OneVolume.{well-formed-geo}
+use Rattle.model.proofs.OneVolume.{well-formed-geo, well-formed-one}
 use Rattle.model.proofs.Opens.{when-none, first-of-zero, first-of-one}
 use Rattle.model.proofs.Replies.{settle-none}
 use Rattle.dir_entry.specs.declared.Kind.{Kind}
@@ -81,6 +81,11 @@ volume-at K I w = subst (λ (g : Geo). Volume g I maxDepth (w .tree)) (well-form
 -- What a changing call makes of a well-formed image is a well-formed image, of the new tree.
 pub well-after : (K : ℕ) (I J : List ℕ) → WellFormed K I → (u : Tree maxDepth) (left : List Piece) → Makes (geoAt K I) maxDepth u left I J → WellFormed K J
 well-after K I J w u left m = record { numbers = geoAt K I; here = ap (λ (g : Geo). g .K) (sym (well-formed-geo K I w)) ∙ w .here; tree = u; volume = m .volume }
+
+-- and however J is found well formed, its tree is that one.
+pub tree-after : (K : ℕ) (I J : List ℕ) → WellFormed K I → (u : Tree maxDepth) (left : List Piece) → Makes (geoAt K I) maxDepth u left I J → (v : WellFormed K J) → v .tree ≡ u
+unfolding well-after
+tree-after K I J w u left m v = well-formed-one K J v (well-after K I J w u left m) .1
 
 -- ---- create and delete
 
