@@ -15,8 +15,10 @@ use Rattle.file.specs.declared.Sought.{Sought}
 use Rattle.file.specs.declared.Counted.{Counted}
 use Rattle.file.specs.declared.Counted.the-variants as counted
 use Rattle.file.specs.declared.ReadOut.{ReadOut}
+use Rattle.file.specs.declared.WriteOut.{WriteOut}
 use Rattle.file.specs.File.{moved}
 use Rattle.file.specs.Post.{MovedIs, SoughtIs, CountedIs}
+use Rattle.file.specs.Written.{countedSays}
 use Rattle.mfs.specs.declared.Answer.{Answer}
 use Rattle.mfs.specs.declared.Answer.the-variants as answer
 use Rattle.mfs.specs.declared.Space.{Space}
@@ -27,7 +29,8 @@ use Rattle.mfs.specs.declared.Listing.{Listing}
 use Rattle.mfs.specs.declared.Listing.the-variants as listing
 use Rattle.mfs.specs.Says.{says, onAnswer, IfRefused, Sizes, spaceSays}
 use Rattle.mfs.specs.Format.{Formats, Uses}
-use Rattle.mfs.specs.Reading.{noHandle, noAbout, aboutOf, Opens, Informs, Counts, listSays, Lists, Reads}
+use Rattle.mfs.specs.Reading.{noHandle, noAbout, aboutOf, OpenIs, Opens, Informs, Counts, listSays, Lists, Reads}
+use Rattle.mfs.specs.Changing.{CreatesFile, CreatesDir, Deletes, Writes}
 
 -- an answer with a value beside it, which is fixed where the answer is a refusal
 answer-one : {A : Type 0} (z : A) (a b : Answer) (x y : A) → onAnswer a x ≡ onAnswer b y → IfRefused a (x ≡ z) → IfRefused b (y ≡ z) → (a ≡ b) × (x ≡ y)
@@ -40,14 +43,14 @@ answer-one z (answer.Refused r) (answer.Refused s) x y e p q =
 
 -- ---- the calls
 
+says-one : (r q : Answer) → says r ≡ says q → r ≡ q
+says-one answer.Success answer.Success e = refl
+says-one answer.Success (answer.Refused y) e = let z : _≡_ {A = ℕ} 0 1 = cc in absurd (omega arith)
+says-one (answer.Refused x) answer.Success e = let z : _≡_ {A = ℕ} 0 1 = cc in absurd (omega arith)
+says-one (answer.Refused x) (answer.Refused y) e = let k : refusalNumber x ≡ refusalNumber y = cc in ap answer.Refused (number-one x y k)
+
 pub format-one : (K : ℕ) (I : List ℕ) (r q : Answer) (J L : List ℕ) → Formats K I r J → Formats K I q L → (r ≡ q) × (J ≡ L)
-format-one K I r q J L a b = (go r q (a .answer ∙ sym (b .answer)), a .image ∙ sym (b .image))
-  where
-    go : (r q : Answer) → says r ≡ says q → r ≡ q
-    go answer.Success answer.Success e = refl
-    go answer.Success (answer.Refused y) e = let z : _≡_ {A = ℕ} 0 1 = cc in absurd (omega arith)
-    go (answer.Refused x) answer.Success e = let z : _≡_ {A = ℕ} 0 1 = cc in absurd (omega arith)
-    go (answer.Refused x) (answer.Refused y) e = let k : refusalNumber x ≡ refusalNumber y = cc in ap answer.Refused (number-one x y k)
+format-one K I r q J L a b = (says-one r q (a .answer ∙ sym (b .answer)), a .image ∙ sym (b .image))
 
 -- what is accepted is one value
 accepted-one : {A : Type 0} (x y : A) → accepted x ≡ accepted y → x ≡ y
@@ -66,10 +69,14 @@ usage-one K I r q a b = go r q (a ∙ sym b)
     go (space.Refused x) (space.Bytes t v g) e = let z : _≡_ {A = ℕ} 0 1 = cc in absurd (omega arith)
     go (space.Refused x) (space.Refused y) e = let k : refusalNumber x ≡ refusalNumber y = cc in ap space.Refused (number-one x y k)
 
-pub open-one : (K : ℕ) (I cwd p : List ℕ) (r q : OpenOut) → Opens K I cwd p r → Opens K I cwd p q → r ≡ q
-open-one K I cwd p r q a b =
+-- a handle answered
+handle-one : (v : Reply Handle) (r q : OpenOut) → OpenIs v r → OpenIs v q → r ≡ q
+handle-one v r q a b =
     let e = answer-one noHandle (r .answer) (q .answer) (r .handle) (q .handle) (a .answer ∙ sym (b .answer)) (a .empty) (b .empty) in
     λ i. record { answer = e .0 i; handle = e .1 i }
+
+pub open-one : (K : ℕ) (I cwd p : List ℕ) (r q : OpenOut) → Opens K I cwd p r → Opens K I cwd p q → r ≡ q
+open-one K I cwd p r q a b = handle-one _ r q a b
 
 pub info-one : (K : ℕ) (I cwd p : List ℕ) (r q : InfoOut) → Informs K I cwd p r → Informs K I cwd p q → r ≡ q
 info-one K I cwd p r q a b =
@@ -116,3 +123,30 @@ pub seek-one : (h : Handle) (from : SeekFrom) (r q : Sought) → SoughtIs h from
 seek-one h from r q a b =
     let e = moved-one h (r .handle) (q .handle) from (r .answer) (q .answer) a b in
     λ i. record { answer = e .0 i; handle = e .1 i }
+
+-- ---- the changing calls: the answer, the image and the work buffer
+
+module _ (K : ℕ) (I W cwd p : List ℕ) (time : ℕ) (J L Z Y : List ℕ) where
+  pub create-file-one : (r q : OpenOut) → CreatesFile K I W cwd p time r J Z → CreatesFile K I W cwd p time q L Y → (r ≡ q) × (J ≡ L) × (Z ≡ Y)
+  create-file-one r q a b = (handle-one _ r q (a .answer) (b .answer), a .image ∙ sym (b .image), a .work ∙ sym (b .work))
+
+  pub create-dir-one : (r q : Answer) → CreatesDir K I W cwd p time r J Z → CreatesDir K I W cwd p time q L Y → (r ≡ q) × (J ≡ L) × (Z ≡ Y)
+  create-dir-one r q a b = (says-one r q (a .answer ∙ sym (b .answer)), a .image ∙ sym (b .image), a .work ∙ sym (b .work))
+
+  pub delete-one : (r q : Answer) → Deletes K I W cwd p time r J Z → Deletes K I W cwd p time q L Y → (r ≡ q) × (J ≡ L) × (Z ≡ Y)
+  delete-one r q a b = (says-one r q (a .answer ∙ sym (b .answer)), a .image ∙ sym (b .image), a .work ∙ sym (b .work))
+
+-- a byte count answered
+count-one : (c d : Counted) → countedSays c ≡ countedSays d → c ≡ d
+count-one (counted.Bytes i) (counted.Bytes j) e = ap counted.Bytes (accepted-one i j e)
+count-one (counted.Bytes i) (counted.Refused y) e = let z : _≡_ {A = ℕ} 0 1 = cc in absurd (omega arith)
+count-one (counted.Refused x) (counted.Bytes j) e = let z : _≡_ {A = ℕ} 0 1 = cc in absurd (omega arith)
+count-one (counted.Refused x) (counted.Refused y) e = let k : refusalNumber x ≡ refusalNumber y = cc in ap counted.Refused (number-one x y k)
+
+-- A write: the count and the handle, the image and the work buffer.
+pub write-one : (K : ℕ) (I W : List ℕ) (h : Handle) (buf : List ℕ) (time : ℕ) (r q : WriteOut) (J L Z Y : List ℕ)
+    → Writes K I W h buf time r J Z → Writes K I W h buf time q L Y → (r ≡ q) × (J ≡ L) × (Z ≡ Y)
+write-one K I W h buf time r q J L Z Y a b =
+    let e : r .answer ≡ q .answer = count-one (r .answer) (q .answer) (a .answer ∙ sym (b .answer)) in
+    let f : r .handle ≡ q .handle = a .handle ∙ sym (b .handle) in
+    (λ i. record { answer = e i; handle = f i }, a .image ∙ sym (b .image), a .work ∙ sym (b .work))

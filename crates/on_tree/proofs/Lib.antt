@@ -1,3 +1,5 @@
 pub mod FileReads
 pub mod Listings
 pub mod Calls
+pub mod Changing
+pub mod ReadsBack
