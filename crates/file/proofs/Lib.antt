@@ -10,3 +10,4 @@ pub mod Renewed
 pub mod Seeks
 pub mod Stores
 pub mod Targets
+pub mod Limits
