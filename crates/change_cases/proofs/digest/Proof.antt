@@ -1,0 +1,67 @@
+use Prim.Native.Nat.{ℕ, _-_, _≤_}
+use native.Mathlib.Omega.{arith}
+use borrow.Author.Needs.{needs}
+use lib.ListN.{length}
+use Rattle.change_cases.proofs.digest.Statement.{statement}
+use Rattle.change_cases.proofs.digest.Tie as tie
+use Rattle.change_cases.proofs.digest.Reads as reads
+use Rattle.change_cases.proofs.digest.Lts as lts
+use Rattle.change_cases.proofs.wide.Reads as wide-reads
+
+abbrev Inv-loop : tie.InvT-loop
+Inv-loop img d₀ i₀ d i = (i ≤ length img) × (d ≤ 4294967290)
+
+abbrev μ-loop : tie.MeasureT-loop
+μ-loop img d₀ i₀ d i = length img - i
+
+-- src/main.rt:90:5
+loop-holds : tie.Need-loop-holds Inv-loop μ-loop
+loop-holds c = search needs
+
+-- src/main.rt:91:14
+mul-d : tie.Need-mul-d Inv-loop μ-loop
+mul-d c = search needs
+
+-- src/main.rt:91:25
+shared-slice-read-wide : tie.Need-shared-slice-read-wide Inv-loop μ-loop
+shared-slice-read-wide c = search needs
+
+-- src/main.rt:91:25
+wide-requires : tie.Need-wide-requires Inv-loop μ-loop
+wide-requires c κs = search needs
+
+-- src/main.rt:91:14
+add-d : tie.Need-add-d Inv-loop μ-loop
+add-d c = search needs
+
+-- src/main.rt:92:9
+add-i : tie.Need-add-i Inv-loop μ-loop
+add-i c = search needs
+
+-- src/main.rt:90:5
+loop-less : tie.Need-loop-less Inv-loop μ-loop
+loop-less c = search needs
+
+-- src/main.rt:90:5
+loop-again : tie.Need-loop-again Inv-loop μ-loop
+loop-again c = search needs
+
+-- src/main.rt:87:1
+returns : tie.Need-returns Inv-loop μ-loop
+returns c = search needs
+
+pub digest-spec : {M : Type 1} → statement M
+digest-spec =
+    tie.close
+    (tie.spec
+    Inv-loop
+    μ-loop
+    loop-holds
+    mul-d
+    shared-slice-read-wide
+    wide-requires
+    add-d
+    add-i
+    loop-less
+    loop-again
+    returns)
