@@ -578,6 +578,10 @@ fn stale_by_fields(img: &mut [u8; 2103808]) {
         b"h",
         1020,
     );
+}
+
+// No byte is refused before the handle is looked at; a made up handle that fits is as good as any.
+fn fitting_by_fields(img: &mut [u8; 2103808]) {
     write(
         b"no byte, and no name",
         img,
@@ -718,6 +722,7 @@ fn run_files(img: &mut [u8; 2103808]) {
     grow_and_cut(img);
     stale_by_changes(img);
     stale_by_fields(img);
+    fitting_by_fields(img);
     fake_directory(img);
 }
 
