@@ -1,1 +1,4 @@
+pub mod Answered
+pub mod Once
 pub mod Path
+pub mod Counter

@@ -37,6 +37,7 @@ use Rattle.mfs.specs.declared.OpenOut.{OpenOut}
 use Rattle.mfs.specs.Changing.{CreatesFile, Deletes, Writes}
 use Rattle.on_tree.specs.Named.{wayOf, lastOf}
 use Rattle.on_tree.proofs.Changing.{volume-at, create-file-tree, create-file-kept, delete-tree, delete-kept, write-tree, write-kept}
+use Rattle.promises.proofs.Answered.{answer-is, counted-is}
 use Rattle.promises.specs.Sequence.{Leads, HandleAt, Call, creates, opens, reads, seeks, writes, deletes, Calls, done, call}
 
 -- ---- the holding directory begins where it did
@@ -67,16 +68,6 @@ module _ (d a : ℕ) (p : List Name) (t : Tree d) (s : DirAt d a p t) where
   rewritten-there n now z cs =
       edit-there (λ k. k) (λ e bs. change n (λ x. refiled now z cs (x .name) (x .time) (x .node)) bs)
       (change-at n (λ x. refiled now z cs (x .name) (x .time) (x .node)) (s .dir .1))
-
--- ---- an answer is success or a refusal
-
-answer-is : (r : Answer) → (r ≡ answer.Success) ⊎ ((x : Refusal) × (r ≡ answer.Refused x))
-answer-is answer.Success = inl refl
-answer-is (answer.Refused x) = inr (x, refl)
-
-counted-is : (r : Counted) → ((k : ℕ) × (r ≡ counted.Bytes k)) ⊎ ((x : Refusal) × (r ≡ counted.Refused x))
-counted-is (counted.Bytes k) = inl (k, refl)
-counted-is (counted.Refused x) = inr (x, refl)
 
 -- ---- each call is a step
 

@@ -1,0 +1,66 @@
+-- The counter's safety.
+use mathlib.Core.Path.{_≡_, refl, sym, ap, _∙_, subst}
+use mathlib.Core.Logic.{_⊎_, inl, inr}
+use mathlib.Core.Option.{Option, none, some}
+use mathlib.Core.List.{List}
+use Prim.Native.Nat.{ℕ, _+_, _^_, _≤_, _<_}
+use native.Mathlib.Omega.{arith}
+use lib.ListN.{length}
+use Rattle.model.specs.Answers.{Reply, accepted, refused, andThen, given}
+use Rattle.model.specs.declared.Refusal.{Refusal}
+use Rattle.model.specs.Tree.{Name, Cell, Tree}
+use Rattle.model.specs.Geometry.{geoAt}
+use Rattle.model.specs.Volume.{WellFormed, maxDepth}
+use Rattle.model.specs.Calls.{fileAt, DirAt}
+use Rattle.model.specs.Steps.{Bytes}
+use Rattle.model.proofs.Others.{other-file}
+use Rattle.file.specs.declared.Handle.{Handle}
+use Rattle.file.specs.declared.WriteOut.{WriteOut}
+use Rattle.file.specs.declared.Counted.the-variants as counted
+use Rattle.file.specs.File.{nameOf}
+use Rattle.file.specs.OnTree.{Stale}
+use Rattle.file.specs.Writing.{Target, targetOf, countOf}
+use Rattle.file.specs.Written.{countedSays}
+use Rattle.file.proofs.Targets.{accepted-is, stale-is}
+use Rattle.mfs.specs.Checking.{checkRefusal}
+use Rattle.mfs.specs.Changing.{Writes, writeReply}
+use Rattle.mfs.proofs.Paths.{given-none}
+use Rattle.on_tree.proofs.Changing.{volume-at, tree-after, write-passed, write-before, write-tree, write-kept}
+use Rattle.promises.specs.Counter.{Another, StaleAtEntry}
+use Rattle.promises.proofs.Answered.{counted-is}
+
+module _ (K : ℕ) (I W : List ℕ) (h : Handle) (buf : List ℕ) (now : ℕ) (o : WriteOut) (J Z : List ℕ) (c : Writes K I W h buf now o J Z) where
+  -- "an accepted write through a handle changes no byte of another file": a file that is not the handle's has the same size, time, blocks and
+  -- bytes before and after; and where no file was, none is.
+  pub others-kept : (k : ℕ) → o .answer ≡ counted.Bytes k → now < 2 ^ 64 → (w : WellFormed K I) (v : WellFormed K J) (q : List Name) (m : Name)
+      → Another maxDepth (w .tree) h q m → fileAt maxDepth q m (v .tree) ≡ fileAt maxDepth q m (w .tree)
+  others-kept k e clock w v q m x =
+      let a = write-tree K I W h buf now o J Z c k w clock e in
+      ap (fileAt maxDepth q m) (tree-after K I J w _ _ (a .2 .makes) v)
+      ∙ other-file maxDepth (a .0) q (nameOf h) m now _ _ (w .tree) (λ y z. x (subst (λ (p : List Name). DirAt maxDepth (h .dir .0) p (w .tree)) y (a .1)) z)
+
+  -- A refused write changes nothing at all, so that the same is true of it.
+  pub others-kept-refused : (x : Refusal) → o .answer ≡ counted.Refused x → J ≡ I
+  others-kept-refused x e = write-kept K I W h buf now o J Z c x e .0
+
+  -- "a call whose handle is stale at its entry changes no image": nor the handle.
+  pub stale-kept : Bytes I → StaleAtEntry K I h → (J ≡ I) × (o .handle ≡ h)
+  stale-kept b s = go (counted-is (o .answer))
+    where
+      go : ((k : ℕ) × (o .answer ≡ counted.Bytes k)) ⊎ ((x : Refusal) × (o .answer ≡ counted.Refused x)) → (J ≡ I) × (o .handle ≡ h)
+      go (inl e) =
+          let w = write-before K I W h buf now o J Z c (e .0) b (e .1) in
+          let a = write-passed K I W h buf now o J Z c (e .0) (e .1) in
+          let t = accepted-is (geoAt K I) I (w .tree) (volume-at K I w) h (length buf) .0 (a .1) (a .2) in
+          let r : refused 11 ≡ accepted (a .1) = sym (stale-is (geoAt K I) I (w .tree) (volume-at K I w) h (length buf) (t .some-bytes) .1 (s w)) ∙ a .2 in
+          let z : _≡_ {A = ℕ} 0 1 = cc in
+          absurd (omega arith)
+      go (inr e) = write-kept K I W h buf now o J Z c (e .0) (e .1)
+
+  -- Where the check passes and there are bytes to write, a stale handle gets 11.
+  pub stale-answer : checkRefusal K I (length W) ≡ 0 → 1 ≤ length buf → (w : WellFormed K I) → Stale maxDepth (w .tree) h → countedSays (o .answer) ≡ refused 11
+  unfolding writeReply countOf andThen
+  stale-answer z b w s =
+      let t : targetOf (geoAt K I) I h (length buf) ≡ refused 11 = stale-is (geoAt K I) I (w .tree) (volume-at K I w) h (length buf) b .1 s in
+      let r : given (checkRefusal K I (length W)) (targetOf (geoAt K I) I h (length buf)) ≡ refused 11 = sym (given-none _ _ z) ∙ t in
+      c .answer ∙ ap (countOf (length buf)) r
