@@ -1,14 +1,13 @@
 -- The counter's safety.
-use mathlib.Core.Path.{_≡_, refl, sym, ap, _∙_, subst}
+use mathlib.Core.Path.{_≡_, sym, ap, _∙_, subst}
 use mathlib.Core.Logic.{_⊎_, inl, inr}
-use mathlib.Core.Option.{Option, none, some}
 use mathlib.Core.List.{List}
-use Prim.Native.Nat.{ℕ, _+_, _^_, _≤_, _<_}
+use Prim.Native.Nat.{ℕ, _^_, _≤_, _<_}
 use native.Mathlib.Omega.{arith}
 use lib.ListN.{length}
-use Rattle.model.specs.Answers.{Reply, accepted, refused, andThen, given}
+use Rattle.model.specs.Answers.{accepted, refused, andThen, given}
 use Rattle.model.specs.declared.Refusal.{Refusal}
-use Rattle.model.specs.Tree.{Name, Cell, Tree}
+use Rattle.model.specs.Tree.{Name}
 use Rattle.model.specs.Geometry.{geoAt}
 use Rattle.model.specs.Volume.{WellFormed, maxDepth}
 use Rattle.model.specs.Calls.{fileAt, DirAt}
@@ -19,7 +18,7 @@ use Rattle.file.specs.declared.WriteOut.{WriteOut}
 use Rattle.file.specs.declared.Counted.the-variants as counted
 use Rattle.file.specs.File.{nameOf}
 use Rattle.file.specs.OnTree.{Stale}
-use Rattle.file.specs.Writing.{Target, targetOf, countOf}
+use Rattle.file.specs.Writing.{targetOf, countOf}
 use Rattle.file.specs.Written.{countedSays}
 use Rattle.file.proofs.Targets.{accepted-is, stale-is}
 use Rattle.mfs.specs.Checking.{checkRefusal}

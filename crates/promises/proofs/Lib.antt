@@ -2,3 +2,4 @@ pub mod Answered
 pub mod Once
 pub mod Path
 pub mod Counter
+pub mod Honest

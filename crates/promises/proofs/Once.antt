@@ -5,11 +5,7 @@ use Prim.Native.Nat.{ℕ, zero, suc}
 use native.Mathlib.Omega.{arith}
 use lib.ListN.{length}
 use Rattle.wire.specs.Be.{splice}
-use Rattle.model.specs.Answers.{Reply, accepted, refused, refusalNumber, reply, settle}
-use Rattle.model.specs.declared.Refusal.{Refusal}
-use Rattle.file.specs.declared.Handle.{Handle}
-use Rattle.file.specs.declared.Outcome.{Outcome}
-use Rattle.file.specs.declared.Counted.{Counted}
+use Rattle.model.specs.Answers.{Reply, refused, refusalNumber, reply, settle}
 use Rattle.file.specs.Post.{MovedIs, CountedIs}
 use Rattle.mfs.specs.declared.Answer.{Answer}
 use Rattle.mfs.specs.declared.Answer.the-variants as answer

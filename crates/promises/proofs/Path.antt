@@ -2,18 +2,15 @@
 use mathlib.Core.Path.{_≡_, refl, sym, ap, _∙_, subst}
 use mathlib.Core.Bool.{true, false}
 use mathlib.Core.Logic.{_⊎_, inl, inr}
-use mathlib.Core.Option.{Option, some}
 use mathlib.Core.List.{List, [], _∷_, _++_}
-use Prim.Native.Nat.{ℕ, _+_, _^_, _≤_, _<_}
-use native.Mathlib.Omega.{arith}
+use Prim.Native.Nat.{ℕ, _+_, _^_, _<_}
 use lib.Dec.{leb}
-use lib.ListN.{length}
 use Rattle.wire.proofs.Picks.{either, pick-true, pick-false}
 use Rattle.model.specs.declared.Refusal.{Refusal}
-use Rattle.model.specs.Tree.{Name, Cell, Entry, Block, Tree, used, weight, fill, Packed, insert, change, delete, Edit, edit, Some, find}
+use Rattle.model.specs.Tree.{Name, Cell, Entry, Block, Tree, used, weight, fill, Packed, insert, change, delete, Edit, edit}
 use Rattle.model.specs.Render.{Piece, blocksAt}
 use Rattle.model.specs.Geometry.{Geo, blockSize, geoAt}
-use Rattle.model.specs.Volume.{Volume, WellFormed, maxDepth}
+use Rattle.model.specs.Volume.{WellFormed, maxDepth}
 use Rattle.model.specs.Calls.{Vacant, DirAt, fileEntry, created, deleted, refiled, rewritten, Makes}
 use Rattle.model.specs.Calls.{CreatesFile as TreeFile, Deletes as TreeDelete, Writes as TreeWrite}
 use Rattle.model.specs.Steps.{Step, quiet, Run, Restored, Bytes}
@@ -28,14 +25,13 @@ use Rattle.model.proofs.Paths.{laid-path}
 use Rattle.dir_delete.proofs.Removes.{delete-at}
 use Rattle.file.specs.declared.Handle.{Handle}
 use Rattle.file.specs.declared.WriteOut.{WriteOut}
-use Rattle.file.specs.declared.Counted.{Counted}
 use Rattle.file.specs.declared.Counted.the-variants as counted
 use Rattle.file.specs.File.{nameOf}
 use Rattle.mfs.specs.declared.Answer.{Answer}
 use Rattle.mfs.specs.declared.Answer.the-variants as answer
 use Rattle.mfs.specs.declared.OpenOut.{OpenOut}
 use Rattle.mfs.specs.Changing.{CreatesFile, Deletes, Writes}
-use Rattle.on_tree.specs.Named.{wayOf, lastOf}
+use Rattle.on_tree.specs.Named.{lastOf}
 use Rattle.on_tree.proofs.Changing.{volume-at, create-file-tree, create-file-kept, delete-tree, delete-kept, write-tree, write-kept}
 use Rattle.promises.proofs.Answered.{answer-is, counted-is}
 use Rattle.promises.specs.Sequence.{Leads, HandleAt, Call, creates, opens, reads, seeks, writes, deletes, Calls, done, call}

@@ -1,3 +1,4 @@
 pub mod Once
 pub mod Sequence
 pub mod Counter
+pub mod Honest

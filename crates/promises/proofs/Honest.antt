@@ -1,0 +1,283 @@
+-- Demand 2: on a well-formed volume a call with no refusal is accepted, "no room" is exact, what is written is read, and no used count is invented.
+use mathlib.Core.Path.{_≡_, refl, sym, ap, _∙_, subst}
+use mathlib.Core.Bool.{true, false, not}
+use mathlib.Core.Logic.{_⊎_, inl, inr, _↔_}
+use mathlib.Core.Option.{Option, none, some}
+use mathlib.Core.List.{List, [], _∷_, _++_}
+use Prim.Native.Nat.{ℕ, zero, suc, _+_, _-_, _^_, _≤_, _<_, min}
+use native.Mathlib.Omega.{arith}
+use lib.ListN.{length, take, drop}
+use borrow.Author.Tests.{le-ltb}
+use Rattle.wire.specs.Be.{splice}
+use Rattle.wire.proofs.Picks.{either}
+use Rattle.model.specs.Answers.{Reply, accepted, refused, refusalNumber, andThen, when, given}
+use Rattle.model.specs.Tree.{Name, Cell, Node, file, device, sub, Entry, Tree, then, lookup, inside, Some, find}
+use Rattle.model.specs.Geometry.{Geo, dataAt, geoAt, setBits, usedCount}
+use Rattle.model.specs.Volume.{WellFormed, maxDepth}
+use Rattle.model.specs.Calls.{fileOf, fileAt, DirAt, freeBlocks, fileEntry, contents}
+use Rattle.model.specs.Calls.{Writes as TreeWrite}
+use Rattle.model.specs.Steps.{Bytes}
+use Rattle.model.proofs.Lists.{not-some, then-some}
+use Rattle.model.proofs.OneVolume.{well-formed-opens, used-set}
+use Rattle.model.proofs.Opens.{passes, when-true, when-false, first-of-none, first-of-one, first-of-tail}
+use Rattle.model.proofs.Paths.{laid-path}
+use Rattle.tally.specs.Tally.{markLong}
+use Rattle.dir_entry.specs.declared.Kind.the-variants as kind
+use Rattle.survey.proofs.Wholes.{whole-complete}
+use Rattle.path.specs.Path.{realPath, badPath}
+use Rattle.creates.specs.Creating.{Site, badName, siteOf, freshOf, createdOn}
+use Rattle.creates.specs.OnTree.{treeRefusal}
+use Rattle.creates.proofs.Trees.{tree-full}
+use Rattle.creates.proofs.Trees.{answer-is as site-answer, answer-none as site-none}
+use Rattle.file.specs.declared.Handle.{Handle}
+use Rattle.file.specs.declared.SeekFrom.the-variants.{Start}
+use Rattle.file.specs.declared.Outcome.the-variants as outcome
+use Rattle.file.specs.declared.Sought.{Sought}
+use Rattle.file.specs.declared.Counted.{Counted}
+use Rattle.file.specs.declared.Counted.the-variants as counted
+use Rattle.file.specs.declared.ReadOut.{ReadOut}
+use Rattle.file.specs.declared.WriteOut.{WriteOut}
+use Rattle.file.specs.File.{nameOf}
+use Rattle.file.specs.Post.{SoughtIs}
+use Rattle.file.specs.OnTree.{NoRoom, Accepts}
+use Rattle.file.specs.Writing.{Target, targetOf, countOf}
+use Rattle.file.specs.Written.{countedSays}
+use Rattle.file.proofs.Targets.{accepted-is, no-room}
+use Rattle.mfs.specs.declared.Answer.{Answer}
+use Rattle.mfs.specs.declared.Answer.the-variants as answer
+use Rattle.mfs.specs.declared.OpenOut.{OpenOut}
+use Rattle.mfs.specs.Says.{onAnswer}
+use Rattle.mfs.specs.Reading.{openSays, Reads}
+use Rattle.mfs.specs.Checking.{checkCall, checkRefusal}
+use Rattle.mfs.specs.Changing.{changeCall, createReply, CreatesFile, CreatesDir, Deletes, Writes, writeReply}
+use Rattle.mfs.proofs.Paths.{given-none}
+use Rattle.on_tree.specs.Named.{wayOf, lastOf}
+use Rattle.on_tree.proofs.Changing.{volume-at, create-file-well, create-dir-well, delete-well, write-well, write-tree}
+use Rattle.on_tree.proofs.ReadsBack.{write-seek, write-read}
+use Rattle.promises.specs.Honest.{CreateFits, CreateFull}
+
+-- ---- answers
+
+given-refused : {A : Type 0} (k : ℕ) (r : Reply A) (j : ℕ) → given k r ≡ refused j → ((1 ≤ k) × (j ≡ k)) ⊎ ((k ≡ 0) × (r ≡ refused j))
+unfolding given
+given-refused zero r j e = inr (refl, e)
+given-refused (suc k) r j e = let z : suc k ≡ j = cc in inl (omega arith, sym z)
+
+not-accepted : {A : Type 0} (k : ℕ) (a : A) → refused k ≡ accepted a → ⊥
+not-accepted k a e = let z : _≡_ {A = ℕ} 0 1 = cc in omega arith
+
+-- an answer and what is made of its value are refused by the same number, and accepted together
+then-refused : {A B : Type 0} (r : Reply A) (f : A → B) (j : ℕ) → andThen r (λ a. accepted (f a)) ≡ refused j → r ≡ refused j
+unfolding andThen
+then-refused (accepted a) f j e = absurd (not-accepted j (f a) (sym e))
+then-refused (refused k) f j e = let z : k ≡ j = cc in ap refused z
+
+refused-then : {A B : Type 0} (r : Reply A) (f : A → B) (j : ℕ) → r ≡ refused j → andThen r (λ a. accepted (f a)) ≡ refused j
+unfolding andThen
+refused-then r f j e = ap (λ x. andThen x (λ a. accepted (f a))) e
+
+accepted-then : {A B : Type 0} (r : Reply A) (f : A → B) (a : A) → r ≡ accepted a → andThen r (λ a. accepted (f a)) ≡ accepted (f a)
+unfolding andThen
+accepted-then r f a e = ap (λ x. andThen x (λ a. accepted (f a))) e
+
+count-bytes : (c : Counted) (k : ℕ) → countedSays c ≡ accepted k → c ≡ counted.Bytes k
+count-bytes (counted.Bytes j) k e = let z : j ≡ k = cc in ap counted.Bytes z
+count-bytes (counted.Refused x) k e = absurd (not-accepted (refusalNumber x) k e)
+
+on-success : {A : Type 0} (r : Answer) (a b : A) → onAnswer r a ≡ accepted b → r ≡ answer.Success
+on-success answer.Success a b e = refl
+on-success (answer.Refused x) a b e = absurd (not-accepted (refusalNumber x) b e)
+
+-- ---- the check passes on a well-formed volume, with a work buffer that is long enough
+
+module _ (K : ℕ) (I W : List ℕ) (b : Bytes I) (w : WellFormed K I) (long : markLong (geoAt K I) ≤ length W) where
+  pub check-passes : checkRefusal K I (length W) ≡ 0
+  unfolding checkRefusal checkCall
+  check-passes =
+      first-of-tail _ _ (first-of-tail _ _ (well-formed-opens K I w) ∙ first-of-one _ ∙ when-false 16 (le-ltb (length W) (markLong (geoAt K I)) long))
+      ∙ first-of-one _ ∙ when-false 17 (ap not (whole-complete K I b w))
+
+  -- ---- write
+
+  module _ (h : Handle) (buf : List ℕ) (now : ℕ) (o : WriteOut) (J Z : List ℕ) (c : Writes K I W h buf now o J Z) where
+    write-says : countedSays (o .answer) ≡ andThen (targetOf (geoAt K I) I h (length buf)) (λ t. accepted (length buf))
+    unfolding writeReply countOf
+    write-says = c .answer ∙ ap (λ (r : Reply Target). andThen r (λ t. accepted (length buf))) (sym (given-none (checkRefusal K I (length W)) (targetOf (geoAt K I) I h (length buf)) check-passes))
+
+    -- A write is accepted where there are bytes, the handle is current, the file stays in its limit and there is room: always refusing is wrong.
+    pub write-succeeds : Accepts (geoAt K I) maxDepth (w .tree) h (length buf) → o .answer ≡ counted.Bytes (length buf)
+    write-succeeds a =
+        let t = accepted-is (geoAt K I) I (w .tree) (volume-at K I w) h (length buf) .1 a in
+        count-bytes (o .answer) (length buf) (write-says ∙ accepted-then _ (λ x. length buf) (t .0) (t .1))
+
+    -- It answers "no room" exactly where it has none of 13, 11, 10 and fewer blocks are free in reach than it adds.
+    pub write-full : (countedSays (o .answer) ≡ refused 9) ↔ NoRoom (geoAt K I) maxDepth (w .tree) h (length buf)
+    write-full =
+        let r = no-room (geoAt K I) I (w .tree) (volume-at K I w) h (length buf) in (
+          λ e. r .0 (then-refused (targetOf (geoAt K I) I h (length buf)) (λ x. length buf) 9 (sym write-says ∙ e)),
+          λ n. write-says ∙ refused-then (targetOf (geoAt K I) I h (length buf)) (λ x. length buf) 9 (r .1 n),
+        )
+
+  -- ---- create_file
+
+  module _ (cwd p : List ℕ) (good : badPath cwd p ≡ false) (now : ℕ) (o : OpenOut) (J Z : List ℕ) (c : CreatesFile K I W cwd p now o J Z) where
+    abbrev here : Reply Site
+    here = siteOf (geoAt K I) I kind.File (realPath cwd p)
+
+    change-passes : changeCall K I (length W) cwd p ≡ 0
+    unfolding changeCall
+    change-passes = first-of-tail _ _ check-passes ∙ first-of-one _ ∙ when-false 4 good
+
+    reply-is : createReply kind.File K I (length W) cwd p ≡ createdOn (geoAt K I) I kind.File (realPath cwd p)
+    unfolding createReply
+    reply-is = sym (given-none (changeCall K I (length W) cwd p) (createdOn (geoAt K I) I kind.File (realPath cwd p)) change-passes)
+
+    says-refused : (j : ℕ) → openSays o ≡ refused j → here ≡ refused j
+    unfolding createdOn freshOf
+    says-refused j e = then-refused here _ j (sym reply-is ∙ then-refused (createReply kind.File K I (length W) cwd p) _ j (sym (c .answer .answer) ∙ e))
+
+    refused-says : (j : ℕ) → here ≡ refused j → openSays o ≡ refused j
+    unfolding createdOn freshOf
+    refused-says j e = c .answer .answer ∙ refused-then (createReply kind.File K I (length W) cwd p) _ j (reply-is ∙ refused-then here _ j e)
+
+    abbrev tests : Some → ℕ
+    tests s = treeRefusal (geoAt K I) (freeBlocks (geoAt K I) maxDepth (w .tree)) kind.File (lastOf cwd p) s
+
+    abbrev unnamed : ℕ
+    unnamed = when 8 (badName (lastOf cwd p))
+
+    abbrev Full : Type 0
+    Full = CreateFull (geoAt K I) maxDepth (wayOf cwd p) (lastOf cwd p) (w .tree)
+
+    site-at : (s : Some) → find maxDepth (wayOf cwd p) (w .tree) ≡ some s → (x : Site) × (here ≡ given unnamed (given (tests s) (accepted x)))
+    site-at s f = site-answer (geoAt K I) I (w .tree) (volume-at K I w) kind.File (realPath cwd p) s f
+
+    name-passed : (j : ℕ) (r : Reply Site) → (j ≡ 8 → ⊥) → given unnamed r ≡ refused j → (badName (lastOf cwd p) ≡ false) × (r ≡ refused j)
+    name-passed j r n e = go (either (badName (lastOf cwd p))) (given-refused unnamed r j e)
+      where
+        go : (badName (lastOf cwd p) ≡ true) ⊎ (badName (lastOf cwd p) ≡ false) → ((1 ≤ unnamed) × (j ≡ unnamed)) ⊎ ((unnamed ≡ 0) × (r ≡ refused j)) → (badName (lastOf cwd p) ≡ false) × (r ≡ refused j)
+        go (inl b) (inl a) = absurd (n (a .1 ∙ when-true 8 b))
+        go (inl b) (inr a) = absurd (omega (arith, a .0, when-true 8 b))
+        go (inr b) (inl a) = absurd (omega (arith, a .0, when-false 8 b))
+        go (inr b) (inr a) = (b, a .1)
+
+    full-from : (d : Option Some) → find maxDepth (wayOf cwd p) (w .tree) ≡ d → here ≡ refused 9 → Full
+    full-from none f e =
+        let a = site-none (geoAt K I) I (w .tree) (volume-at K I w) kind.File (realPath cwd p) f in
+        let q = name-passed 9 (refused (a .0)) (λ z. omega arith) (sym (a .2) ∙ e) in
+        absurd (other (a .0) (a .1) (q .1))
+      where
+        other : (j : ℕ) → (j ≡ 5) ⊎ (j ≡ 6) → _≡_ {A = Reply Site} (refused j) (refused 9) → ⊥
+        other j (inl x) z = let k : j ≡ 9 = cc in omega arith
+        other j (inr x) z = let k : j ≡ 9 = cc in omega arith
+    full-from (some s) f e =
+        let a = site-at s f in
+        let q = name-passed 9 (given (tests s) (accepted (a .0))) (λ z. omega arith) (sym (a .1) ∙ e) in
+        go (given-refused (tests s) (accepted (a .0)) 9 (q .1)) (a .0) (q .0)
+      where
+        go : ((1 ≤ tests s) × (9 ≡ tests s)) ⊎ ((tests s ≡ 0) × (accepted (site-at s f .0) ≡ refused 9)) → Site → badName (lastOf cwd p) ≡ false → Full
+        go (inl a) x b =
+            let q = tree-full (geoAt K I) (freeBlocks (geoAt K I) maxDepth (w .tree)) kind.File (lastOf cwd p) s .0 (sym (a .1)) in
+            record { named = b; vacant = record { dir = s; there = f; free = q .1 }; few = q .2 }
+        go (inr a) x b = absurd (not-accepted 9 _ (sym (a .1)))
+
+    full-to : Full → here ≡ refused 9
+    full-to f =
+        let s = f .vacant .dir in
+        let a = site-at s (f .vacant .there) in
+        let t : tests s ≡ 9 = tree-full (geoAt K I) (freeBlocks (geoAt K I) maxDepth (w .tree)) kind.File (lastOf cwd p) s .1 (refl, f .vacant .free, f .few) in
+        a .1 ∙ sym (given-none unnamed (given (tests s) (accepted (a .0))) (when-false 8 (f .named))) ∙ nine (tests s) (a .0) t
+      where
+        nine : (k : ℕ) (x : Site) → k ≡ 9 → given k (accepted x) ≡ refused 9
+        nine k x e = ap (λ (j : ℕ). given j (accepted x)) e ∙ (unfold given in refl)
+
+    -- "no room" exactly where it has none of 8, 5, 6, 7 and fewer blocks are free in reach than it adds.
+    pub create-full : (openSays o ≡ refused 9) ↔ CreateFull (geoAt K I) maxDepth (wayOf cwd p) (lastOf cwd p) (w .tree)
+    create-full = (λ e. full-from (find maxDepth (wayOf cwd p) (w .tree)) refl (says-refused 9 e), λ f. refused-says 9 (full-to f))
+
+    -- A create is accepted where it has none of these and there is room: always refusing is wrong.
+    pub create-succeeds : CreateFits (geoAt K I) maxDepth (wayOf cwd p) (lastOf cwd p) (w .tree) → o .answer ≡ answer.Success
+    unfolding createdOn freshOf treeRefusal
+    create-succeeds f =
+        let s = f .vacant .dir in
+        let a = site-at s (f .vacant .there) in
+        let t : tests s ≡ 0 = passes 15 _ refl ∙ passes 7 _ (f .vacant .free) ∙ passes 9 [] (le-ltb _ _ (f .enough)) ∙ first-of-none in
+        let r : here ≡ accepted (a .0)
+        = a .1 ∙ sym (given-none unnamed (given (tests s) (accepted (a .0))) (when-false 8 (f .named))) ∙ sym (given-none (tests s) (accepted (a .0)) t) in
+        on-success (o .answer) (o .handle) _ (c .answer .answer ∙ accepted-then (createReply kind.File K I (length W) cwd p) _ _ (reply-is ∙ accepted-then here _ (a .0) r))
+
+-- ---- "the accepted write and read": what is written is read
+
+-- the file at a path is the one that its directory has
+file-at : (d : ℕ) (p : List Name) (n : Name) (t : Tree d) (s : Some) → find d p t ≡ some s → fileAt d p n t ≡ then (lookup n (s .1)) (λ e. fileOf (e .time) (e .node))
+unfolding find fileAt inside then
+file-at zero [] n t s f = let k : (zero, t) ≡ s = cc in ap (λ (x : Some). then (lookup n (x .1)) (λ e. fileOf (e .time) (e .node))) k
+file-at (suc d) [] n t s f = let k : (suc d, t) ≡ s = cc in ap (λ (x : Some). then (lookup n (x .1)) (λ e. fileOf (e .time) (e .node))) k
+file-at zero (a ∷ p) n t s f = absurd (not-some refl f)
+file-at (suc d) (a ∷ p) n t s f = go (lookup a t) f (file-at d p n)
+  where
+    into : (x : Node (Tree d)) → inside (find d p) x ≡ some s → ((u : Tree d) (r : Some) → find d p u ≡ some r → fileAt d p n u ≡ then (lookup n (r .1)) (λ e. fileOf (e .time) (e .node)))
+        → inside (fileAt d p n) x ≡ then (lookup n (s .1)) (λ e. fileOf (e .time) (e .node))
+    into (file z cs) e r = absurd (not-some refl e)
+    into (device z cs) e r = absurd (not-some refl e)
+    into (sub u) e r = r u s e
+
+    go : (x : Option (Entry (Tree d))) → then x (λ e. inside (find d p) (e .node)) ≡ some s
+        → ((u : Tree d) (r : Some) → find d p u ≡ some r → fileAt d p n u ≡ then (lookup n (r .1)) (λ e. fileOf (e .time) (e .node)))
+        → then x (λ e. inside (fileAt d p n) (e .node)) ≡ then (lookup n (s .1)) (λ e. fileOf (e .time) (e .node))
+    go none e r = absurd (not-some refl e)
+    go (some y) e r = into (y .node) e r
+
+file-of : (g : Geo) (p : List Name) (n : Name) (now c : ℕ) (buf : List ℕ) (t : Tree maxDepth) (I J : List ℕ) (m : TreeWrite g maxDepth p n now c buf t I J)
+    → fileAt maxDepth p n t ≡ some (m .size, m .time, m .cells)
+unfolding fileEntry fileOf
+file-of g p n now c buf t I J m =
+    file-at maxDepth p n t (m .occupied .dir) (m .occupied .there) ∙ then-some (λ e. fileOf (e .time) (e .node)) (m .occupied .held)
+    ∙ ap (λ (e : Entry _). fileOf (e .time) (e .node)) (m .is-file)
+
+module _ (K : ℕ) (I W : List ℕ) (h : Handle) (buf : List ℕ) (now : ℕ) (o : WriteOut) (J Z : List ℕ) (c : Writes K I W h buf now o J Z) (k : ℕ)
+    (e : o .answer ≡ counted.Bytes k) (clock : now < 2 ^ 64) (name : length (h .name) ≡ 255) (w : WellFormed K I) where
+  -- DEMAND 2. After an accepted write through h, a seek and a read through the handles answered give the old bytes of the file (z bytes in
+  -- the blocks cs) before the write's position, then the written ones: from position i on, as many as are asked for, or as there are.
+  -- (A handle's name is an array of 255 bytes.)
+  pub write-then-read : (q : List Name) → DirAt maxDepth (h .dir .0) q (w .tree) → (z t : ℕ) (cs : List Cell) → fileAt maxDepth q (nameOf h) (w .tree) ≡ some (z, t, cs)
+      → (i : ℕ) → i ≤ h .position + length buf → (s : Sought) → SoughtIs (o .handle) (Start i) s
+      → (rbuf out : List ℕ) (r : ReadOut) → Reads K J (s .handle) rbuf out r
+      → (s .answer ≡ outcome.Success) × (r .answer ≡ counted.Bytes (min (length rbuf) (h .position + length buf - i)))
+      × (out ≡ splice rbuf 0 (take (min (length rbuf) (h .position + length buf - i)) (drop i (take (h .position) (contents z cs) ++ buf))))
+  write-then-read q d z t cs f i inside s a rbuf out r b =
+      let x = write-tree K I W h buf now o J Z c k w clock e in
+      let same : x .0 ≡ q
+      = laid-path (geoAt K I) I maxDepth (w .tree) _ (x .0) q (x .1 .dir) (d .dir) (volume-at K I w .laid) (x .1 .there) (d .there) (x .1 .starts ∙ sym (d .starts)) in
+      let m : TreeWrite (geoAt K I) maxDepth q (nameOf h) now (h .position) buf (w .tree) I J
+      = subst (λ (y : List Name). TreeWrite (geoAt K I) maxDepth y (nameOf h) now (h .position) buf (w .tree) I J) same (x .2) in
+      let y = write-seek K I W h buf now o J Z c k e clock name w q d m i inside s a in
+      let v = write-read K I W h buf now o J Z c k e clock name w q d m i inside rbuf out r (subst (λ (g : Handle). Reads K J g rbuf out r) (y .1) b) in
+      let old : contents (m .size) (m .cells) ≡ contents z cs
+      = ap (λ (g : ℕ × ℕ × List Cell). contents (g .0) (g .2)) (one _ _ (sym (file-of (geoAt K I) q (nameOf h) now (h .position) buf (w .tree) I J m) ∙ f)) in
+      (y .0, v .0, v .1 ∙ ap (λ (l : List ℕ). splice rbuf 0 (take (min (length rbuf) (h .position + length buf - i)) (drop i (take (h .position) l ++ buf)))) old)
+    where
+      one : (g j : ℕ × ℕ × List Cell) → some g ≡ some j → g ≡ j
+      one g j e = cc
+
+-- ---- "A used count is never invented"
+
+-- W5, of any well-formed volume, and so after every accepted call (create-file-well, create-dir-well, delete-well, write-well of `on_tree`, and format):
+-- the used count is D and the number of set bits.
+pub used-true : (K : ℕ) (J : List ℕ) → WellFormed K J → usedCount (geoAt K J) J ≡ dataAt (geoAt K J) + setBits J (geoAt K J)
+used-true K J w = used-set (geoAt K J) J maxDepth (w .tree) (volume-at K J w)
+
+-- It is W5 again after each accepted call.
+module _ (K : ℕ) (I W : List ℕ) (now : ℕ) (J Z : List ℕ) (b : Bytes I) (clock : now < 2 ^ 64) where
+  pub create-file-used : (cwd p : List ℕ) (o : OpenOut) → CreatesFile K I W cwd p now o J Z → o .answer ≡ answer.Success → usedCount (geoAt K J) J ≡ dataAt (geoAt K J) + setBits J (geoAt K J)
+  create-file-used cwd p o c e = used-true K J (create-file-well K I W cwd p now J Z o c b clock e)
+
+  pub create-dir-used : (cwd p : List ℕ) (r : Answer) → CreatesDir K I W cwd p now r J Z → r ≡ answer.Success → usedCount (geoAt K J) J ≡ dataAt (geoAt K J) + setBits J (geoAt K J)
+  create-dir-used cwd p r c e = used-true K J (create-dir-well K I W cwd p now J Z r c b clock e)
+
+  pub delete-used : (cwd p : List ℕ) (r : Answer) → Deletes K I W cwd p now r J Z → r ≡ answer.Success → usedCount (geoAt K J) J ≡ dataAt (geoAt K J) + setBits J (geoAt K J)
+  delete-used cwd p r c e = used-true K J (delete-well K I W cwd p now J Z r c b clock e)
+
+  pub write-used : (h : Handle) (buf : List ℕ) (o : WriteOut) (k : ℕ) → Writes K I W h buf now o J Z → o .answer ≡ counted.Bytes k
+      → usedCount (geoAt K J) J ≡ dataAt (geoAt K J) + setBits J (geoAt K J)
+  write-used h buf o k c e = used-true K J (write-well K I W h buf now o J Z c k b clock e)
