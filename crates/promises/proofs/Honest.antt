@@ -54,6 +54,7 @@ use Rattle.mfs.proofs.Paths.{given-none}
 use Rattle.on_tree.specs.Named.{wayOf, lastOf}
 use Rattle.on_tree.proofs.Changing.{volume-at, create-file-well, create-dir-well, delete-well, write-well, write-tree}
 use Rattle.on_tree.proofs.ReadsBack.{write-seek, write-read}
+use Rattle.promises.proofs.Files.{file-at}
 use Rattle.promises.specs.Honest.{CreateFits, CreateFull}
 
 -- ---- answers
@@ -208,26 +209,7 @@ module _ (K : ℕ) (I W : List ℕ) (b : Bytes I) (w : WellFormed K I) (long : m
 
 -- ---- "the accepted write and read": what is written is read
 
--- the file at a path is the one that its directory has
-file-at : (d : ℕ) (p : List Name) (n : Name) (t : Tree d) (s : Some) → find d p t ≡ some s → fileAt d p n t ≡ then (lookup n (s .1)) (λ e. fileOf (e .time) (e .node))
-unfolding find fileAt inside then
-file-at zero [] n t s f = let k : (zero, t) ≡ s = cc in ap (λ (x : Some). then (lookup n (x .1)) (λ e. fileOf (e .time) (e .node))) k
-file-at (suc d) [] n t s f = let k : (suc d, t) ≡ s = cc in ap (λ (x : Some). then (lookup n (x .1)) (λ e. fileOf (e .time) (e .node))) k
-file-at zero (a ∷ p) n t s f = absurd (not-some refl f)
-file-at (suc d) (a ∷ p) n t s f = go (lookup a t) f (file-at d p n)
-  where
-    into : (x : Node (Tree d)) → inside (find d p) x ≡ some s → ((u : Tree d) (r : Some) → find d p u ≡ some r → fileAt d p n u ≡ then (lookup n (r .1)) (λ e. fileOf (e .time) (e .node)))
-        → inside (fileAt d p n) x ≡ then (lookup n (s .1)) (λ e. fileOf (e .time) (e .node))
-    into (file z cs) e r = absurd (not-some refl e)
-    into (device z cs) e r = absurd (not-some refl e)
-    into (sub u) e r = r u s e
-
-    go : (x : Option (Entry (Tree d))) → then x (λ e. inside (find d p) (e .node)) ≡ some s
-        → ((u : Tree d) (r : Some) → find d p u ≡ some r → fileAt d p n u ≡ then (lookup n (r .1)) (λ e. fileOf (e .time) (e .node)))
-        → then x (λ e. inside (fileAt d p n) (e .node)) ≡ then (lookup n (s .1)) (λ e. fileOf (e .time) (e .node))
-    go none e r = absurd (not-some refl e)
-    go (some y) e r = into (y .node) e r
-
+-- the file that a write is on
 file-of : (g : Geo) (p : List Name) (n : Name) (now c : ℕ) (buf : List ℕ) (t : Tree maxDepth) (I J : List ℕ) (m : TreeWrite g maxDepth p n now c buf t I J)
     → fileAt maxDepth p n t ≡ some (m .size, m .time, m .cells)
 unfolding fileEntry fileOf

@@ -1,4 +1,5 @@
 pub mod Answered
+pub mod Files
 pub mod Once
 pub mod Path
 pub mod Counter
