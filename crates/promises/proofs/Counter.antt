@@ -1,14 +1,16 @@
 -- The counter's safety.
 use mathlib.Core.Path.{_≡_, sym, ap, _∙_, subst}
 use mathlib.Core.Logic.{_⊎_, inl, inr}
+use mathlib.Core.Bool.{false}
 use mathlib.Core.Option.{some}
 use mathlib.Core.List.{List}
 use Prim.Native.Nat.{ℕ, _+_, _*_, _^_, _≤_, _<_}
 use native.Mathlib.Omega.{arith}
 use lib.ListN.{length, getD}
+use Rattle.wire.proofs.Picks.{not-both}
 use Rattle.model.specs.Answers.{accepted, refused, andThen, given}
 use Rattle.model.specs.declared.Refusal.{Refusal}
-use Rattle.model.specs.Tree.{Name, Cell}
+use Rattle.model.specs.Tree.{Name, Cell, find}
 use Rattle.model.specs.Render.{cellPieces, count}
 use Rattle.model.specs.Geometry.{blockSize, geoAt}
 use Rattle.model.specs.Volume.{WellFormed, maxDepth}
@@ -17,11 +19,13 @@ use Rattle.model.specs.Steps.{Bytes}
 use Rattle.model.proofs.Alike.{alike-refl}
 use Rattle.model.proofs.Demand.{shown-near}
 use Rattle.model.proofs.Others.{other-file}
+use Rattle.model.proofs.Paths.{laid-path}
+use Rattle.model.proofs.Reached.{path-none}
 use Rattle.file.specs.declared.Handle.{Handle}
 use Rattle.file.specs.declared.WriteOut.{WriteOut}
 use Rattle.file.specs.declared.Counted.the-variants as counted
-use Rattle.file.specs.File.{nameOf}
-use Rattle.file.specs.OnTree.{Stale}
+use Rattle.file.specs.File.{nameOf, staleFields}
+use Rattle.file.specs.OnTree.{FileIn, OnFile, Stale}
 use Rattle.file.specs.Writing.{targetOf, countOf}
 use Rattle.file.specs.Written.{countedSays}
 use Rattle.file.proofs.Targets.{accepted-is, stale-is}
@@ -81,3 +85,15 @@ module _ (K : ℕ) (I W : List ℕ) (h : Handle) (buf : List ℕ) (now : ℕ) (o
       let t : targetOf (geoAt K I) I h (length buf) ≡ refused 11 = stale-is (geoAt K I) I (w .tree) (volume-at K I w) h (length buf) b .1 s in
       let r : given (checkRefusal K I (length W)) (targetOf (geoAt K I) I h (length buf)) ≡ refused 11 = sym (given-none _ _ z) ∙ t in
       c .answer ∙ ap (countOf (length buf)) r
+
+-- "a handle can become current again when name, address and size come back": a handle that is whole by its own fields, and whose directory has now a file
+-- entry with its name, address and size, is not stale, whatever happened between.
+pub current-again : (K : ℕ) (I : List ℕ) (w : WellFormed K I) (h : Handle) → staleFields h ≡ false → OnFile maxDepth (w .tree) h → Stale maxDepth (w .tree) h → ⊥
+current-again K I w h f q (inl s) = not-both s f
+current-again K I w h f q (inr (inl n)) = path-none maxDepth (h .dir .0) (w .tree) n (q .path) (q .there)
+current-again K I w h f q (inr (inr n)) =
+    let e : n .0 ≡ q .path
+    = laid-path (geoAt K I) I maxDepth (w .tree) _ (n .0) (q .path) (n .1 .dir) (q .there .dir) (volume-at K I w .laid) (n .1 .there) (q .there .there) (n .1 .starts ∙ sym (q .there .starts)) in
+    let a : some (q .there .dir) ≡ some (n .1 .dir) = sym (q .there .there) ∙ ap (λ (p : List Name). find maxDepth p (w .tree)) (sym e) ∙ n .1 .there in
+    let d : q .there .dir ≡ n .1 .dir = cc in
+    n .2 (subst (FileIn h) d (q .file))

@@ -210,7 +210,7 @@ module _ (K : ℕ) (I W : List ℕ) (b : Bytes I) (w : WellFormed K I) (long : m
 -- ---- "the accepted write and read": what is written is read
 
 -- the file that a write is on
-file-of : (g : Geo) (p : List Name) (n : Name) (now c : ℕ) (buf : List ℕ) (t : Tree maxDepth) (I J : List ℕ) (m : TreeWrite g maxDepth p n now c buf t I J)
+pub file-of : (g : Geo) (p : List Name) (n : Name) (now c : ℕ) (buf : List ℕ) (t : Tree maxDepth) (I J : List ℕ) (m : TreeWrite g maxDepth p n now c buf t I J)
     → fileAt maxDepth p n t ≡ some (m .size, m .time, m .cells)
 unfolding fileEntry fileOf
 file-of g p n now c buf t I J m =

@@ -4,3 +4,4 @@ pub mod Once
 pub mod Path
 pub mod Counter
 pub mod Honest
+pub mod Done
