@@ -5,3 +5,4 @@ pub mod Path
 pub mod Counter
 pub mod Honest
 pub mod Done
+pub mod Gone
