@@ -6,3 +6,4 @@ pub mod Counter
 pub mod Honest
 pub mod Done
 pub mod Gone
+pub mod Promises
