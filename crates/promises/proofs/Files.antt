@@ -2,7 +2,7 @@
 use mathlib.Core.Path.{_≡_, refl, sym, ap, _∙_, subst}
 use mathlib.Core.Option.{Option, none, some}
 use mathlib.Core.List.{List, [], _∷_}
-use Prim.Native.Nat.{ℕ, zero, suc, _-_, _≤_}
+use Prim.Native.Nat.{ℕ, zero, suc, _≤_}
 use native.Mathlib.Omega.{arith}
 use lib.ListN.{length-append}
 use Rattle.wire.proofs.Laws.{length-bytes}
@@ -14,7 +14,7 @@ use Rattle.model.specs.Calls.{fileOf, fileAt, places}
 use Rattle.model.proofs.Areas.{size-large}
 use Rattle.model.proofs.Full.{good-lookup, Whole}
 use Rattle.model.proofs.Lists.{not-some, then-some}
-use Rattle.tree_walk.proofs.Parts.{Stored, Part, laid-part, part-find, stored-lookup}
+use Rattle.tree_walk.proofs.Parts.{Stored, laid-part, part-find, stored-lookup}
 
 -- what a directory says of the file n
 abbrev fileIn : Name → Some → Option (ℕ × ℕ × List Cell)

@@ -3,7 +3,7 @@ use mathlib.Core.Path.{_≡_, refl, sym, ap, _∙_, subst}
 use mathlib.Core.Bool.{true, false, not}
 use mathlib.Core.Logic.{_⊎_, inl, inr, _↔_}
 use mathlib.Core.Option.{Option, none, some}
-use mathlib.Core.List.{List, [], _∷_, _++_}
+use mathlib.Core.List.{List, [], _++_}
 use Prim.Native.Nat.{ℕ, zero, suc, _+_, _-_, _^_, _≤_, _<_, min}
 use native.Mathlib.Omega.{arith}
 use lib.ListN.{length, take, drop}
@@ -11,13 +11,13 @@ use borrow.Author.Tests.{le-ltb}
 use Rattle.wire.specs.Be.{splice}
 use Rattle.wire.proofs.Picks.{either}
 use Rattle.model.specs.Answers.{Reply, accepted, refused, refusalNumber, andThen, when, given}
-use Rattle.model.specs.Tree.{Name, Cell, Node, file, device, sub, Entry, Tree, then, lookup, inside, Some, find}
+use Rattle.model.specs.Tree.{Name, Cell, Entry, Tree, inside, Some, find}
 use Rattle.model.specs.Geometry.{Geo, dataAt, geoAt, setBits, usedCount}
 use Rattle.model.specs.Volume.{WellFormed, maxDepth}
 use Rattle.model.specs.Calls.{fileOf, fileAt, DirAt, freeBlocks, fileEntry, contents}
 use Rattle.model.specs.Calls.{Writes as TreeWrite}
 use Rattle.model.specs.Steps.{Bytes}
-use Rattle.model.proofs.Lists.{not-some, then-some}
+use Rattle.model.proofs.Lists.{then-some}
 use Rattle.model.proofs.OneVolume.{well-formed-opens, used-set}
 use Rattle.model.proofs.Opens.{passes, when-true, when-false, first-of-none, first-of-one, first-of-tail}
 use Rattle.model.proofs.Paths.{laid-path}

@@ -5,3 +5,5 @@ pub mod Path
 pub mod Counter
 pub mod Honest
 pub mod Done
+pub mod Gone
+pub mod Promises

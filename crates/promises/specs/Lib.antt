@@ -2,3 +2,4 @@ pub mod Once
 pub mod Sequence
 pub mod Counter
 pub mod Honest
+pub mod Promises

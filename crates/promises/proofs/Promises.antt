@@ -1,0 +1,28 @@
+-- Every promise is kept.
+use Rattle.promises.specs.Promises.{RoomIsExact, WorkIsDone, UsedIsTrue, PathIsRestored, CounterIsSafe}
+use Rattle.promises.proofs.Path.{calls-well, calls-restore}
+use Rattle.promises.proofs.Counter.{others-kept, other-bytes-kept, stale-kept, stale-answer, current-again}
+use Rattle.promises.proofs.Honest.{write-succeeds, write-full, create-succeeds, create-full, write-then-read, create-file-used, create-dir-used, delete-used, write-used}
+use Rattle.promises.proofs.Done.{create-changes, write-leaves}
+use Rattle.promises.proofs.Gone.{delete-leaves}
+
+-- Demand 1 is `one-outcome` and `refusal-keeps`, of Once.
+
+-- Demand 2.
+pub room-is-exact : RoomIsExact
+room-is-exact = record { write-succeeds = write-succeeds; write-full = write-full; create-succeeds = create-succeeds; create-full = create-full }
+
+pub work-is-done : WorkIsDone
+work-is-done = record { write-then-read = write-then-read; write-leaves = write-leaves; create-changes = create-changes; delete-leaves = delete-leaves }
+
+pub used-is-true : UsedIsTrue
+used-is-true = record { create-file = create-file-used; create-dir = create-dir-used; delete = delete-used; write = write-used }
+
+-- Demand 3.
+pub path-is-restored : PathIsRestored
+path-is-restored = record { well = calls-well; restored = calls-restore }
+
+-- The counter's safety.
+pub counter-is-safe : CounterIsSafe
+counter-is-safe =
+    record { others-kept = others-kept; other-bytes-kept = other-bytes-kept; stale-kept = stale-kept; stale-answer = stale-answer; current-again = current-again }

@@ -1,0 +1,126 @@
+-- The promises of the public calls, in order; demand 1 stands in Once. Definitions alone: proofs/Promises.antt has the proof of each.
+-- In all of them K is the superblock's block, I the image at a call's entry and J after it, W the work buffer before and Z after.
+use mathlib.Core.Path.{_≡_}
+use mathlib.Core.Bool.{false}
+use mathlib.Core.Logic.{_↔_}
+use mathlib.Core.Option.{some}
+use mathlib.Core.List.{List, _++_}
+use Prim.Native.Nat.{ℕ, _+_, _-_, _*_, _^_, _≤_, _<_, min}
+use lib.ListN.{length, getD, take, drop}
+use Rattle.wire.specs.Be.{splice}
+use Rattle.model.specs.Answers.{refused}
+use Rattle.model.specs.Tree.{Name, Cell}
+use Rattle.model.specs.Render.{blocksAt, count}
+use Rattle.model.specs.Geometry.{blockSize, dataAt, geoAt, setBits, usedCount}
+use Rattle.model.specs.Volume.{WellFormed, maxDepth}
+use Rattle.model.specs.Calls.{Vacant, fileAt, DirAt, contents, places}
+use Rattle.model.specs.Steps.{Restored, Bytes}
+use Rattle.tally.specs.Tally.{markLong}
+use Rattle.path.specs.Path.{badPath}
+use Rattle.file.specs.declared.Handle.{Handle}
+use Rattle.file.specs.declared.SeekFrom.the-variants.{Start}
+use Rattle.file.specs.declared.Outcome.the-variants as outcome
+use Rattle.file.specs.declared.Sought.{Sought}
+use Rattle.file.specs.declared.Counted.the-variants as counted
+use Rattle.file.specs.declared.ReadOut.{ReadOut}
+use Rattle.file.specs.declared.WriteOut.{WriteOut}
+use Rattle.file.specs.File.{nameOf, staleFields}
+use Rattle.file.specs.Post.{SoughtIs}
+use Rattle.file.specs.OnTree.{OnFile, Stale, NoRoom, Accepts}
+use Rattle.file.specs.Written.{countedSays}
+use Rattle.mfs.specs.declared.Answer.{Answer}
+use Rattle.mfs.specs.declared.Answer.the-variants as answer
+use Rattle.mfs.specs.declared.OpenOut.{OpenOut}
+use Rattle.mfs.specs.Reading.{openSays, Reads}
+use Rattle.mfs.specs.Checking.{checkRefusal}
+use Rattle.mfs.specs.Changing.{CreatesFile, CreatesDir, Deletes, Writes}
+use Rattle.on_tree.specs.Named.{wayOf, lastOf}
+use Rattle.promises.specs.Sequence.{Calls}
+use Rattle.promises.specs.Counter.{Another, StaleAtEntry}
+use Rattle.promises.specs.Honest.{CreateFits, CreateFull}
+
+-- ---- demand 2
+
+-- "On a well-formed volume ... to a call with no earlier refusal `no room` exactly when too few reachable blocks are free": with a work buffer that is long
+-- enough, and a good path. A version that always refuses breaks the first and the third.
+pub record RoomIsExact : Type 0 where
+  pub write-succeeds : (K : ℕ) (I W : List ℕ) → Bytes I → (w : WellFormed K I) → markLong (geoAt K I) ≤ length W
+      → (h : Handle) (buf : List ℕ) (now : ℕ) (o : WriteOut) (J Z : List ℕ) → Writes K I W h buf now o J Z
+      → Accepts (geoAt K I) maxDepth (w .tree) h (length buf) → o .answer ≡ counted.Bytes (length buf)
+  pub write-full : (K : ℕ) (I W : List ℕ) → Bytes I → (w : WellFormed K I) → markLong (geoAt K I) ≤ length W
+      → (h : Handle) (buf : List ℕ) (now : ℕ) (o : WriteOut) (J Z : List ℕ) → Writes K I W h buf now o J Z
+      → (countedSays (o .answer) ≡ refused 9) ↔ NoRoom (geoAt K I) maxDepth (w .tree) h (length buf)
+  pub create-succeeds : (K : ℕ) (I W : List ℕ) → Bytes I → (w : WellFormed K I) → markLong (geoAt K I) ≤ length W
+      → (cwd p : List ℕ) → badPath cwd p ≡ false → (now : ℕ) (o : OpenOut) (J Z : List ℕ) → CreatesFile K I W cwd p now o J Z
+      → CreateFits (geoAt K I) maxDepth (wayOf cwd p) (lastOf cwd p) (w .tree) → o .answer ≡ answer.Success
+  pub create-full : (K : ℕ) (I W : List ℕ) → Bytes I → (w : WellFormed K I) → markLong (geoAt K I) ≤ length W
+      → (cwd p : List ℕ) → badPath cwd p ≡ false → (now : ℕ) (o : OpenOut) (J Z : List ℕ) → CreatesFile K I W cwd p now o J Z
+      → (openSays o ≡ refused 9) ↔ CreateFull (geoAt K I) maxDepth (wayOf cwd p) (lastOf cwd p) (w .tree)
+
+-- "the accepted write and read, over any two calls in a row": what an accepted call has done. A version that answers success and does nothing
+-- breaks these.
+pub record WorkIsDone : Type 0 where
+  -- The file is z bytes in the blocks cs before the write. A seek to i and a read after it give the old bytes before the write's position, then the
+  -- written ones, from i on. (A handle's name is an array of 255 bytes.)
+  pub write-then-read : (K : ℕ) (I W : List ℕ) (h : Handle) (buf : List ℕ) (now : ℕ) (o : WriteOut) (J Z : List ℕ) → Writes K I W h buf now o J Z
+      → (k : ℕ) → o .answer ≡ counted.Bytes k → now < 2 ^ 64 → length (h .name) ≡ 255 → (w : WellFormed K I)
+      → (q : List Name) → DirAt maxDepth (h .dir .0) q (w .tree) → (z t : ℕ) (cs : List Cell) → fileAt maxDepth q (nameOf h) (w .tree) ≡ some (z, t, cs)
+      → (i : ℕ) → i ≤ h .position + length buf → (s : Sought) → SoughtIs (o .handle) (Start i) s
+      → (rbuf out : List ℕ) (r : ReadOut) → Reads K J (s .handle) rbuf out r
+      → (s .answer ≡ outcome.Success) × (r .answer ≡ counted.Bytes (min (length rbuf) (h .position + length buf - i)))
+      × (out ≡ splice rbuf 0 (take (min (length rbuf) (h .position + length buf - i)) (drop i (take (h .position) (contents z cs) ++ buf))))
+  pub write-leaves : (K : ℕ) (I W : List ℕ) (h : Handle) (buf : List ℕ) (now : ℕ) (o : WriteOut) (J Z : List ℕ) → Writes K I W h buf now o J Z
+      → (k : ℕ) → o .answer ≡ counted.Bytes k → now < 2 ^ 64 → (w : WellFormed K I) (v : WellFormed K J) (q : List Name) → DirAt maxDepth (h .dir .0) q (w .tree)
+      → (z t : ℕ) (cs : List Cell) → fileAt maxDepth q (nameOf h) (w .tree) ≡ some (z, t, cs)
+      → (es : List Cell) × (fileAt maxDepth q (nameOf h) (v .tree) ≡ some (h .position + length buf, now, es))
+      × (contents (h .position + length buf) es ≡ take (h .position) (contents z cs) ++ buf)
+  pub create-changes : (K : ℕ) (I W cwd p : List ℕ) (now : ℕ) (o : OpenOut) (J Z : List ℕ) → CreatesFile K I W cwd p now o J Z → WellFormed K I → now < 2 ^ 64
+      → o .answer ≡ answer.Success → J ≡ I → ⊥
+  pub delete-leaves : (K : ℕ) (I W cwd p : List ℕ) (now : ℕ) (r : Answer) (J Z : List ℕ) → Deletes K I W cwd p now r J Z → (w : WellFormed K I) → now < 2 ^ 64
+      → r ≡ answer.Success → (v : WellFormed K J) → Vacant maxDepth (wayOf cwd p) (lastOf cwd p) (v .tree)
+
+-- "A used count is never invented (W5 after every accepted call)": D and the number of set bits.
+abbrev pub UsedTrue : ℕ → List ℕ → Type 0
+UsedTrue K J = usedCount (geoAt K J) J ≡ dataAt (geoAt K J) + setBits J (geoAt K J)
+
+pub record UsedIsTrue : Type 0 where
+  pub create-file : (K : ℕ) (I W : List ℕ) (now : ℕ) (J Z : List ℕ) → Bytes I → now < 2 ^ 64 → (cwd p : List ℕ) (o : OpenOut)
+      → CreatesFile K I W cwd p now o J Z → o .answer ≡ answer.Success → UsedTrue K J
+  pub create-dir : (K : ℕ) (I W : List ℕ) (now : ℕ) (J Z : List ℕ) → Bytes I → now < 2 ^ 64 → (cwd p : List ℕ) (r : Answer)
+      → CreatesDir K I W cwd p now r J Z → r ≡ answer.Success → UsedTrue K J
+  pub delete : (K : ℕ) (I W : List ℕ) (now : ℕ) (J Z : List ℕ) → Bytes I → now < 2 ^ 64 → (cwd p : List ℕ) (r : Answer)
+      → Deletes K I W cwd p now r J Z → r ≡ answer.Success → UsedTrue K J
+  pub write : (K : ℕ) (I W : List ℕ) (now : ℕ) (J Z : List ℕ) → Bytes I → now < 2 ^ 64 → (h : Handle) (buf : List ℕ) (o : WriteOut) (k : ℕ)
+      → Writes K I W h buf now o J Z → o .answer ≡ counted.Bytes k → UsedTrue K J
+
+-- ---- demand 3
+
+-- "take a well-formed volume and a path that names nothing in an existing directory; any finite sequence of create, open, read, seek, write, delete calls at
+-- that path, ending with nothing there. Then superblock, bitmap, every directory block and every other file's or device's blocks hold their first
+-- bytes again, except the time field in the holding directory's own entry."
+pub record PathIsRestored : Type 0 where
+  pub well : (K : ℕ) (p : List Name) (n : Name) (I J : List ℕ) (w : WellFormed K I) (v : Vacant maxDepth p n (w .tree))
+      → Calls K (blocksAt (v .dir .1)) p n I J → WellFormed K J
+  pub restored : (K : ℕ) (p : List Name) (n : Name) (I J : List ℕ) (w : WellFormed K I) (v : Vacant maxDepth p n (w .tree))
+      → Calls K (blocksAt (v .dir .1)) p n I J → Bytes I → Bytes J → (u : WellFormed K J) → Vacant maxDepth p n (u .tree)
+      → Restored (geoAt K I) maxDepth p I (w .tree) J
+
+-- ---- the counter's safety
+
+pub record CounterIsSafe : Type 0 where
+  -- "an accepted write through a handle changes no byte of another file": its size, time, blocks and bytes are as they were; and so is every byte of its
+  -- blocks in the image.
+  pub others-kept : (K : ℕ) (I W : List ℕ) (h : Handle) (buf : List ℕ) (now : ℕ) (o : WriteOut) (J Z : List ℕ) → Writes K I W h buf now o J Z
+      → (k : ℕ) → o .answer ≡ counted.Bytes k → now < 2 ^ 64 → (w : WellFormed K I) (v : WellFormed K J) (q : List Name) (m : Name)
+      → Another maxDepth (w .tree) h q m → fileAt maxDepth q m (v .tree) ≡ fileAt maxDepth q m (w .tree)
+  pub other-bytes-kept : (K : ℕ) (I W : List ℕ) (h : Handle) (buf : List ℕ) (now : ℕ) (o : WriteOut) (J Z : List ℕ) → Writes K I W h buf now o J Z
+      → (k : ℕ) → o .answer ≡ counted.Bytes k → now < 2 ^ 64 → (w : WellFormed K I) (q : List Name) (m : Name) → Another maxDepth (w .tree) h q m
+      → (z t : ℕ) (cs : List Cell) → fileAt maxDepth q m (w .tree) ≡ some (z, t, cs)
+      → (b i : ℕ) → 1 ≤ count b (places cs) → i < blockSize (geoAt K I) → getD J (blockSize (geoAt K I) * b + i) 0 ≡ getD I (blockSize (geoAt K I) * b + i) 0
+  -- "a call whose handle is stale at its entry changes no image": nor the handle; and where the check passes and there are bytes to write, it gets 11.
+  pub stale-kept : (K : ℕ) (I W : List ℕ) (h : Handle) (buf : List ℕ) (now : ℕ) (o : WriteOut) (J Z : List ℕ) → Writes K I W h buf now o J Z
+      → Bytes I → StaleAtEntry K I h → (J ≡ I) × (o .handle ≡ h)
+  pub stale-answer : (K : ℕ) (I W : List ℕ) (h : Handle) (buf : List ℕ) (now : ℕ) (o : WriteOut) (J Z : List ℕ) → Writes K I W h buf now o J Z
+      → checkRefusal K I (length W) ≡ 0 → 1 ≤ length buf → (w : WellFormed K I) → Stale maxDepth (w .tree) h → countedSays (o .answer) ≡ refused 11
+  -- "a handle can become current again when name, address and size come back"
+  pub current-again : (K : ℕ) (I : List ℕ) (w : WellFormed K I) (h : Handle) → staleFields h ≡ false → OnFile maxDepth (w .tree) h → Stale maxDepth (w .tree) h → ⊥
