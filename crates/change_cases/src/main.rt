@@ -10,7 +10,6 @@ use file::SeekFrom;
 use mfs::Answer;
 use mfs::Space;
 use model::Refusal;
-ghost use Prim.Native.Nat.{_≤_};
 
 const K: u32 = 8;
 
@@ -84,18 +83,12 @@ fn put_handle(h: Handle) {
     put_number(h.position as u64);
 }
 
-fn wide(b: u8) -> u64
-    ensures { λ r. ⌜ r ≤ 255 ⌝ }
-{
-    b as u64
-}
-
 // A number that changes with any one byte: a polynomial of the bytes modulo a prime.
 fn digest(img: &[u8]) -> u64 {
     let mut d: u64 = 0;
     let mut i: usize = 0;
     while i < img.len() {
-        d = (d * 257 + wide(img[i])) % 4_294_967_291;
+        d = (d * 257 + wire::get(img, i, 1)) % 4_294_967_291;
         i += 1;
     }
     d

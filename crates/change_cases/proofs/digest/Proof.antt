@@ -6,7 +6,7 @@ use Rattle.change_cases.proofs.digest.Statement.{statement}
 use Rattle.change_cases.proofs.digest.Tie as tie
 use Rattle.change_cases.proofs.digest.Reads as reads
 use Rattle.change_cases.proofs.digest.Lts as lts
-use Rattle.change_cases.proofs.wide.Reads as wide-reads
+use Rattle.wire.proofs.get.Reads as get-reads
 
 abbrev Inv-loop : tie.InvT-loop
 Inv-loop img d₀ i₀ d i = (i ≤ length img) × (d ≤ 4294967290)
@@ -23,12 +23,8 @@ mul-d : tie.Need-mul-d Inv-loop μ-loop
 mul-d c = search needs
 
 -- src/main.rt:91:25
-shared-slice-read-wide : tie.Need-shared-slice-read-wide Inv-loop μ-loop
-shared-slice-read-wide c = search needs
-
--- src/main.rt:91:25
-wide-requires : tie.Need-wide-requires Inv-loop μ-loop
-wide-requires c κs = search needs
+get-requires : tie.Need-get-requires Inv-loop μ-loop
+get-requires c κs = search needs
 
 -- src/main.rt:91:14
 add-d : tie.Need-add-d Inv-loop μ-loop
@@ -58,8 +54,7 @@ digest-spec =
     μ-loop
     loop-holds
     mul-d
-    shared-slice-read-wide
-    wide-requires
+    get-requires
     add-d
     add-i
     loop-less
