@@ -1,0 +1,117 @@
+//! The exports of the proved library, as include/mfs.h declares them. A slice passes as a pointer and its length; no pointer is null,
+//! and no two buffers of a call overlap. Each answers 0, or the number of its refusal, which leaves every out parameter as it was.
+//! The safe functions of this crate call them; a program has no need to.
+use crate::NAME_LEN;
+
+extern "C" {
+    pub fn mfs_c_format(img: *mut u8, img_len: usize, k: u32) -> u32;
+    pub fn mfs_c_usage(img: *const u8, img_len: usize, k: u32, size: *mut u64, used: *mut u64, free: *mut u64) -> u32;
+    pub fn mfs_c_check(img: *const u8, img_len: usize, k: u32, work: *mut u8, work_len: usize) -> u32;
+    pub fn mfs_c_open(
+        img: *const u8,
+        img_len: usize,
+        k: u32,
+        cwd: *const u8,
+        cwd_len: usize,
+        path: *const u8,
+        path_len: usize,
+        number: *mut [u32; 4],
+        name: *mut [u8; NAME_LEN],
+        len: *mut usize,
+    ) -> u32;
+    pub fn mfs_c_info(
+        img: *const u8,
+        img_len: usize,
+        k: u32,
+        cwd: *const u8,
+        cwd_len: usize,
+        path: *const u8,
+        path_len: usize,
+        kind: *mut u8,
+        size: *mut u32,
+        time: *mut u64,
+        name: *mut [u8; NAME_LEN],
+        len: *mut usize,
+    ) -> u32;
+    pub fn mfs_c_list(
+        img: *const u8,
+        img_len: usize,
+        k: u32,
+        cwd: *const u8,
+        cwd_len: usize,
+        path: *const u8,
+        path_len: usize,
+        i: u32,
+        buf: *mut u8,
+        buf_len: usize,
+        bytes: *mut usize,
+        next: *mut u32,
+    ) -> u32;
+    pub fn mfs_c_read(
+        img: *const u8,
+        img_len: usize,
+        k: u32,
+        number: *mut [u32; 4],
+        name: *const [u8; NAME_LEN],
+        len: usize,
+        buf: *mut u8,
+        buf_len: usize,
+        bytes: *mut usize,
+    ) -> u32;
+    pub fn mfs_c_seek_start(number: *mut [u32; 4], name: *const [u8; NAME_LEN], len: usize, to: u32) -> u32;
+    pub fn mfs_c_seek_current(number: *mut [u32; 4], name: *const [u8; NAME_LEN], len: usize, by: i32) -> u32;
+    pub fn mfs_c_seek_end(number: *mut [u32; 4], name: *const [u8; NAME_LEN], len: usize, by: i32) -> u32;
+    pub fn mfs_c_create_file(
+        img: *mut u8,
+        img_len: usize,
+        k: u32,
+        cwd: *const u8,
+        cwd_len: usize,
+        path: *const u8,
+        path_len: usize,
+        time: u64,
+        work: *mut u8,
+        work_len: usize,
+        number: *mut [u32; 4],
+        name: *mut [u8; NAME_LEN],
+        len: *mut usize,
+    ) -> u32;
+    pub fn mfs_c_create_dir(
+        img: *mut u8,
+        img_len: usize,
+        k: u32,
+        cwd: *const u8,
+        cwd_len: usize,
+        path: *const u8,
+        path_len: usize,
+        time: u64,
+        work: *mut u8,
+        work_len: usize,
+    ) -> u32;
+    pub fn mfs_c_delete(
+        img: *mut u8,
+        img_len: usize,
+        k: u32,
+        cwd: *const u8,
+        cwd_len: usize,
+        path: *const u8,
+        path_len: usize,
+        time: u64,
+        work: *mut u8,
+        work_len: usize,
+    ) -> u32;
+    pub fn mfs_c_write(
+        img: *mut u8,
+        img_len: usize,
+        k: u32,
+        number: *mut [u32; 4],
+        name: *const [u8; NAME_LEN],
+        len: usize,
+        buf: *const u8,
+        buf_len: usize,
+        time: u64,
+        work: *mut u8,
+        work_len: usize,
+        bytes: *mut usize,
+    ) -> u32;
+}

@@ -1,0 +1,307 @@
+// The public calls for programs in C and Rust, on numbers, byte slices and arrays of fixed size. Each answers 0, or 01's number of
+// its refusal; a refusal leaves every out parameter as it was. include/mfs.h declares them.
+// May use: mfs and what it gives out.
+use block::Addr;
+use dir_entry::Kind;
+use file::Counted;
+use file::Handle;
+use file::Outcome;
+use file::SeekFrom;
+use mfs::Answer;
+use mfs::Listing;
+use mfs::Space;
+use model::Refusal;
+
+// The number of a refusal, as the exports answer it.
+fn code(r: Refusal) -> u32 {
+    r.number() as u32
+}
+
+fn code_of(a: Answer) -> u32 {
+    match a {
+        Answer::Success => 0,
+        Answer::Refused(r) => code(r),
+    }
+}
+
+// The handle of four numbers (the directory's first address, the file's, size, position) and a name of len bytes.
+fn handle_of(number: &[u32; 4], name: &[u8; 255], len: usize) -> Handle {
+    Handle {
+        dir: Addr(number[0]),
+        name: *name,
+        len,
+        addr: Addr(number[1]),
+        size: number[2],
+        position: number[3],
+    }
+}
+
+// The four numbers of a handle.
+fn numbers_of(h: Handle) -> [u32; 4] {
+    let d = h.dir;
+    let a = h.addr;
+    [d.0, a.0, h.size, h.position]
+}
+
+// Formats the whole image. Refusals: 1, 3.
+#[no_mangle]
+pub extern "C" fn mfs_c_format(img: &mut [u8], k: u32) -> u32 {
+    code_of(mfs::format(img, k))
+}
+
+// Bytes of the volume, of its used blocks, and the rest. Refusals: 1, 2, 3, 17.
+#[no_mangle]
+pub extern "C" fn mfs_c_usage(
+    img: &[u8],
+    k: u32,
+    size: &mut u64,
+    used: &mut u64,
+    free: &mut u64,
+) -> u32 {
+    let space = mfs::usage(img, k);
+    match space {
+        Space::Refused(r) => code(r),
+        Space::Bytes { size: s, used: u, free: f } => {
+            *size = s;
+            *used = u;
+            *free = f;
+            0
+        }
+    }
+}
+
+// The whole check. Refusals: 1, 2, 3, 16, 17.
+#[no_mangle]
+pub extern "C" fn mfs_c_check(img: &[u8], k: u32, work: &mut [u8]) -> u32 {
+    code_of(mfs::check(img, k, work))
+}
+
+// Opens the file at a path. Refusals: 1, 2, 3, 4, 5, 6, 17, 10.
+#[no_mangle]
+pub extern "C" fn mfs_c_open(
+    img: &[u8],
+    k: u32,
+    cwd: &[u8],
+    path: &[u8],
+    number: &mut [u32; 4],
+    name: &mut [u8; 255],
+    len: &mut usize,
+) -> u32 {
+    let out = mfs::open(img, k, cwd, path);
+    let answer = out.answer;
+    match answer {
+        Answer::Refused(r) => code(r),
+        Answer::Success => {
+            let h = out.handle;
+            *number = numbers_of(h);
+            let n = h.name;
+            *name = n;
+            *len = h.len;
+            0
+        }
+    }
+}
+
+// Kind (0 directory, 1 file, 2 device), size, time and name of what stands at a path. Refusals: 1, 2, 3, 4, 5, 6, 17.
+#[no_mangle]
+pub extern "C" fn mfs_c_info(
+    img: &[u8],
+    k: u32,
+    cwd: &[u8],
+    path: &[u8],
+    kind: &mut u8,
+    size: &mut u32,
+    time: &mut u64,
+    name: &mut [u8; 255],
+    len: &mut usize,
+) -> u32 {
+    let out = mfs::info(img, k, cwd, path);
+    let answer = out.answer;
+    match answer {
+        Answer::Refused(r) => code(r),
+        Answer::Success => {
+            let what = out.kind;
+            *kind = what.byte();
+            *size = out.size;
+            *time = out.time;
+            let n = out.name;
+            *name = n;
+            *len = out.len;
+            0
+        }
+    }
+}
+
+// Lists the directory at a path from entry number i on. Refusals: 1, 2, 3, 4, 5, 6, 17.
+#[no_mangle]
+pub extern "C" fn mfs_c_list(
+    img: &[u8],
+    k: u32,
+    cwd: &[u8],
+    path: &[u8],
+    i: u32,
+    buf: &mut [u8],
+    bytes: &mut usize,
+    next: &mut u32,
+) -> u32 {
+    let listed = mfs::list(img, k, cwd, path, i, buf);
+    match listed {
+        Listing::Refused(r) => code(r),
+        Listing::Records(b, n) => {
+            *bytes = b;
+            *next = n;
+            0
+        }
+    }
+}
+
+// Reads from the handle's position on. Refusals: 1, 2, 3, 11, 17.
+#[no_mangle]
+pub extern "C" fn mfs_c_read(
+    img: &[u8],
+    k: u32,
+    number: &mut [u32; 4],
+    name: &[u8; 255],
+    len: usize,
+    buf: &mut [u8],
+    bytes: &mut usize,
+) -> u32 {
+    let out = mfs::read(img, k, handle_of(number, name, len), buf);
+    let answer = out.answer;
+    match answer {
+        Counted::Refused(r) => code(r),
+        Counted::Bytes(b) => {
+            let h = out.handle;
+            *number = numbers_of(h);
+            *bytes = b;
+            0
+        }
+    }
+}
+
+// Moves the handle's position.
+fn seek(number: &mut [u32; 4], name: &[u8; 255], len: usize, from: SeekFrom) -> u32 {
+    let out = mfs::seek(handle_of(number, name, len), from);
+    let answer = out.answer;
+    match answer {
+        Outcome::Refused(r) => code(r),
+        Outcome::Success => {
+            let h = out.handle;
+            *number = numbers_of(h);
+            0
+        }
+    }
+}
+
+// The position becomes `to`. Refusals: 11, 12.
+#[no_mangle]
+pub extern "C" fn mfs_c_seek_start(
+    number: &mut [u32; 4],
+    name: &[u8; 255],
+    len: usize,
+    to: u32,
+) -> u32 {
+    seek(number, name, len, SeekFrom::Start(to))
+}
+
+// The position moves by `by`. Refusals: 11, 12.
+#[no_mangle]
+pub extern "C" fn mfs_c_seek_current(
+    number: &mut [u32; 4],
+    name: &[u8; 255],
+    len: usize,
+    by: i32,
+) -> u32 {
+    seek(number, name, len, SeekFrom::Current(by))
+}
+
+// The position becomes the size moved by `by`. Refusals: 11, 12.
+#[no_mangle]
+pub extern "C" fn mfs_c_seek_end(
+    number: &mut [u32; 4],
+    name: &[u8; 255],
+    len: usize,
+    by: i32,
+) -> u32 {
+    seek(number, name, len, SeekFrom::End(by))
+}
+
+// Creates a file of 0 bytes at a path, and opens it. Refusals: 1, 2, 3, 16, 17, 4, 8, 5, 6, 7, 9.
+#[no_mangle]
+pub extern "C" fn mfs_c_create_file(
+    img: &mut [u8],
+    k: u32,
+    cwd: &[u8],
+    path: &[u8],
+    time: u64,
+    work: &mut [u8],
+    number: &mut [u32; 4],
+    name: &mut [u8; 255],
+    len: &mut usize,
+) -> u32 {
+    let out = mfs::create_file(img, k, cwd, path, time, work);
+    let answer = out.answer;
+    match answer {
+        Answer::Refused(r) => code(r),
+        Answer::Success => {
+            let h = out.handle;
+            *number = numbers_of(h);
+            let n = h.name;
+            *name = n;
+            *len = h.len;
+            0
+        }
+    }
+}
+
+// Creates an empty directory at a path. Refusals: 1, 2, 3, 16, 17, 4, 8, 5, 6, 15, 7, 9.
+#[no_mangle]
+pub extern "C" fn mfs_c_create_dir(
+    img: &mut [u8],
+    k: u32,
+    cwd: &[u8],
+    path: &[u8],
+    time: u64,
+    work: &mut [u8],
+) -> u32 {
+    code_of(mfs::create_dir(img, k, cwd, path, time, work))
+}
+
+// Deletes the file, the device or the empty directory at a path. Refusals: 1, 2, 3, 16, 17, 4, 5, 6, 14.
+#[no_mangle]
+pub extern "C" fn mfs_c_delete(
+    img: &mut [u8],
+    k: u32,
+    cwd: &[u8],
+    path: &[u8],
+    time: u64,
+    work: &mut [u8],
+) -> u32 {
+    code_of(mfs::delete(img, k, cwd, path, time, work))
+}
+
+// Writes buf at the handle's position; the file ends there. Refusals: 1, 2, 3, 16, 17, 13, 11, 10, 9.
+#[no_mangle]
+pub extern "C" fn mfs_c_write(
+    img: &mut [u8],
+    k: u32,
+    number: &mut [u32; 4],
+    name: &[u8; 255],
+    len: usize,
+    buf: &[u8],
+    time: u64,
+    work: &mut [u8],
+    bytes: &mut usize,
+) -> u32 {
+    let out = mfs::write(img, k, handle_of(number, name, len), buf, time, work);
+    let answer = out.answer;
+    match answer {
+        Counted::Refused(r) => code(r),
+        Counted::Bytes(b) => {
+            let h = out.handle;
+            *number = numbers_of(h);
+            *bytes = b;
+            0
+        }
+    }
+}
