@@ -4,6 +4,7 @@ pub mod Once
 pub mod Path
 pub mod Counter
 pub mod Honest
+pub mod Exact
 pub mod Done
 pub mod Gone
 pub mod Promises

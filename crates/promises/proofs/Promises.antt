@@ -1,8 +1,9 @@
 -- Every promise is kept.
-use Rattle.promises.specs.Promises.{RoomIsExact, WorkIsDone, UsedIsTrue, PathIsRestored, CounterIsSafe}
+use Rattle.promises.specs.Promises.{RoomIsExact, RefusalIsExact, WorkIsDone, UsedIsTrue, PathIsRestored, CounterIsSafe}
 use Rattle.promises.proofs.Path.{calls-well, calls-restore}
 use Rattle.promises.proofs.Counter.{others-kept, other-bytes-kept, stale-kept, stale-answer, current-again}
-use Rattle.promises.proofs.Honest.{write-succeeds, write-full, create-succeeds, create-full, write-then-read, create-file-used, create-dir-used, delete-used, write-used}
+use Rattle.promises.proofs.Honest.{write-succeeds, write-full, create-succeeds, create-full, create-dir-succeeds, create-dir-full, write-then-read, create-file-used, create-dir-used, delete-used, write-used}
+use Rattle.promises.proofs.Exact.{delete-succeeds, delete-not-empty, delete-not-found, open-succeeds, open-not-found, info-not-found}
 use Rattle.promises.proofs.Done.{create-changes, write-leaves}
 use Rattle.promises.proofs.Gone.{delete-leaves}
 
@@ -10,7 +11,26 @@ use Rattle.promises.proofs.Gone.{delete-leaves}
 
 -- Demand 2.
 pub room-is-exact : RoomIsExact
-room-is-exact = record { write-succeeds = write-succeeds; write-full = write-full; create-succeeds = create-succeeds; create-full = create-full }
+room-is-exact =
+    record {
+      write-succeeds = write-succeeds;
+      write-full = write-full;
+      create-succeeds = create-succeeds;
+      create-full = create-full;
+      create-dir-succeeds = create-dir-succeeds;
+      create-dir-full = create-dir-full;
+    }
+
+pub refusal-is-exact : RefusalIsExact
+refusal-is-exact =
+    record {
+      delete-succeeds = delete-succeeds;
+      delete-not-empty = delete-not-empty;
+      delete-not-found = delete-not-found;
+      open-succeeds = open-succeeds;
+      open-not-found = open-not-found;
+      info-not-found = info-not-found;
+    }
 
 pub work-is-done : WorkIsDone
 work-is-done = record { write-then-read = write-then-read; write-leaves = write-leaves; create-changes = create-changes; delete-leaves = delete-leaves }

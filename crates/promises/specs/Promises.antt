@@ -4,10 +4,11 @@ use mathlib.Core.Path.{_≡_}
 use mathlib.Core.Bool.{false}
 use mathlib.Core.Logic.{_↔_}
 use mathlib.Core.Option.{some}
-use mathlib.Core.List.{List, _++_}
+use mathlib.Core.List.{List, [], _∷_, _++_}
 use Prim.Native.Nat.{ℕ, _+_, _-_, _*_, _^_, _≤_, _<_, min}
 use lib.ListN.{length, getD, take, drop}
 use Rattle.wire.specs.Be.{splice}
+use Rattle.wire.specs.Pick.{same}
 use Rattle.model.specs.Answers.{refused}
 use Rattle.model.specs.Tree.{Name, Cell}
 use Rattle.model.specs.Render.{blocksAt, count}
@@ -16,7 +17,8 @@ use Rattle.model.specs.Volume.{WellFormed, maxDepth}
 use Rattle.model.specs.Calls.{Vacant, fileAt, DirAt, contents, places}
 use Rattle.model.specs.Steps.{Restored, Bytes}
 use Rattle.tally.specs.Tally.{markLong}
-use Rattle.path.specs.Path.{badPath}
+use Rattle.dir_entry.specs.declared.Kind.the-variants.{Dir, File}
+use Rattle.path.specs.Path.{slash, badPath}
 use Rattle.file.specs.declared.Handle.{Handle}
 use Rattle.file.specs.declared.SeekFrom.the-variants.{Start}
 use Rattle.file.specs.declared.Outcome.the-variants as outcome
@@ -31,13 +33,16 @@ use Rattle.file.specs.Written.{countedSays}
 use Rattle.mfs.specs.declared.Answer.{Answer}
 use Rattle.mfs.specs.declared.Answer.the-variants as answer
 use Rattle.mfs.specs.declared.OpenOut.{OpenOut}
-use Rattle.mfs.specs.Reading.{openSays, Reads}
+use Rattle.mfs.specs.declared.InfoOut.{InfoOut}
+use Rattle.mfs.specs.Says.{says}
+use Rattle.mfs.specs.Reading.{openSays, Opens, infoSays, Informs, Reads}
 use Rattle.mfs.specs.Checking.{checkRefusal}
 use Rattle.mfs.specs.Changing.{CreatesFile, CreatesDir, Deletes, Writes}
+use Rattle.on_tree.specs.Handles.{HandleOf}
 use Rattle.on_tree.specs.Named.{wayOf, lastOf}
 use Rattle.promises.specs.Sequence.{Calls}
 use Rattle.promises.specs.Counter.{Another, StaleAtEntry}
-use Rattle.promises.specs.Honest.{CreateFits, CreateFull}
+use Rattle.promises.specs.Honest.{CreateFits, CreateFull, Deletable, HasEntries}
 
 -- ---- demand 2
 
@@ -52,10 +57,38 @@ pub record RoomIsExact : Type 0 where
       → (countedSays (o .answer) ≡ refused 9) ↔ NoRoom (geoAt K I) maxDepth (w .tree) h (length buf)
   pub create-succeeds : (K : ℕ) (I W : List ℕ) → Bytes I → (w : WellFormed K I) → markLong (geoAt K I) ≤ length W
       → (cwd p : List ℕ) → badPath cwd p ≡ false → (now : ℕ) (o : OpenOut) (J Z : List ℕ) → CreatesFile K I W cwd p now o J Z
-      → CreateFits (geoAt K I) maxDepth (wayOf cwd p) (lastOf cwd p) (w .tree) → o .answer ≡ answer.Success
+      → CreateFits (geoAt K I) File maxDepth (wayOf cwd p) (lastOf cwd p) (w .tree) → o .answer ≡ answer.Success
   pub create-full : (K : ℕ) (I W : List ℕ) → Bytes I → (w : WellFormed K I) → markLong (geoAt K I) ≤ length W
       → (cwd p : List ℕ) → badPath cwd p ≡ false → (now : ℕ) (o : OpenOut) (J Z : List ℕ) → CreatesFile K I W cwd p now o J Z
-      → (openSays o ≡ refused 9) ↔ CreateFull (geoAt K I) maxDepth (wayOf cwd p) (lastOf cwd p) (w .tree)
+      → (openSays o ≡ refused 9) ↔ CreateFull (geoAt K I) File maxDepth (wayOf cwd p) (lastOf cwd p) (w .tree)
+  pub create-dir-succeeds : (K : ℕ) (I W : List ℕ) → Bytes I → (w : WellFormed K I) → markLong (geoAt K I) ≤ length W
+      → (cwd p : List ℕ) → badPath cwd p ≡ false → (now : ℕ) (r : Answer) (J Z : List ℕ) → CreatesDir K I W cwd p now r J Z
+      → CreateFits (geoAt K I) Dir maxDepth (wayOf cwd p) (lastOf cwd p) (w .tree) → r ≡ answer.Success
+  pub create-dir-full : (K : ℕ) (I W : List ℕ) → Bytes I → (w : WellFormed K I) → markLong (geoAt K I) ≤ length W
+      → (cwd p : List ℕ) → badPath cwd p ≡ false → (now : ℕ) (r : Answer) (J Z : List ℕ) → CreatesDir K I W cwd p now r J Z
+      → (says r ≡ refused 9) ↔ CreateFull (geoAt K I) Dir maxDepth (wayOf cwd p) (lastOf cwd p) (w .tree)
+
+-- "the version that always refuses (by the exact refusals)": what can be deleted is deleted, what is a file is opened, and 14 and 5 are given where 01 says.
+pub record RefusalIsExact : Type 0 where
+  pub delete-succeeds : (K : ℕ) (I W : List ℕ) → Bytes I → (w : WellFormed K I) → markLong (geoAt K I) ≤ length W
+      → (cwd p : List ℕ) → badPath cwd p ≡ false → (now : ℕ) (r : Answer) (J Z : List ℕ) → Deletes K I W cwd p now r J Z
+      → Deletable maxDepth (wayOf cwd p) (lastOf cwd p) (w .tree) → r ≡ answer.Success
+  pub delete-not-empty : (K : ℕ) (I W : List ℕ) → Bytes I → (w : WellFormed K I) → markLong (geoAt K I) ≤ length W
+      → (cwd p : List ℕ) → badPath cwd p ≡ false → (now : ℕ) (r : Answer) (J Z : List ℕ) → Deletes K I W cwd p now r J Z
+      → (says r ≡ refused 14) ↔ HasEntries maxDepth (wayOf cwd p) (lastOf cwd p) (w .tree)
+  pub delete-not-found : (K : ℕ) (I W : List ℕ) → Bytes I → (w : WellFormed K I) → markLong (geoAt K I) ≤ length W
+      → (cwd p : List ℕ) → badPath cwd p ≡ false → (now : ℕ) (r : Answer) (J Z : List ℕ) → Deletes K I W cwd p now r J Z
+      → Vacant maxDepth (wayOf cwd p) (lastOf cwd p) (w .tree) → says r ≡ refused 5
+  -- "Opening ... answers a handle at position 0": of that file, which is z bytes in the blocks cs
+  pub open-succeeds : (K : ℕ) (I : List ℕ) (w : WellFormed K I) (cwd p : List ℕ) → badPath cwd p ≡ false → (o : OpenOut) → Opens K I cwd p o
+      → (z t : ℕ) (cs : List Cell) → fileAt maxDepth (wayOf cwd p) (lastOf cwd p) (w .tree) ≡ some (z, t, cs)
+      → (o .answer ≡ answer.Success) × (o .handle .position ≡ 0)
+      × ((a : ℕ) × DirAt maxDepth a (wayOf cwd p) (w .tree) × HandleOf a (lastOf cwd p) z cs (o .handle))
+  pub open-not-found : (K : ℕ) (I : List ℕ) (w : WellFormed K I) (cwd p : List ℕ) → badPath cwd p ≡ false → (o : OpenOut) → Opens K I cwd p o
+      → Vacant maxDepth (wayOf cwd p) (lastOf cwd p) (w .tree) → openSays o ≡ refused 5
+  -- (`/` itself names the root)
+  pub info-not-found : (K : ℕ) (I : List ℕ) (w : WellFormed K I) (cwd p : List ℕ) → badPath cwd p ≡ false → (o : InfoOut) → Informs K I cwd p o
+      → same p (slash ∷ []) ≡ false → Vacant maxDepth (wayOf cwd p) (lastOf cwd p) (w .tree) → infoSays o ≡ refused 5
 
 -- "the accepted write and read, over any two calls in a row": what an accepted call has done. A version that answers success and does nothing
 -- breaks these.
