@@ -1,4 +1,4 @@
--- Demand 2: on a well-formed volume a call with no refusal is accepted, "no room" is exact, what is written is read, and no used count is invented.
+-- Demand 2: on a well-formed volume a call with no refusal is accepted, "no room" is exact, and what is written is read.
 use mathlib.Core.Path.{_≡_, refl, sym, ap, _∙_, subst}
 use mathlib.Core.Bool.{true, false, not, _&&_}
 use mathlib.Core.Logic.{_⊎_, inl, inr, _↔_}
@@ -13,13 +13,13 @@ use Rattle.wire.specs.Be.{splice}
 use Rattle.wire.proofs.Picks.{either, not-both}
 use Rattle.model.specs.Answers.{Reply, accepted, refused, refusalNumber, andThen, when, given}
 use Rattle.model.specs.Tree.{Name, Cell, Entry, Tree, inside, Some, find}
-use Rattle.model.specs.Geometry.{Geo, dataAt, geoAt, setBits, usedCount}
+use Rattle.model.specs.Geometry.{Geo, geoAt}
 use Rattle.model.specs.Volume.{WellFormed, maxDepth}
 use Rattle.model.specs.Calls.{fileOf, fileAt, DirAt, freeBlocks, fileEntry, contents}
 use Rattle.model.specs.Calls.{Writes as TreeWrite}
 use Rattle.model.specs.Steps.{Bytes}
 use Rattle.model.proofs.Lists.{then-some}
-use Rattle.model.proofs.OneVolume.{well-formed-opens, used-set}
+use Rattle.model.proofs.OneVolume.{well-formed-opens}
 use Rattle.model.proofs.Opens.{passes, when-true, when-false, first-of-none, first-of-one, first-of-tail}
 use Rattle.model.proofs.Paths.{laid-path}
 use Rattle.tally.specs.Tally.{markLong}
@@ -52,10 +52,10 @@ use Rattle.mfs.specs.declared.OpenOut.{OpenOut}
 use Rattle.mfs.specs.Says.{says, onAnswer}
 use Rattle.mfs.specs.Reading.{openSays, Reads}
 use Rattle.mfs.specs.Checking.{checkCall, checkRefusal}
-use Rattle.mfs.specs.Changing.{changeCall, createReply, CreatesFile, CreatesDir, Deletes, Writes, writeReply}
+use Rattle.mfs.specs.Changing.{changeCall, createReply, CreatesFile, CreatesDir, Writes, writeReply}
 use Rattle.mfs.proofs.Paths.{given-none}
 use Rattle.on_tree.specs.Named.{wayOf, lastOf}
-use Rattle.on_tree.proofs.Changing.{volume-at, create-file-well, create-dir-well, delete-well, write-well, write-tree}
+use Rattle.on_tree.proofs.Changing.{volume-at, write-tree}
 use Rattle.on_tree.proofs.ReadsBack.{write-seek, write-read}
 use Rattle.promises.proofs.Files.{file-at}
 use Rattle.promises.specs.Honest.{CreateFits, CreateFull}
@@ -108,12 +108,15 @@ deep-not kind.Device d h = refl
 
 -- ---- the check passes on a well-formed volume, with a work buffer that is long enough
 
+-- it is reached
+pub check-reached : (K : ℕ) (I W : List ℕ) → WellFormed K I → markLong (geoAt K I) ≤ length W → checkCall K I (length W) ≡ 0
+unfolding checkCall
+check-reached K I W w long = first-of-tail _ _ (well-formed-opens K I w) ∙ first-of-one _ ∙ when-false 16 (le-ltb (length W) (markLong (geoAt K I)) long)
+
 module _ (K : ℕ) (I W : List ℕ) (b : Bytes I) (w : WellFormed K I) (long : markLong (geoAt K I) ≤ length W) where
   pub check-passes : checkRefusal K I (length W) ≡ 0
-  unfolding checkRefusal checkCall
-  check-passes =
-      first-of-tail _ _ (first-of-tail _ _ (well-formed-opens K I w) ∙ first-of-one _ ∙ when-false 16 (le-ltb (length W) (markLong (geoAt K I)) long))
-      ∙ first-of-one _ ∙ when-false 17 (ap not (whole-complete K I b w))
+  unfolding checkRefusal
+  check-passes = first-of-tail _ _ (check-reached K I W w long) ∙ first-of-one _ ∙ when-false 17 (ap not (whole-complete K I b w))
 
   -- ---- write
 
@@ -296,25 +299,3 @@ module _ (K : ℕ) (I W : List ℕ) (h : Handle) (buf : List ℕ) (now : ℕ) (o
     where
       one : (g j : ℕ × ℕ × List Cell) → some g ≡ some j → g ≡ j
       one g j e = cc
-
--- ---- "A used count is never invented"
-
--- W5, of any well-formed volume, and so after every accepted call (create-file-well, create-dir-well, delete-well, write-well of `on_tree`, and format):
--- the used count is D and the number of set bits.
-pub used-true : (K : ℕ) (J : List ℕ) → WellFormed K J → usedCount (geoAt K J) J ≡ dataAt (geoAt K J) + setBits J (geoAt K J)
-used-true K J w = used-set (geoAt K J) J maxDepth (w .tree) (volume-at K J w)
-
--- It is W5 again after each accepted call.
-module _ (K : ℕ) (I W : List ℕ) (now : ℕ) (J Z : List ℕ) (b : Bytes I) (clock : now < 2 ^ 64) where
-  pub create-file-used : (cwd p : List ℕ) (o : OpenOut) → CreatesFile K I W cwd p now o J Z → o .answer ≡ answer.Success → usedCount (geoAt K J) J ≡ dataAt (geoAt K J) + setBits J (geoAt K J)
-  create-file-used cwd p o c e = used-true K J (create-file-well K I W cwd p now J Z o c b clock e)
-
-  pub create-dir-used : (cwd p : List ℕ) (r : Answer) → CreatesDir K I W cwd p now r J Z → r ≡ answer.Success → usedCount (geoAt K J) J ≡ dataAt (geoAt K J) + setBits J (geoAt K J)
-  create-dir-used cwd p r c e = used-true K J (create-dir-well K I W cwd p now J Z r c b clock e)
-
-  pub delete-used : (cwd p : List ℕ) (r : Answer) → Deletes K I W cwd p now r J Z → r ≡ answer.Success → usedCount (geoAt K J) J ≡ dataAt (geoAt K J) + setBits J (geoAt K J)
-  delete-used cwd p r c e = used-true K J (delete-well K I W cwd p now J Z r c b clock e)
-
-  pub write-used : (h : Handle) (buf : List ℕ) (o : WriteOut) (k : ℕ) → Writes K I W h buf now o J Z → o .answer ≡ counted.Bytes k
-      → usedCount (geoAt K J) J ≡ dataAt (geoAt K J) + setBits J (geoAt K J)
-  write-used h buf o k c e = used-true K J (write-well K I W h buf now o J Z c k b clock e)

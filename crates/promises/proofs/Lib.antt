@@ -5,6 +5,7 @@ pub mod Path
 pub mod Counter
 pub mod Honest
 pub mod Exact
+pub mod Well
 pub mod Done
 pub mod Gone
 pub mod Promises

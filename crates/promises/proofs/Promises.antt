@@ -1,9 +1,10 @@
 -- Every promise is kept.
-use Rattle.promises.specs.Promises.{RoomIsExact, RefusalIsExact, WorkIsDone, UsedIsTrue, PathIsRestored, CounterIsSafe}
+use Rattle.promises.specs.Promises.{RoomIsExact, RefusalIsExact, WorkIsDone, StaysWell, UsedIsTrue, PathIsRestored, CounterIsSafe}
 use Rattle.promises.proofs.Path.{calls-well, calls-restore}
 use Rattle.promises.proofs.Counter.{others-kept, other-bytes-kept, stale-kept, stale-answer, current-again}
-use Rattle.promises.proofs.Honest.{write-succeeds, write-full, create-succeeds, create-full, create-dir-succeeds, create-dir-full, write-then-read, create-file-used, create-dir-used, delete-used, write-used}
+use Rattle.promises.proofs.Honest.{write-succeeds, write-full, create-succeeds, create-full, create-dir-succeeds, create-dir-full, write-then-read}
 use Rattle.promises.proofs.Exact.{delete-succeeds, delete-not-empty, delete-not-found, open-succeeds, open-not-found, info-not-found}
+use Rattle.promises.proofs.Well.{format-well, file-well, dir-well, deleted-well, written-well, check-well, format-used, create-file-used, create-dir-used, delete-used, write-used}
 use Rattle.promises.proofs.Done.{create-changes, write-leaves}
 use Rattle.promises.proofs.Gone.{delete-leaves}
 
@@ -35,8 +36,11 @@ refusal-is-exact =
 pub work-is-done : WorkIsDone
 work-is-done = record { write-then-read = write-then-read; write-leaves = write-leaves; create-changes = create-changes; delete-leaves = delete-leaves }
 
+pub stays-well : StaysWell
+stays-well = record { format = format-well; create-file = file-well; create-dir = dir-well; delete = deleted-well; write = written-well; check = check-well }
+
 pub used-is-true : UsedIsTrue
-used-is-true = record { create-file = create-file-used; create-dir = create-dir-used; delete = delete-used; write = write-used }
+used-is-true = record { format = format-used; create-file = create-file-used; create-dir = create-dir-used; delete = delete-used; write = write-used }
 
 -- Demand 3.
 pub path-is-restored : PathIsRestored

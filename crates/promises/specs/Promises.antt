@@ -10,7 +10,7 @@ use lib.ListN.{length, getD, take, drop}
 use Rattle.wire.specs.Be.{splice}
 use Rattle.wire.specs.Pick.{same}
 use Rattle.model.specs.Answers.{refused}
-use Rattle.model.specs.Tree.{Name, Cell}
+use Rattle.model.specs.Tree.{Name, Cell, blank}
 use Rattle.model.specs.Render.{blocksAt, count}
 use Rattle.model.specs.Geometry.{blockSize, dataAt, geoAt, setBits, usedCount}
 use Rattle.model.specs.Volume.{WellFormed, maxDepth}
@@ -36,7 +36,8 @@ use Rattle.mfs.specs.declared.OpenOut.{OpenOut}
 use Rattle.mfs.specs.declared.InfoOut.{InfoOut}
 use Rattle.mfs.specs.Says.{says}
 use Rattle.mfs.specs.Reading.{openSays, Opens, infoSays, Informs, Reads}
-use Rattle.mfs.specs.Checking.{checkRefusal}
+use Rattle.mfs.specs.Format.{Formats}
+use Rattle.mfs.specs.Checking.{Checks, checkRefusal}
 use Rattle.mfs.specs.Changing.{CreatesFile, CreatesDir, Deletes, Writes}
 use Rattle.on_tree.specs.Handles.{HandleOf}
 use Rattle.on_tree.specs.Named.{wayOf, lastOf}
@@ -112,11 +113,26 @@ pub record WorkIsDone : Type 0 where
   pub delete-leaves : (K : ℕ) (I W cwd p : List ℕ) (now : ℕ) (r : Answer) (J Z : List ℕ) → Deletes K I W cwd p now r J Z → (w : WellFormed K I) → now < 2 ^ 64
       → r ≡ answer.Success → (v : WellFormed K J) → Vacant maxDepth (wayOf cwd p) (lastOf cwd p) (v .tree)
 
+-- "On a well-formed volume": an accepted format makes one, its root empty; each accepted call leaves one; and every one passes the check.
+pub record StaysWell : Type 0 where
+  pub format : (K : ℕ) (I : List ℕ) (r : Answer) (J : List ℕ) → Formats K I r J → r ≡ answer.Success
+      → (w : WellFormed K J) × (w .tree ≡ blank maxDepth (dataAt (geoAt K J)))
+  pub create-file : (K : ℕ) (I W : List ℕ) (now : ℕ) (J Z : List ℕ) → Bytes I → now < 2 ^ 64 → (cwd p : List ℕ) (o : OpenOut)
+      → CreatesFile K I W cwd p now o J Z → o .answer ≡ answer.Success → WellFormed K J
+  pub create-dir : (K : ℕ) (I W : List ℕ) (now : ℕ) (J Z : List ℕ) → Bytes I → now < 2 ^ 64 → (cwd p : List ℕ) (r : Answer)
+      → CreatesDir K I W cwd p now r J Z → r ≡ answer.Success → WellFormed K J
+  pub delete : (K : ℕ) (I W : List ℕ) (now : ℕ) (J Z : List ℕ) → Bytes I → now < 2 ^ 64 → (cwd p : List ℕ) (r : Answer)
+      → Deletes K I W cwd p now r J Z → r ≡ answer.Success → WellFormed K J
+  pub write : (K : ℕ) (I W : List ℕ) (now : ℕ) (J Z : List ℕ) → Bytes I → now < 2 ^ 64 → (h : Handle) (buf : List ℕ) (o : WriteOut) (k : ℕ)
+      → Writes K I W h buf now o J Z → o .answer ≡ counted.Bytes k → WellFormed K J
+  pub check : (K : ℕ) (I W Z : List ℕ) (r : Answer) → Checks K I W r Z → WellFormed K I → markLong (geoAt K I) ≤ length W → r ≡ answer.Success
+
 -- "A used count is never invented (W5 after every accepted call)": D and the number of set bits.
 abbrev pub UsedTrue : ℕ → List ℕ → Type 0
 UsedTrue K J = usedCount (geoAt K J) J ≡ dataAt (geoAt K J) + setBits J (geoAt K J)
 
 pub record UsedIsTrue : Type 0 where
+  pub format : (K : ℕ) (I : List ℕ) (r : Answer) (J : List ℕ) → Formats K I r J → r ≡ answer.Success → UsedTrue K J
   pub create-file : (K : ℕ) (I W : List ℕ) (now : ℕ) (J Z : List ℕ) → Bytes I → now < 2 ^ 64 → (cwd p : List ℕ) (o : OpenOut)
       → CreatesFile K I W cwd p now o J Z → o .answer ≡ answer.Success → UsedTrue K J
   pub create-dir : (K : ℕ) (I W : List ℕ) (now : ℕ) (J Z : List ℕ) → Bytes I → now < 2 ^ 64 → (cwd p : List ℕ) (r : Answer)
