@@ -109,12 +109,13 @@ module _ (K : ℕ) (I : List ℕ) (w : WellFormed K I) (cwd p : List ℕ) (good 
         → (o .answer ≡ answer.Success) × (o .handle .position ≡ 0)
         × ((a : ℕ) × DirAt maxDepth a (wayOf cwd p) (w .tree) × HandleOf a (lastOf cwd p) z cs (o .handle))
     open-succeeds z t cs f =
-        let x = file-there maxDepth (wayOf cwd p) (lastOf cwd p) (w .tree) z t cs f in
-        let e = c .answer ∙ open-file K I w cwd p good (x .dir) (x .there) (x .entry) (x .held) z cs (x .is-file) in
-        let h = open-handle K I w cwd p good (x .dir) (x .there) (x .entry) (x .held) z cs (x .is-file) in
+        let y = file-there maxDepth (wayOf cwd p) (lastOf cwd p) (w .tree) z t cs f in
+        let x = y .0 in
+        let e = c .answer ∙ open-file K I w cwd p good (x .dir) (x .there) (x .entry) (x .held) z cs (y .1) in
+        let h = open-handle K I w cwd p good (x .dir) (x .there) (x .entry) (x .held) z cs (y .1) in
         let given : o .handle ≡ handleFor (blocksAt (x .dir .1)) (headAt K I (x .dir .0) (x .entry)) (lastOf cwd p) = on-value (o .answer) _ _ e in (
           on-success (o .answer) _ _ e,
-          ap (λ (y : Handle). y .position) given,
+          ap (λ (k : Handle). k .position) given,
           (blocksAt (x .dir .1), record { dir = x .dir; there = x .there; starts = refl }, subst (HandleOf (blocksAt (x .dir .1)) (lastOf cwd p) z cs) (sym given) h),
         )
 

@@ -1,4 +1,6 @@
 pub mod Answered
+pub mod Lookups
+pub mod Others
 pub mod Files
 pub mod Once
 pub mod Path
@@ -8,4 +10,5 @@ pub mod Exact
 pub mod Well
 pub mod Done
 pub mod Gone
+pub mod Kept
 pub mod Promises

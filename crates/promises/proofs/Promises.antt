@@ -1,7 +1,8 @@
 -- Every promise is kept.
-use Rattle.promises.specs.Promises.{RoomIsExact, RefusalIsExact, WorkIsDone, StaysWell, UsedIsTrue, PathIsRestored, CounterIsSafe}
+use Rattle.promises.specs.Promises.{RoomIsExact, RefusalIsExact, WorkIsDone, StaysWell, UsedIsTrue, PathIsRestored, OthersKept, CounterIsSafe}
 use Rattle.promises.proofs.Path.{calls-well, calls-restore}
-use Rattle.promises.proofs.Counter.{others-kept, other-bytes-kept, stale-kept, stale-answer, current-again}
+use Rattle.promises.proofs.Counter.{stale-kept, stale-answer, current-again}
+use Rattle.promises.proofs.Kept.{write-others, create-file-others, create-dir-others, delete-others}
 use Rattle.promises.proofs.Honest.{write-succeeds, write-full, create-succeeds, create-full, create-dir-succeeds, create-dir-full, write-then-read}
 use Rattle.promises.proofs.Exact.{delete-succeeds, delete-not-empty, delete-not-found, open-succeeds, open-not-found, info-not-found}
 use Rattle.promises.proofs.Well.{format-well, file-well, dir-well, deleted-well, written-well, check-well, format-used, create-file-used, create-dir-used, delete-used, write-used}
@@ -47,6 +48,8 @@ pub path-is-restored : PathIsRestored
 path-is-restored = record { well = calls-well; restored = calls-restore }
 
 -- The counter's safety.
+pub others-kept : OthersKept
+others-kept = record { write = write-others; create-file = create-file-others; create-dir = create-dir-others; delete = delete-others }
+
 pub counter-is-safe : CounterIsSafe
-counter-is-safe =
-    record { others-kept = others-kept; other-bytes-kept = other-bytes-kept; stale-kept = stale-kept; stale-answer = stale-answer; current-again = current-again }
+counter-is-safe = record { stale-kept = stale-kept; stale-answer = stale-answer; current-again = current-again }

@@ -41,8 +41,8 @@ use Rattle.mfs.specs.Checking.{Checks, checkRefusal}
 use Rattle.mfs.specs.Changing.{CreatesFile, CreatesDir, Deletes, Writes}
 use Rattle.on_tree.specs.Handles.{HandleOf}
 use Rattle.on_tree.specs.Named.{wayOf, lastOf}
-use Rattle.promises.specs.Sequence.{Calls}
-use Rattle.promises.specs.Counter.{Another, StaleAtEntry}
+use Rattle.promises.specs.Sequence.{Leads, Calls}
+use Rattle.promises.specs.Counter.{Untouched, Another, StaleAtEntry}
 use Rattle.promises.specs.Honest.{CreateFits, CreateFull, Deletable, HasEntries}
 
 -- ---- demand 2
@@ -156,16 +156,23 @@ pub record PathIsRestored : Type 0 where
 
 -- ---- the counter's safety
 
-pub record CounterIsSafe : Type 0 where
-  -- "an accepted write through a handle changes no byte of another file": its size, time, blocks and bytes are as they were; and so is every byte of its
-  -- blocks in the image.
-  pub others-kept : (K : ℕ) (I W : List ℕ) (h : Handle) (buf : List ℕ) (now : ℕ) (o : WriteOut) (J Z : List ℕ) → Writes K I W h buf now o J Z
+-- "an accepted write through a handle changes no byte of another file", nor of a device; and no more does an accepted create or delete, at a path that is not the
+-- call's own.
+pub record OthersKept : Type 0 where
+  pub write : (K : ℕ) (I W : List ℕ) (h : Handle) (buf : List ℕ) (now : ℕ) (o : WriteOut) (J Z : List ℕ) → Writes K I W h buf now o J Z
       → (k : ℕ) → o .answer ≡ counted.Bytes k → now < 2 ^ 64 → (w : WellFormed K I) (v : WellFormed K J) (q : List Name) (m : Name)
-      → Another maxDepth (w .tree) h q m → fileAt maxDepth q m (v .tree) ≡ fileAt maxDepth q m (w .tree)
-  pub other-bytes-kept : (K : ℕ) (I W : List ℕ) (h : Handle) (buf : List ℕ) (now : ℕ) (o : WriteOut) (J Z : List ℕ) → Writes K I W h buf now o J Z
-      → (k : ℕ) → o .answer ≡ counted.Bytes k → now < 2 ^ 64 → (w : WellFormed K I) (q : List Name) (m : Name) → Another maxDepth (w .tree) h q m
-      → (z t : ℕ) (cs : List Cell) → fileAt maxDepth q m (w .tree) ≡ some (z, t, cs)
-      → (b i : ℕ) → 1 ≤ count b (places cs) → i < blockSize (geoAt K I) → getD J (blockSize (geoAt K I) * b + i) 0 ≡ getD I (blockSize (geoAt K I) * b + i) 0
+      → Another maxDepth (w .tree) h q m → Untouched (blockSize (geoAt K I)) maxDepth (w .tree) (v .tree) I J q m
+  pub create-file : (K : ℕ) (I W cwd p : List ℕ) (now : ℕ) (o : OpenOut) (J Z : List ℕ) → CreatesFile K I W cwd p now o J Z
+      → o .answer ≡ answer.Success → now < 2 ^ 64 → (w : WellFormed K I) (v : WellFormed K J) (q : List Name) (m : Name)
+      → (Leads q m cwd p → ⊥) → Untouched (blockSize (geoAt K I)) maxDepth (w .tree) (v .tree) I J q m
+  pub create-dir : (K : ℕ) (I W cwd p : List ℕ) (now : ℕ) (r : Answer) (J Z : List ℕ) → CreatesDir K I W cwd p now r J Z
+      → r ≡ answer.Success → now < 2 ^ 64 → (w : WellFormed K I) (v : WellFormed K J) (q : List Name) (m : Name)
+      → (Leads q m cwd p → ⊥) → Untouched (blockSize (geoAt K I)) maxDepth (w .tree) (v .tree) I J q m
+  pub delete : (K : ℕ) (I W cwd p : List ℕ) (now : ℕ) (r : Answer) (J Z : List ℕ) → Deletes K I W cwd p now r J Z
+      → r ≡ answer.Success → now < 2 ^ 64 → (w : WellFormed K I) (v : WellFormed K J) (q : List Name) (m : Name)
+      → (Leads q m cwd p → ⊥) → Untouched (blockSize (geoAt K I)) maxDepth (w .tree) (v .tree) I J q m
+
+pub record CounterIsSafe : Type 0 where
   -- "a call whose handle is stale at its entry changes no image": nor the handle; and where the check passes and there are bytes to write, it gets 11.
   pub stale-kept : (K : ℕ) (I W : List ℕ) (h : Handle) (buf : List ℕ) (now : ℕ) (o : WriteOut) (J Z : List ℕ) → Writes K I W h buf now o J Z
       → Bytes I → StaleAtEntry K I h → (J ≡ I) × (o .handle ≡ h)
