@@ -3,10 +3,8 @@ use mathlib.Core.Path.{_≡_, refl, sym, ap, _∙_, subst}
 use mathlib.Core.Bool.{true}
 use mathlib.Core.Logic.{_⊎_, inl, inr}
 use mathlib.Core.Option.{Option, none, some}
-use mathlib.Core.List.{List, [], _∷_, _++_, append-nil}
+use mathlib.Core.List.{List, _++_, append-nil}
 use Prim.Native.Nat.{ℕ, zero, suc, _^_, _<_}
-use Rattle.wire.specs.Pick.{same}
-use Rattle.wire.proofs.Picks.{same-refl}
 use Rattle.model.specs.Tree.{Name, Cell, Node, sub, Entry, Below, Tree, called, lookup, Absent, insert, change, delete, Edit, edit, Some, find, blank, Bare}
 use Rattle.model.specs.Geometry.{blockSize, geoAt}
 use Rattle.model.specs.Volume.{WellFormed, maxDepth}
@@ -32,7 +30,7 @@ use Rattle.promises.specs.Sequence.{Leads}
 use Rattle.promises.specs.Counter.{deviceAt, Untouched, Another}
 use Rattle.promises.proofs.Files.{asFile, asDevice, file-is, device-is, not-file, not-device, cells-shown, cells-same}
 use Rattle.promises.proofs.Gone.{deleted-absent}
-use Rattle.promises.proofs.Lookups.{lookup-inserted, lookup-insert-other, lookup-delete-other}
+use Rattle.promises.proofs.Lookups.{called-own, lookup-inserted, lookup-insert-other, lookup-delete-other}
 use Rattle.promises.proofs.Others.{Hollow, readAt, read-other, read-edit}
 
 -- ---- an edit of one directory, by the name n
@@ -93,10 +91,6 @@ module _ (K : ℕ) (I J : List ℕ) (w : WellFormed K I) (v : WellFormed K J) (q
       (ap (deviceAt maxDepth q m) e ∙ device-is maxDepth q m _ ∙ edit-read asDevice not-device p n (w .tree) g f c q m x ∙ sym (device-is maxDepth q m (w .tree)))
 
 -- ---- each call is such an edit
-
-called-own : {X : Type 0} (n : Name) (e : Entry X) → e .name ≡ n → called n e ≡ true
-unfolding called
-called-own n e h = ap (same n) h ∙ same-refl n
 
 -- a write
 module _ (K : ℕ) (I W : List ℕ) (h : Handle) (buf : List ℕ) (now : ℕ) (o : WriteOut) (J Z : List ℕ) (c : Writes K I W h buf now o J Z) (k : ℕ)

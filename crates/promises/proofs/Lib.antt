@@ -9,6 +9,7 @@ pub mod Honest
 pub mod Exact
 pub mod Well
 pub mod Done
+pub mod Made
 pub mod Gone
 pub mod Kept
 pub mod Promises

@@ -7,7 +7,7 @@ use mathlib.Core.List.{List, [], _∷_, _++_, append-assoc}
 use Prim.Native.Nat.{ℕ, _+_}
 use lib.Dec.{leb}
 use Rattle.wire.specs.Pick.{same}
-use Rattle.wire.proofs.Picks.{either, not-both, pick-true, pick-false, same-eq}
+use Rattle.wire.proofs.Picks.{either, not-both, pick-true, pick-false, same-eq, same-refl}
 use Rattle.model.specs.Tree.{Name, Entry, Block, any, first, lessFirst, entriesOf, called, holds, lookup, used, weight, Absent, fill, insert, unlessBare, deleteLater, delete}
 use Rattle.model.proofs.Lists.{not-some, any-here, any-there, first-here, first-there, lessFirst-here, lessFirst-there}
 use Rattle.model.proofs.Reached.{lookup-entries}
@@ -146,6 +146,11 @@ module _ {X : Type 0} where
       go : (same m (e .name) ≡ true) ⊎ (same m (e .name) ≡ false) → same m (e .name) ≡ false
       go (inl y) = absurd (d (same-eq n (e .name) c ∙ sym (same-eq m (e .name) y)))
       go (inr y) = y
+
+  -- an entry has its own name
+  pub called-own : (n : Name) (e : Entry X) → e .name ≡ n → called n e ≡ true
+  unfolding called
+  called-own n e h = ap (same n) h ∙ same-refl n
 
   module _ (cap w : ℕ) (n : Name) (e : Entry X) (c : called n e ≡ true) (bs : List (Block X)) where
     -- the new entry, by its own name;

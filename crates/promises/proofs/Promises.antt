@@ -6,7 +6,8 @@ use Rattle.promises.proofs.Kept.{write-others, create-file-others, crea
 use Rattle.promises.proofs.Honest.{write-succeeds, write-full, create-succeeds, create-full, create-dir-succeeds, create-dir-full, write-then-read}
 use Rattle.promises.proofs.Exact.{delete-succeeds, delete-not-empty, delete-not-found, open-succeeds, open-not-found, info-not-found}
 use Rattle.promises.proofs.Well.{format-well, file-well, dir-well, deleted-well, written-well, check-well, format-used, create-file-used, create-dir-used, delete-used, write-used}
-use Rattle.promises.proofs.Done.{create-changes, write-leaves}
+use Rattle.promises.proofs.Done.{write-leaves}
+use Rattle.promises.proofs.Made.{create-file-leaves, create-dir-leaves, create-changes}
 use Rattle.promises.proofs.Gone.{delete-leaves}
 
 -- Demand 1 is `one-outcome` and `refusal-keeps`, of Once.
@@ -35,7 +36,15 @@ refusal-is-exact =
     }
 
 pub work-is-done : WorkIsDone
-work-is-done = record { write-then-read = write-then-read; write-leaves = write-leaves; create-changes = create-changes; delete-leaves = delete-leaves }
+work-is-done =
+    record {
+      write-then-read = write-then-read;
+      write-leaves = write-leaves;
+      create-file-leaves = create-file-leaves;
+      create-dir-leaves = create-dir-leaves;
+      create-changes = create-changes;
+      delete-leaves = delete-leaves;
+    }
 
 pub stays-well : StaysWell
 stays-well = record { format = format-well; create-file = file-well; create-dir = dir-well; delete = deleted-well; write = written-well; check = check-well }

@@ -5,16 +5,16 @@ use mathlib.Core.Bool.{false}
 use mathlib.Core.Logic.{_↔_}
 use mathlib.Core.Option.{some}
 use mathlib.Core.List.{List, [], _∷_, _++_}
-use Prim.Native.Nat.{ℕ, _+_, _-_, _*_, _^_, _≤_, _<_, min}
-use lib.ListN.{length, getD, take, drop}
+use Prim.Native.Nat.{ℕ, _+_, _-_, _^_, _≤_, _<_, min}
+use lib.ListN.{length, take, drop}
 use Rattle.wire.specs.Be.{splice}
 use Rattle.wire.specs.Pick.{same}
 use Rattle.model.specs.Answers.{refused}
-use Rattle.model.specs.Tree.{Name, Cell, blank}
-use Rattle.model.specs.Render.{blocksAt, count}
+use Rattle.model.specs.Tree.{Name, Cell, blank, NoEntries}
+use Rattle.model.specs.Render.{blocksAt}
 use Rattle.model.specs.Geometry.{blockSize, dataAt, geoAt, setBits, usedCount}
 use Rattle.model.specs.Volume.{WellFormed, maxDepth}
-use Rattle.model.specs.Calls.{Vacant, fileAt, DirAt, contents, places}
+use Rattle.model.specs.Calls.{Vacant, Occupied, fileAt, DirAt, emptyCell, contents}
 use Rattle.model.specs.Steps.{Restored, Bytes}
 use Rattle.tally.specs.Tally.{markLong}
 use Rattle.dir_entry.specs.declared.Kind.the-variants.{Dir, File}
@@ -108,6 +108,14 @@ pub record WorkIsDone : Type 0 where
       → (z t : ℕ) (cs : List Cell) → fileAt maxDepth q (nameOf h) (w .tree) ≡ some (z, t, cs)
       → (es : List Cell) × (fileAt maxDepth q (nameOf h) (v .tree) ≡ some (h .position + length buf, now, es))
       × (contents (h .position + length buf) es ≡ take (h .position) (contents z cs) ++ buf)
+  -- A file of 0 bytes with the call's time is there, one block of zeros, and the handle answered is on it, at position 0.
+  pub create-file-leaves : (K : ℕ) (I W cwd p : List ℕ) (now : ℕ) (o : OpenOut) (J Z : List ℕ) → CreatesFile K I W cwd p now o J Z → o .answer ≡ answer.Success → now < 2 ^ 64
+      → WellFormed K I → (v : WellFormed K J) → (x : ℕ) × (a : ℕ) × (fileAt maxDepth (wayOf cwd p) (lastOf cwd p) (v .tree) ≡ some (0, now, emptyCell (geoAt K I) x ∷ []))
+      × DirAt maxDepth a (wayOf cwd p) (v .tree) × HandleOf a (lastOf cwd p) 0 (emptyCell (geoAt K I) x ∷ []) (o .handle)
+  -- A directory with no entry is there, and its own entry has the call's time.
+  pub create-dir-leaves : (K : ℕ) (I W cwd p : List ℕ) (now : ℕ) (r : Answer) (J Z : List ℕ) → CreatesDir K I W cwd p now r J Z → r ≡ answer.Success → now < 2 ^ 64
+      → WellFormed K I → (v : WellFormed K J) → (x : ℕ) × (s : DirAt maxDepth x (wayOf cwd p ++ (lastOf cwd p ∷ [])) (v .tree)) × NoEntries (s .dir .1)
+      × (o : Occupied maxDepth (wayOf cwd p) (lastOf cwd p) (v .tree)) × (o .entry .time ≡ now)
   pub create-changes : (K : ℕ) (I W cwd p : List ℕ) (now : ℕ) (o : OpenOut) (J Z : List ℕ) → CreatesFile K I W cwd p now o J Z → WellFormed K I → now < 2 ^ 64
       → o .answer ≡ answer.Success → J ≡ I → ⊥
   pub delete-leaves : (K : ℕ) (I W cwd p : List ℕ) (now : ℕ) (r : Answer) (J Z : List ℕ) → Deletes K I W cwd p now r J Z → (w : WellFormed K I) → now < 2 ^ 64
