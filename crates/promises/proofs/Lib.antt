@@ -8,6 +8,7 @@ pub mod Counter
 pub mod Honest
 pub mod Exact
 pub mod Well
+pub mod Reopened
 pub mod Done
 pub mod Made
 pub mod Gone

@@ -103,6 +103,13 @@ pub record WorkIsDone : Type 0 where
       → (rbuf out : List ℕ) (r : ReadOut) → Reads K J (s .handle) rbuf out r
       → (s .answer ≡ outcome.Success) × (r .answer ≡ counted.Bytes (min (length rbuf) (h .position + length buf - i)))
       × (out ≡ splice rbuf 0 (take (min (length rbuf) (h .position + length buf - i)) (drop i (take (h .position) (contents z cs) ++ buf))))
+  -- "or through a later open": of a file of z bytes in the blocks cs an open, a seek to i and a read give the bytes from i on. After a write they are the written
+  -- ones:
+  pub open-then-read : (K : ℕ) (I : List ℕ) (w : WellFormed K I) (cwd p : List ℕ) → badPath cwd p ≡ false → (z t : ℕ) (cs : List Cell)
+      → fileAt maxDepth (wayOf cwd p) (lastOf cwd p) (w .tree) ≡ some (z, t, cs) → (o : OpenOut) → Opens K I cwd p o
+      → (i : ℕ) → i ≤ z → (s : Sought) → SoughtIs (o .handle) (Start i) s → (rbuf out : List ℕ) (r : ReadOut) → Reads K I (s .handle) rbuf out r
+      → (s .answer ≡ outcome.Success) × (r .answer ≡ counted.Bytes (min (length rbuf) (z - i)))
+      × (out ≡ splice rbuf 0 (take (min (length rbuf) (z - i)) (drop i (contents z cs))))
   pub write-leaves : (K : ℕ) (I W : List ℕ) (h : Handle) (buf : List ℕ) (now : ℕ) (o : WriteOut) (J Z : List ℕ) → Writes K I W h buf now o J Z
       → (k : ℕ) → o .answer ≡ counted.Bytes k → now < 2 ^ 64 → (w : WellFormed K I) (v : WellFormed K J) (q : List Name) → DirAt maxDepth (h .dir .0) q (w .tree)
       → (z t : ℕ) (cs : List Cell) → fileAt maxDepth q (nameOf h) (w .tree) ≡ some (z, t, cs)
