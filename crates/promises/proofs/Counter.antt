@@ -1,30 +1,25 @@
--- The counter's safety.
+-- The counter's safety: a stale handle.
 use mathlib.Core.Path.{_≡_, sym, ap, _∙_, subst}
 use mathlib.Core.Logic.{_⊎_, inl, inr}
 use mathlib.Core.Bool.{false}
 use mathlib.Core.Option.{some}
 use mathlib.Core.List.{List}
-use Prim.Native.Nat.{ℕ, _+_, _*_, _^_, _≤_, _<_}
+use Prim.Native.Nat.{ℕ, _≤_}
 use native.Mathlib.Omega.{arith}
-use lib.ListN.{length, getD}
+use lib.ListN.{length}
 use Rattle.wire.proofs.Picks.{not-both}
 use Rattle.model.specs.Answers.{accepted, refused, andThen, given}
 use Rattle.model.specs.declared.Refusal.{Refusal}
-use Rattle.model.specs.Tree.{Name, Cell, find}
-use Rattle.model.specs.Render.{cellPieces, count}
-use Rattle.model.specs.Geometry.{blockSize, geoAt}
+use Rattle.model.specs.Tree.{Name, find}
+use Rattle.model.specs.Geometry.{geoAt}
 use Rattle.model.specs.Volume.{WellFormed, maxDepth}
-use Rattle.model.specs.Calls.{fileAt, DirAt, places}
 use Rattle.model.specs.Steps.{Bytes}
-use Rattle.model.proofs.Alike.{alike-refl}
-use Rattle.model.proofs.Demand.{shown-near}
-use Rattle.model.proofs.Others.{other-file}
 use Rattle.model.proofs.Paths.{laid-path}
 use Rattle.model.proofs.Reached.{path-none}
 use Rattle.file.specs.declared.Handle.{Handle}
 use Rattle.file.specs.declared.WriteOut.{WriteOut}
 use Rattle.file.specs.declared.Counted.the-variants as counted
-use Rattle.file.specs.File.{nameOf, staleFields}
+use Rattle.file.specs.File.{staleFields}
 use Rattle.file.specs.OnTree.{FileIn, OnFile, Stale}
 use Rattle.file.specs.Writing.{targetOf, countOf}
 use Rattle.file.specs.Written.{countedSays}
@@ -32,38 +27,11 @@ use Rattle.file.proofs.Targets.{accepted-is, stale-is}
 use Rattle.mfs.specs.Checking.{checkRefusal}
 use Rattle.mfs.specs.Changing.{Writes, writeReply}
 use Rattle.mfs.proofs.Paths.{given-none}
-use Rattle.on_tree.proofs.Changing.{volume-at, tree-after, write-passed, write-before, write-tree, write-kept}
-use Rattle.promises.specs.Counter.{Another, StaleAtEntry}
+use Rattle.on_tree.proofs.Changing.{volume-at, write-passed, write-before, write-kept}
+use Rattle.promises.specs.Counter.{StaleAtEntry}
 use Rattle.promises.proofs.Answered.{counted-is}
-use Rattle.promises.proofs.Files.{file-shown}
 
 module _ (K : ℕ) (I W : List ℕ) (h : Handle) (buf : List ℕ) (now : ℕ) (o : WriteOut) (J Z : List ℕ) (c : Writes K I W h buf now o J Z) where
-  -- "an accepted write through a handle changes no byte of another file": a file that is not the handle's has the same size, time, blocks and
-  -- bytes before and after; and where no file was, none is.
-  pub others-kept : (k : ℕ) → o .answer ≡ counted.Bytes k → now < 2 ^ 64 → (w : WellFormed K I) (v : WellFormed K J) (q : List Name) (m : Name)
-      → Another maxDepth (w .tree) h q m → fileAt maxDepth q m (v .tree) ≡ fileAt maxDepth q m (w .tree)
-  others-kept k e clock w v q m x =
-      let a = write-tree K I W h buf now o J Z c k w clock e in
-      ap (fileAt maxDepth q m) (tree-after K I J w _ _ (a .2 .makes) v)
-      ∙ other-file maxDepth (a .0) q (nameOf h) m now _ _ (w .tree) (λ y z. x (subst (λ (p : List Name). DirAt maxDepth (h .dir .0) p (w .tree)) y (a .1)) z)
-
-  -- The same of the image: every byte of every block of that file is as it was.
-  pub other-bytes-kept : (k : ℕ) → o .answer ≡ counted.Bytes k → now < 2 ^ 64 → (w : WellFormed K I) (q : List Name) (m : Name) → Another maxDepth (w .tree) h q m
-      → (z t : ℕ) (cs : List Cell) → fileAt maxDepth q m (w .tree) ≡ some (z, t, cs)
-      → (b i : ℕ) → 1 ≤ count b (places cs) → i < blockSize (geoAt K I) → getD J (blockSize (geoAt K I) * b + i) 0 ≡ getD I (blockSize (geoAt K I) * b + i) 0
-  other-bytes-kept k e clock w q m x z t cs f b i n l =
-      let a = write-tree K I W h buf now o J Z c k w clock e in
-      let B : ℕ = blockSize (geoAt K I) in
-      let f′ = other-file maxDepth (a .0) q (nameOf h) m now _ _ (w .tree) (λ y z. x (subst (λ (p : List Name). DirAt maxDepth (h .dir .0) p (w .tree)) y (a .1)) z) ∙ f in
-      let old = file-shown (geoAt K I) I maxDepth (w .tree) _ (volume-at K I w .laid) q m z t cs f in
-      let new = file-shown (geoAt K I) J maxDepth _ _ (a .2 .makes .volume .laid) q m z t cs f′ in
-      shown-near (λ _. ⊥) B I J (cellPieces cs) (cellPieces cs) (alike-refl (λ _. ⊥) B (cellPieces cs)) (old .whole) (old .shown) (new .shown) b i
-      (subst (λ (y : List ℕ). 1 ≤ count b y) (sym (old .at)) n) l (λ y. y)
-
-  -- A refused write changes nothing at all, so that the same is true of it.
-  pub others-kept-refused : (x : Refusal) → o .answer ≡ counted.Refused x → J ≡ I
-  others-kept-refused x e = write-kept K I W h buf now o J Z c x e .0
-
   -- "a call whose handle is stale at its entry changes no image": nor the handle.
   pub stale-kept : Bytes I → StaleAtEntry K I h → (J ≡ I) × (o .handle ≡ h)
   stale-kept b s = go (counted-is (o .answer))

@@ -1,72 +1,94 @@
--- The file at a path: the entry that its directory has, and its blocks in the image.
+-- The file or the device at a path: the entry that its directory has, and its blocks in the image.
 use mathlib.Core.Path.{_≡_, refl, sym, ap, _∙_, subst}
+use mathlib.Core.Logic.{_⊎_, inl, inr}
 use mathlib.Core.Option.{Option, none, some}
 use mathlib.Core.List.{List, [], _∷_}
-use Prim.Native.Nat.{ℕ, zero, suc, _≤_}
+use Prim.Native.Nat.{ℕ, zero, suc, _+_, _*_, _≤_, _<_}
 use native.Mathlib.Omega.{arith}
-use lib.ListN.{length-append}
+use lib.ListN.{getD, length-append}
 use Rattle.wire.proofs.Laws.{length-bytes}
 use Rattle.model.specs.Tree.{Name, Cell, Node, file, device, sub, Entry, Below, Tree, then, lookup, inside, Some, find}
-use Rattle.model.specs.Render.{cellsAt, cellPieces, nodePieces, view, render, ats, ShowsAll}
+use Rattle.model.specs.Render.{cellsAt, cellPieces, nodePieces, view, render, ats, count, ShowsAll}
 use Rattle.model.specs.Geometry.{Geo, blockSize}
-use Rattle.model.specs.Volume.{All, GoodCell, GoodNode, GoodBelow, GoodFile, Laid}
-use Rattle.model.specs.Calls.{fileOf, fileAt, places}
+use Rattle.model.specs.Volume.{All, GoodCell, GoodNode, GoodBelow, Laid}
+use Rattle.model.specs.Calls.{Occupied, fileOf, fileAt, places}
+use Rattle.model.proofs.Alike.{alike-refl}
 use Rattle.model.proofs.Areas.{size-large}
+use Rattle.model.proofs.Demand.{shown-near}
 use Rattle.model.proofs.Full.{good-lookup, Whole}
 use Rattle.model.proofs.Lists.{not-some, then-some}
-use Rattle.tree_walk.proofs.Parts.{Stored, laid-part, part-find, stored-lookup}
+use Rattle.tree_walk.proofs.Parts.{laid-part, part-find, stored-lookup}
+use Rattle.promises.specs.Counter.{deviceOf, deviceAt}
+use Rattle.promises.proofs.Others.{readAt, read-there}
 
--- what a directory says of the file n
-abbrev fileIn : Name → Some → Option (ℕ × ℕ × List Cell)
-fileIn n s = then (lookup n (s .1)) (λ e. fileOf (e .time) (e .node))
+-- ---- the entry
 
--- the file at a path is the one that its directory has
-file-is : (d : ℕ) (p : List Name) (n : Name) (t : Tree d) → fileAt d p n t ≡ then (find d p t) (fileIn n)
+-- what is read of an entry's time and node
+abbrev pub asFile : (X : Type 0) → ℕ → Node X → Option (ℕ × ℕ × List Cell)
+asFile X k x = fileOf k x
+
+abbrev pub asDevice : (X : Type 0) → ℕ → Node X → Option (ℕ × ℕ × List Cell)
+asDevice X k x = deviceOf k x
+
+-- The file at a path is the one that its directory has,
+pub file-is : (d : ℕ) (p : List Name) (n : Name) (t : Tree d) → fileAt d p n t ≡ readAt asFile n d p t
 unfolding find fileAt inside then
 file-is zero [] n t = refl
 file-is (suc d) [] n t = refl
 file-is zero (a ∷ p) n t = refl
 file-is (suc d) (a ∷ p) n t = go (lookup a t) (file-is d p n)
   where
-    into : (x : Node (Tree d)) → ((u : Tree d) → fileAt d p n u ≡ then (find d p u) (fileIn n)) → inside (fileAt d p n) x ≡ then (inside (find d p) x) (fileIn n)
+    into : (x : Node (Tree d)) → ((u : Tree d) → fileAt d p n u ≡ readAt asFile n d p u)
+        → inside (fileAt d p n) x ≡ then (inside (find d p) x) (λ s. then (lookup n (s .1)) (λ e. fileOf (e .time) (e .node)))
     into (file z cs) r = refl
     into (device z cs) r = refl
     into (sub u) r = r u
 
-    go : (x : Option (Entry (Tree d))) → ((u : Tree d) → fileAt d p n u ≡ then (find d p u) (fileIn n))
-        → then x (λ e. inside (fileAt d p n) (e .node)) ≡ then (then x (λ e. inside (find d p) (e .node))) (fileIn n)
+    go : (x : Option (Entry (Tree d))) → ((u : Tree d) → fileAt d p n u ≡ readAt asFile n d p u)
+        → then x (λ e. inside (fileAt d p n) (e .node)) ≡ then (then x (λ e. inside (find d p) (e .node))) (λ s. then (lookup n (s .1)) (λ e. fileOf (e .time) (e .node)))
     go none r = refl
     go (some y) r = into (y .node) r
 
 pub file-at : (d : ℕ) (p : List Name) (n : Name) (t : Tree d) (s : Some) → find d p t ≡ some s → fileAt d p n t ≡ then (lookup n (s .1)) (λ e. fileOf (e .time) (e .node))
-file-at d p n t s f = file-is d p n t ∙ then-some (fileIn n) f
+file-at d p n t s f = file-is d p n t ∙ then-some (λ (x : Some). then (lookup n (x .1)) (λ e. fileOf (e .time) (e .node))) f
 
--- Its directory and its entry there.
-pub record FileThere (d : ℕ) (p : List Name) (n : Name) (t : Tree d) (z : ℕ) (cs : List Cell) : Type 0 where
-  pub dir : Some
-  pub there : find d p t ≡ some dir
-  pub entry : Entry (Below (dir .0))
-  pub held : lookup n (dir .1) ≡ some entry
-  pub is-file : entry .node ≡ file z cs
+-- and so is the device.
+pub device-is : (d : ℕ) (p : List Name) (n : Name) (t : Tree d) → deviceAt d p n t ≡ readAt asDevice n d p t
+unfolding deviceAt
+device-is d p n t = refl
 
-pub file-there : (d : ℕ) (p : List Name) (n : Name) (t : Tree d) (z k : ℕ) (cs : List Cell) → fileAt d p n t ≡ some (z, k, cs) → FileThere d p n t z cs
-unfolding then fileOf
-file-there d p n t z k cs e = at-dir (find d p t) refl (sym (file-is d p n t) ∙ e)
-  where
-    at-node : {X : Type 0} (j : ℕ) (x : Node X) → fileOf j x ≡ some (z, k, cs) → x ≡ file z cs
-    at-node j (file y ds) h =
-        let q : _≡_ {A = ℕ × ℕ × List Cell} (y, j, ds) (z, k, cs) = cc in
-        λ i. file (q i .0) (q i .2)
-    at-node j (device y ds) h = absurd (not-some refl h)
-    at-node j (sub x) h = absurd (not-some refl h)
+-- a directory is neither
+pub not-file : (X : Type 0) (k : ℕ) (x : X) → asFile X k (sub x) ≡ none
+unfolding fileOf
+not-file X k x = refl
 
-    at-entry : (s : Some) → find d p t ≡ some s → (x : Option (Entry (Below (s .0)))) → lookup n (s .1) ≡ x → then x (λ e. fileOf (e .time) (e .node)) ≡ some (z, k, cs) → FileThere d p n t z cs
-    at-entry s f none l h = absurd (not-some refl h)
-    at-entry s f (some y) l h = record { dir = s; there = f; entry = y; held = l; is-file = at-node (y .time) (y .node) h }
+pub not-device : (X : Type 0) (k : ℕ) (x : X) → asDevice X k (sub x) ≡ none
+unfolding deviceOf
+not-device X k x = refl
 
-    at-dir : (x : Option Some) → find d p t ≡ x → then x (fileIn n) ≡ some (z, k, cs) → FileThere d p n t z cs
-    at-dir none f h = absurd (not-some refl h)
-    at-dir (some s) f h = at-entry s f (lookup n (s .1)) refl h
+-- The entry of a file, and of a device.
+module _ (d : ℕ) (p : List Name) (n : Name) (t : Tree d) (z k : ℕ) (cs : List Cell) where
+  pub file-there : fileAt d p n t ≡ some (z, k, cs) → (o : Occupied d p n t) × (o .entry .node ≡ file z cs)
+  unfolding fileOf
+  file-there e = let x = read-there asFile n d p t (z, k, cs) (sym (file-is d p n t) ∙ e) in (x .0, at-node (x .0 .entry .time) (x .0 .entry .node) (x .1))
+    where
+      at-node : {X : Type 0} (j : ℕ) (x : Node X) → fileOf j x ≡ some (z, k, cs) → x ≡ file z cs
+      at-node j (file y ds) h =
+          let q : _≡_ {A = ℕ × ℕ × List Cell} (y, j, ds) (z, k, cs) = cc in
+          λ i. file (q i .0) (q i .2)
+      at-node j (device y ds) h = absurd (not-some refl h)
+      at-node j (sub x) h = absurd (not-some refl h)
+
+  device-there : deviceAt d p n t ≡ some (z, k, cs) → (o : Occupied d p n t) × (o .entry .node ≡ device z cs)
+  unfolding deviceOf
+  device-there e = let x = read-there asDevice n d p t (z, k, cs) (sym (device-is d p n t) ∙ e) in (x .0, at-node (x .0 .entry .time) (x .0 .entry .node) (x .1))
+    where
+      at-node : {X : Type 0} (j : ℕ) (x : Node X) → deviceOf j x ≡ some (z, k, cs) → x ≡ device z cs
+      at-node j (file y ds) h = absurd (not-some refl h)
+      at-node j (device y ds) h =
+          let q : _≡_ {A = ℕ × ℕ × List Cell} (y, j, ds) (z, k, cs) = cc in
+          λ i. device (q i .0) (q i .2)
+      at-node j (sub x) h = absurd (not-some refl h)
 
 -- ---- its blocks
 
@@ -80,20 +102,42 @@ unfolding cellPieces
 whole-cells B h [] a = tt
 whole-cells B h (c ∷ cs) a = (rw length-append (omega (arith, a .0 .whole, length-bytes 4 (cellsAt cs))), whole-cells B h cs (a .1))
 
--- What the image shows of the file's blocks, each a whole one.
-pub record FileShown (B : ℕ) (I : List ℕ) (cs : List Cell) : Type 0 where
+-- What the image shows of the blocks, each a whole one.
+pub record CellsShown (B : ℕ) (I : List ℕ) (cs : List Cell) : Type 0 where
   pub shown : ShowsAll B I (cellPieces cs)
   pub whole : All (Whole B) (cellPieces cs)
-  pub at : ats (cellPieces cs) ≡ places cs
 
-pub file-shown : (g : Geo) (I : List ℕ) (d : ℕ) (t : Tree d) (u : ℕ) → Laid g I d t u → (p : List Name) (n : Name) (z k : ℕ) (cs : List Cell) → fileAt d p n t ≡ some (z, k, cs) → FileShown (blockSize g) I cs
-unfolding render nodePieces
-file-shown g I d t u l p n z k cs e =
-    let f = file-there d p n t z k cs e in
-    let a = part-find g I d p t (f .dir) (laid-part g I d t u l) (f .there) in
-    let B : ℕ = blockSize g in
-    let s : Stored g I (nodePieces (view B (f .dir .0)) (file z cs))
-    = subst (λ (x : Node (Below (f .dir .0))). Stored g I (nodePieces (view B (f .dir .0)) x)) (f .is-file) (stored-lookup g I (view B (f .dir .0)) n (f .dir .1) (f .entry) (f .held) (a .stored)) in
-    let b : GoodFile B z cs
-    = subst (λ (x : Node (Below (f .dir .0))). GoodNode B (GoodBelow B (f .dir .0)) x) (f .is-file) (good-lookup B (GoodBelow B (f .dir .0)) n (f .dir .1) (f .entry) (a .good) (f .held) .below) in
-    record { shown = s .shown; whole = whole-cells B (omega (arith, size-large g)) cs (b .cells); at = cell-places cs }
+module _ (g : Geo) (I : List ℕ) (d : ℕ) (t : Tree d) (u : ℕ) (l : Laid g I d t u) (p : List Name) (n : Name) (z k : ℕ) (cs : List Cell) where
+  node-shown : (o : Occupied d p n t) → (o .entry .node ≡ file z cs) ⊎ (o .entry .node ≡ device z cs) → CellsShown (blockSize g) I cs
+  unfolding render nodePieces
+  node-shown o h =
+      let a = part-find g I d p t (o .dir) (laid-part g I d t u l) (o .there) in
+      let B : ℕ = blockSize g in
+      let s = stored-lookup g I (view B (o .dir .0)) n (o .dir .1) (o .entry) (o .held) (a .stored) .shown in
+      let b = good-lookup B (GoodBelow B (o .dir .0)) n (o .dir .1) (o .entry) (a .good) (o .held) .below in
+      let five : 5 ≤ B = omega (arith, size-large g) in
+      go h s b five
+    where
+      go : (o .entry .node ≡ file z cs) ⊎ (o .entry .node ≡ device z cs) → ShowsAll (blockSize g) I (nodePieces (view (blockSize g) (o .dir .0)) (o .entry .node))
+          → GoodNode (blockSize g) (GoodBelow (blockSize g) (o .dir .0)) (o .entry .node) → 5 ≤ blockSize g → CellsShown (blockSize g) I cs
+      go (inl e) s b five =
+          record {
+            shown = subst (λ (x : Node (Below (o .dir .0))). ShowsAll (blockSize g) I (nodePieces (view (blockSize g) (o .dir .0)) x)) e s;
+            whole = whole-cells (blockSize g) five cs (subst (λ (x : Node (Below (o .dir .0))). GoodNode (blockSize g) (GoodBelow (blockSize g) (o .dir .0)) x) e b .cells);
+          }
+      go (inr e) s b five =
+          record {
+            shown = subst (λ (x : Node (Below (o .dir .0))). ShowsAll (blockSize g) I (nodePieces (view (blockSize g) (o .dir .0)) x)) e s;
+            whole = whole-cells (blockSize g) five cs (subst (λ (x : Node (Below (o .dir .0))). GoodNode (blockSize g) (GoodBelow (blockSize g) (o .dir .0)) x) e b .cells);
+          }
+
+  pub cells-shown : (fileAt d p n t ≡ some (z, k, cs)) ⊎ (deviceAt d p n t ≡ some (z, k, cs)) → CellsShown (blockSize g) I cs
+  cells-shown (inl e) = let x = file-there d p n t z k cs e in node-shown (x .0) (inl (x .1))
+  cells-shown (inr e) = let x = device-there d p n t z k cs e in node-shown (x .0) (inr (x .1))
+
+-- Two images that have the same file or device at a path have the same bytes in its blocks.
+pub cells-same : (B : ℕ) (I J : List ℕ) (cs : List Cell) → CellsShown B I cs → CellsShown B J cs
+    → (b i : ℕ) → 1 ≤ count b (places cs) → i < B → getD J (B * b + i) 0 ≡ getD I (B * b + i) 0
+cells-same B I J cs old new b i n l =
+    shown-near (λ _. ⊥) B I J (cellPieces cs) (cellPieces cs) (alike-refl (λ _. ⊥) B (cellPieces cs)) (old .whole) (old .shown) (new .shown) b i
+    (subst (λ (y : List ℕ). 1 ≤ count b y) (sym (cell-places cs)) n) l (λ y. y)

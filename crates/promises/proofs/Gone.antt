@@ -6,25 +6,23 @@ use mathlib.Core.List.{List, [], _∷_}
 use Prim.Native.Nat.{ℕ, _+_, _^_, _≤_, _<_}
 use native.Mathlib.Omega.{arith}
 use Rattle.wire.proofs.Picks.{either, not-both, pick-true, pick-false}
-use Rattle.model.specs.Tree.{Name, Entry, Block, any, called, holds, lessFirst, unlessBare, fill, Absent, deleteLater, delete, Some, find}
+use Rattle.model.specs.Tree.{Name, Entry, Block, any, entriesOf, called, holds, lessFirst, Absent, delete, Some, find}
 use Rattle.model.specs.Geometry.{blockSize, geoAt}
 use Rattle.model.specs.Volume.{named, namedIn, WellFormed, maxDepth}
 use Rattle.model.specs.Calls.{Vacant, deleted}
 use Rattle.model.proofs.Edits.{find-edit}
 use Rattle.model.proofs.Full.{good-find}
 use Rattle.model.proofs.Lists.{any-there, lessFirst-here, lessFirst-there}
+use Rattle.model.proofs.Reached.{named-entries}
 use Rattle.mfs.specs.declared.Answer.{Answer}
 use Rattle.mfs.specs.declared.Answer.the-variants as answer
 use Rattle.mfs.specs.Changing.{Deletes}
 use Rattle.on_tree.specs.Named.{wayOf, lastOf}
 use Rattle.on_tree.proofs.Changing.{volume-at, tree-after, delete-tree}
+use Rattle.promises.proofs.Lookups.{delete-entries}
 
-module _ (X : Type 0) (n : Name) where
+module _ {X : Type 0} (n : Name) where
   -- ---- entries of a name in a block
-
-  named-nil : named {X = X} n [] ≡ 0
-  unfolding named
-  named-nil = refl
 
   named-yes : (e : Entry X) (es : List (Entry X)) → called n e ≡ true → named n (e ∷ es) ≡ 1 + named n es
   unfolding named
@@ -34,34 +32,19 @@ module _ (X : Type 0) (n : Name) where
   unfolding named
   named-no e es c = ap (λ (k : ℕ). k + named n es) (pick-false {A = ℕ} 1 0 c)
 
-  any-nil : any (called {X = X} n) [] ≡ false
-  unfolding any
-  any-nil = refl
-
-  less-nil : lessFirst (called {X = X} n) [] ≡ []
-  unfolding lessFirst
-  less-nil = refl
-
   some-named : (es : List (Entry X)) → any (called n) es ≡ true → 1 ≤ named n es
-  some-named [] h = absurd (not-both h any-nil)
+  unfolding any
+  some-named [] h = absurd (not-both h refl)
   some-named (e ∷ es) h = go (either (called n e)) (some-named es)
     where
       go : (called n e ≡ true) ⊎ (called n e ≡ false) → (any (called n) es ≡ true → 1 ≤ named n es) → 1 ≤ named n (e ∷ es)
       go (inl c) r = omega (arith, named-yes e es c)
       go (inr c) r = omega (arith, named-no e es c, r (sym (any-there (called n) e es c) ∙ h))
 
-  none-named : (es : List (Entry X)) → any (called n) es ≡ false → named n es ≡ 0
-  unfolding any
-  none-named [] h = named-nil
-  none-named (e ∷ es) h = go (either (called n e)) (none-named es)
-    where
-      go : (called n e ≡ true) ⊎ (called n e ≡ false) → (any (called n) es ≡ false → named n es ≡ 0) → named n (e ∷ es) ≡ 0
-      go (inl c) r = absurd (not-both (pick-true true (any (called n) es) c) h)
-      go (inr c) r = omega (arith, named-no e es c, r (sym (any-there (called n) e es c) ∙ h))
-
   -- without the first, none of a name that is there once
   less-named : (es : List (Entry X)) → named n es ≤ 1 → named n (lessFirst (called n) es) ≡ 0
-  less-named [] h = ap (named n) less-nil ∙ named-nil
+  unfolding lessFirst named
+  less-named [] h = refl
   less-named (e ∷ es) h = go (either (called n e)) (less-named es)
     where
       go : (called n e ≡ true) ⊎ (called n e ≡ false) → (named n es ≤ 1 → named n (lessFirst (called n) es) ≡ 0) → named n (lessFirst (called n) (e ∷ es)) ≡ 0
@@ -73,63 +56,20 @@ module _ (X : Type 0) (n : Name) where
 
   -- ---- and in a directory
 
-  in-nil : namedIn {X = X} n [] ≡ 0
-  unfolding namedIn
-  in-nil = refl
-
-  in-block : (b : Block X) (bs : List (Block X)) → namedIn n (b ∷ bs) ≡ named n (b .entries) + namedIn n bs
-  unfolding namedIn
-  in-block b bs = refl
-
-  holds-some : (b : Block X) → holds n b ≡ true → 1 ≤ named n (b .entries)
-  unfolding holds
-  holds-some b c = some-named (b .entries) c
-
-  holds-none : (b : Block X) → holds n b ≡ false → named n (b .entries) ≡ 0
-  unfolding holds
-  holds-none b c = none-named (b .entries) c
-
-  in-bare : (a : ℕ) (es : List (Entry X)) (bs : List (Block X)) → namedIn n (unlessBare a es bs) ≡ named n es + namedIn n bs
-  unfolding unlessBare
-  in-bare a [] bs = omega (arith, named-nil)
-  in-bare a (e ∷ es) bs = in-block (record { at = a; entries = e ∷ es }) bs
-
-  later-named : (bs : List (Block X)) → namedIn n bs ≤ 1 → namedIn n (deleteLater n bs) ≡ 0
-  unfolding deleteLater
-  later-named [] h = in-nil
-  later-named (b ∷ bs) h = go (either (holds n b)) (later-named bs)
-    where
-      go : (holds n b ≡ true) ⊎ (holds n b ≡ false) → (namedIn n bs ≤ 1 → namedIn n (deleteLater n bs) ≡ 0) → namedIn n (deleteLater n (b ∷ bs)) ≡ 0
-      go (inl c) r =
-          let y : namedIn n (unlessBare (b .at) (lessFirst (called n) (b .entries)) bs) ≡ 0
-          = omega (arith, h, in-block b bs, holds-some b c, less-named (b .entries) (omega (arith, h, in-block b bs)), in-bare (b .at) (lessFirst (called n) (b .entries)) bs) in
-          ap (namedIn n) (pick-true (unlessBare (b .at) (lessFirst (called n) (b .entries)) bs) (b ∷ deleteLater n bs) c) ∙ y
-      go (inr c) r =
-          let y : namedIn n (b ∷ deleteLater n bs) ≡ 0 = omega (arith, in-block b (deleteLater n bs), holds-none b c, r (omega (arith, h, in-block b bs))) in
-          ap (namedIn n) (pick-false (unlessBare (b .at) (lessFirst (called n) (b .entries)) bs) (b ∷ deleteLater n bs) c) ∙ y
-
-  delete-named : (bs : List (Block X)) → namedIn n bs ≤ 1 → namedIn n (delete n bs) ≡ 0
-  unfolding delete
-  delete-named [] h = in-nil
-  delete-named (b ∷ bs) h = go (either (holds n b))
-    where
-      go : (holds n b ≡ true) ⊎ (holds n b ≡ false) → namedIn n (delete n (b ∷ bs)) ≡ 0
-      go (inl c) =
-          let y : namedIn n (fill (lessFirst (called n)) b ∷ bs) ≡ 0
-          = omega (arith, h, in-block b bs, holds-some b c, less-named (b .entries) (omega (arith, h, in-block b bs)), in-block (fill (lessFirst (called n)) b) bs) in
-          ap (namedIn n) (pick-true (fill (lessFirst (called n)) b ∷ bs) (b ∷ deleteLater n bs) c) ∙ y
-      go (inr c) =
-          let y : namedIn n (b ∷ deleteLater n bs) ≡ 0 = omega (arith, in-block b (deleteLater n bs), holds-none b c, later-named bs (omega (arith, h, in-block b bs))) in
-          ap (namedIn n) (pick-false (fill (lessFirst (called n)) b ∷ bs) (b ∷ deleteLater n bs) c) ∙ y
-
   none-absent : (bs : List (Block X)) → namedIn n bs ≡ 0 → Absent n bs
-  unfolding any
+  unfolding any namedIn holds
   none-absent [] h = refl
-  none-absent (b ∷ bs) h = go (either (holds n b)) (none-absent bs)
+  none-absent (b ∷ bs) h = go (either (any (called n) (b .entries))) (none-absent bs)
     where
-      go : (holds n b ≡ true) ⊎ (holds n b ≡ false) → (namedIn n bs ≡ 0 → Absent n bs) → Absent n (b ∷ bs)
-      go (inl c) r = absurd (omega (arith, h, in-block b bs, holds-some b c))
-      go (inr c) r = any-there (holds n) b bs c ∙ r (omega (arith, h, in-block b bs))
+      go : (any (called n) (b .entries) ≡ true) ⊎ (any (called n) (b .entries) ≡ false) → (namedIn n bs ≡ 0 → Absent n bs) → Absent n (b ∷ bs)
+      go (inl c) r = absurd (omega (arith, h, some-named (b .entries) c))
+      go (inr c) r = any-there (holds n) b bs c ∙ r (omega arith)
+
+  -- A name that was there once is gone.
+  pub deleted-absent : (bs : List (Block X)) → namedIn n bs ≤ 1 → Absent n (delete n bs)
+  deleted-absent bs h =
+      none-absent (delete n bs)
+      (named-entries n (delete n bs) ∙ ap (named n) (delete-entries n bs) ∙ less-named (entriesOf bs) (omega (arith, h, named-entries n bs)))
 
 -- After an accepted delete the path names nothing, in a directory that is there: as demand 3 asks of the end of a sequence.
 pub delete-leaves : (K : ℕ) (I W cwd p : List ℕ) (now : ℕ) (r : Answer) (J Z : List ℕ) → Deletes K I W cwd p now r J Z → (w : WellFormed K I) → now < 2 ^ 64
@@ -144,5 +84,5 @@ delete-leaves K I W cwd p now r J Z c w clock e v =
     record {
       dir = (s .0, delete n (s .1));
       there = ap (find maxDepth (wayOf cwd p)) t ∙ find-edit maxDepth (wayOf cwd p) (λ _. now) (λ e bs. delete n bs) (w .tree) s (m .occupied .there);
-      free = none-absent _ n (delete n (s .1)) (delete-named _ n (s .1) (g .distinct n));
+      free = deleted-absent n (s .1) (g .distinct n);
     }

@@ -1,31 +1,34 @@
--- Demand 2: on a well-formed volume a call with no refusal is accepted, "no room" is exact, what is written is read, and no used count is invented.
+-- Demand 2: on a well-formed volume a call with no refusal is accepted, "no room" is exact, and what is written is read.
 use mathlib.Core.Path.{_≡_, refl, sym, ap, _∙_, subst}
-use mathlib.Core.Bool.{true, false, not}
+use mathlib.Core.Bool.{true, false, not, _&&_}
 use mathlib.Core.Logic.{_⊎_, inl, inr, _↔_}
 use mathlib.Core.Option.{Option, none, some}
 use mathlib.Core.List.{List, [], _++_}
 use Prim.Native.Nat.{ℕ, zero, suc, _+_, _-_, _^_, _≤_, _<_, min}
 use native.Mathlib.Omega.{arith}
+use lib.Dec.{eqb}
 use lib.ListN.{length, take, drop}
-use borrow.Author.Tests.{le-ltb}
+use borrow.Author.Tests.{le-ltb, ne-eqb}
 use Rattle.wire.specs.Be.{splice}
-use Rattle.wire.proofs.Picks.{either}
+use Rattle.wire.proofs.Picks.{either, not-both}
 use Rattle.model.specs.Answers.{Reply, accepted, refused, refusalNumber, andThen, when, given}
 use Rattle.model.specs.Tree.{Name, Cell, Entry, Tree, inside, Some, find}
-use Rattle.model.specs.Geometry.{Geo, dataAt, geoAt, setBits, usedCount}
+use Rattle.model.specs.Geometry.{Geo, geoAt}
 use Rattle.model.specs.Volume.{WellFormed, maxDepth}
 use Rattle.model.specs.Calls.{fileOf, fileAt, DirAt, freeBlocks, fileEntry, contents}
 use Rattle.model.specs.Calls.{Writes as TreeWrite}
 use Rattle.model.specs.Steps.{Bytes}
 use Rattle.model.proofs.Lists.{then-some}
-use Rattle.model.proofs.OneVolume.{well-formed-opens, used-set}
+use Rattle.model.proofs.OneVolume.{well-formed-opens}
 use Rattle.model.proofs.Opens.{passes, when-true, when-false, first-of-none, first-of-one, first-of-tail}
 use Rattle.model.proofs.Paths.{laid-path}
 use Rattle.tally.specs.Tally.{markLong}
+use Rattle.dir_entry.specs.declared.Kind.{Kind}
 use Rattle.dir_entry.specs.declared.Kind.the-variants as kind
+use Rattle.dir_entry.specs.Entry.{isDir}
 use Rattle.survey.proofs.Wholes.{whole-complete}
 use Rattle.path.specs.Path.{realPath, badPath}
-use Rattle.creates.specs.Creating.{Site, badName, siteOf, freshOf, createdOn}
+use Rattle.creates.specs.Creating.{Site, Fresh, badName, siteOf, freshOf, createdOn}
 use Rattle.creates.specs.OnTree.{treeRefusal}
 use Rattle.creates.proofs.Trees.{tree-full}
 use Rattle.creates.proofs.Trees.{answer-is as site-answer, answer-none as site-none}
@@ -46,13 +49,13 @@ use Rattle.file.proofs.Targets.{accepted-is, no-room}
 use Rattle.mfs.specs.declared.Answer.{Answer}
 use Rattle.mfs.specs.declared.Answer.the-variants as answer
 use Rattle.mfs.specs.declared.OpenOut.{OpenOut}
-use Rattle.mfs.specs.Says.{onAnswer}
+use Rattle.mfs.specs.Says.{says, onAnswer}
 use Rattle.mfs.specs.Reading.{openSays, Reads}
 use Rattle.mfs.specs.Checking.{checkCall, checkRefusal}
-use Rattle.mfs.specs.Changing.{changeCall, createReply, CreatesFile, CreatesDir, Deletes, Writes, writeReply}
+use Rattle.mfs.specs.Changing.{changeCall, createReply, CreatesFile, CreatesDir, Writes, writeReply}
 use Rattle.mfs.proofs.Paths.{given-none}
 use Rattle.on_tree.specs.Named.{wayOf, lastOf}
-use Rattle.on_tree.proofs.Changing.{volume-at, create-file-well, create-dir-well, delete-well, write-well, write-tree}
+use Rattle.on_tree.proofs.Changing.{volume-at, write-tree}
 use Rattle.on_tree.proofs.ReadsBack.{write-seek, write-read}
 use Rattle.promises.proofs.Files.{file-at}
 use Rattle.promises.specs.Honest.{CreateFits, CreateFull}
@@ -64,20 +67,20 @@ unfolding given
 given-refused zero r j e = inr (refl, e)
 given-refused (suc k) r j e = let z : suc k ≡ j = cc in inl (omega arith, sym z)
 
-not-accepted : {A : Type 0} (k : ℕ) (a : A) → refused k ≡ accepted a → ⊥
+pub not-accepted : {A : Type 0} (k : ℕ) (a : A) → refused k ≡ accepted a → ⊥
 not-accepted k a e = let z : _≡_ {A = ℕ} 0 1 = cc in omega arith
 
 -- an answer and what is made of its value are refused by the same number, and accepted together
-then-refused : {A B : Type 0} (r : Reply A) (f : A → B) (j : ℕ) → andThen r (λ a. accepted (f a)) ≡ refused j → r ≡ refused j
+pub then-refused : {A B : Type 0} (r : Reply A) (f : A → B) (j : ℕ) → andThen r (λ a. accepted (f a)) ≡ refused j → r ≡ refused j
 unfolding andThen
 then-refused (accepted a) f j e = absurd (not-accepted j (f a) (sym e))
 then-refused (refused k) f j e = let z : k ≡ j = cc in ap refused z
 
-refused-then : {A B : Type 0} (r : Reply A) (f : A → B) (j : ℕ) → r ≡ refused j → andThen r (λ a. accepted (f a)) ≡ refused j
+pub refused-then : {A B : Type 0} (r : Reply A) (f : A → B) (j : ℕ) → r ≡ refused j → andThen r (λ a. accepted (f a)) ≡ refused j
 unfolding andThen
 refused-then r f j e = ap (λ x. andThen x (λ a. accepted (f a))) e
 
-accepted-then : {A B : Type 0} (r : Reply A) (f : A → B) (a : A) → r ≡ accepted a → andThen r (λ a. accepted (f a)) ≡ accepted (f a)
+pub accepted-then : {A B : Type 0} (r : Reply A) (f : A → B) (a : A) → r ≡ accepted a → andThen r (λ a. accepted (f a)) ≡ accepted (f a)
 unfolding andThen
 accepted-then r f a e = ap (λ x. andThen x (λ a. accepted (f a))) e
 
@@ -85,18 +88,35 @@ count-bytes : (c : Counted) (k : ℕ) → countedSays c ≡ accepted k → c ≡
 count-bytes (counted.Bytes j) k e = let z : j ≡ k = cc in ap counted.Bytes z
 count-bytes (counted.Refused x) k e = absurd (not-accepted (refusalNumber x) k e)
 
-on-success : {A : Type 0} (r : Answer) (a b : A) → onAnswer r a ≡ accepted b → r ≡ answer.Success
+pub on-success : {A : Type 0} (r : Answer) (a b : A) → onAnswer r a ≡ accepted b → r ≡ answer.Success
 on-success answer.Success a b e = refl
 on-success (answer.Refused x) a b e = absurd (not-accepted (refusalNumber x) b e)
 
+pub says-success : (r : Answer) → says r ≡ accepted tt → r ≡ answer.Success
+says-success answer.Success e = refl
+says-success (answer.Refused x) e = absurd (not-accepted (refusalNumber x) tt e)
+
+-- a new directory is not at depth 17 where the one that holds it has a level left
+not-deep : (k : Kind) (d : ℕ) → (isDir k && eqb d 0) ≡ false → k ≡ kind.Dir → 1 ≤ d
+not-deep k zero h e = absurd (not-both (ap (λ (x : Kind). isDir x && true) e) h)
+not-deep k (suc d) h e = omega arith
+
+deep-not : (k : Kind) (d : ℕ) → (k ≡ kind.Dir → 1 ≤ d) → (isDir k && eqb d 0) ≡ false
+deep-not kind.Dir d h = ne-eqb d 0 (λ z. omega (arith, h refl))
+deep-not kind.File d h = refl
+deep-not kind.Device d h = refl
+
 -- ---- the check passes on a well-formed volume, with a work buffer that is long enough
+
+-- it is reached
+pub check-reached : (K : ℕ) (I W : List ℕ) → WellFormed K I → markLong (geoAt K I) ≤ length W → checkCall K I (length W) ≡ 0
+unfolding checkCall
+check-reached K I W w long = first-of-tail _ _ (well-formed-opens K I w) ∙ first-of-one _ ∙ when-false 16 (le-ltb (length W) (markLong (geoAt K I)) long)
 
 module _ (K : ℕ) (I W : List ℕ) (b : Bytes I) (w : WellFormed K I) (long : markLong (geoAt K I) ≤ length W) where
   pub check-passes : checkRefusal K I (length W) ≡ 0
-  unfolding checkRefusal checkCall
-  check-passes =
-      first-of-tail _ _ (first-of-tail _ _ (well-formed-opens K I w) ∙ first-of-one _ ∙ when-false 16 (le-ltb (length W) (markLong (geoAt K I)) long))
-      ∙ first-of-one _ ∙ when-false 17 (ap not (whole-complete K I b w))
+  unfolding checkRefusal
+  check-passes = first-of-tail _ _ (check-reached K I W w long) ∙ first-of-one _ ∙ when-false 17 (ap not (whole-complete K I b w))
 
   -- ---- write
 
@@ -119,93 +139,131 @@ module _ (K : ℕ) (I W : List ℕ) (b : Bytes I) (w : WellFormed K I) (long : m
           λ n. write-says ∙ refused-then (targetOf (geoAt K I) I h (length buf)) (λ x. length buf) 9 (r .1 n),
         )
 
-  -- ---- create_file
+  -- ---- create and delete
 
-  module _ (cwd p : List ℕ) (good : badPath cwd p ≡ false) (now : ℕ) (o : OpenOut) (J Z : List ℕ) (c : CreatesFile K I W cwd p now o J Z) where
-    abbrev here : Reply Site
-    here = siteOf (geoAt K I) I kind.File (realPath cwd p)
-
-    change-passes : changeCall K I (length W) cwd p ≡ 0
+  module _ (cwd p : List ℕ) (good : badPath cwd p ≡ false) where
+    pub change-passes : changeCall K I (length W) cwd p ≡ 0
     unfolding changeCall
     change-passes = first-of-tail _ _ check-passes ∙ first-of-one _ ∙ when-false 4 good
 
-    reply-is : createReply kind.File K I (length W) cwd p ≡ createdOn (geoAt K I) I kind.File (realPath cwd p)
-    unfolding createReply
-    reply-is = sym (given-none (changeCall K I (length W) cwd p) (createdOn (geoAt K I) I kind.File (realPath cwd p)) change-passes)
+    -- a create of either kind
+    module _ (k : Kind) where
+      abbrev here : Reply Site
+      here = siteOf (geoAt K I) I k (realPath cwd p)
 
-    says-refused : (j : ℕ) → openSays o ≡ refused j → here ≡ refused j
-    unfolding createdOn freshOf
-    says-refused j e = then-refused here _ j (sym reply-is ∙ then-refused (createReply kind.File K I (length W) cwd p) _ j (sym (c .answer .answer) ∙ e))
+      abbrev reply : Reply Fresh
+      reply = createReply k K I (length W) cwd p
 
-    refused-says : (j : ℕ) → here ≡ refused j → openSays o ≡ refused j
-    unfolding createdOn freshOf
-    refused-says j e = c .answer .answer ∙ refused-then (createReply kind.File K I (length W) cwd p) _ j (reply-is ∙ refused-then here _ j e)
+      abbrev Full : Type 0
+      Full = CreateFull (geoAt K I) k maxDepth (wayOf cwd p) (lastOf cwd p) (w .tree)
 
-    abbrev tests : Some → ℕ
-    tests s = treeRefusal (geoAt K I) (freeBlocks (geoAt K I) maxDepth (w .tree)) kind.File (lastOf cwd p) s
+      abbrev Fits : Type 0
+      Fits = CreateFits (geoAt K I) k maxDepth (wayOf cwd p) (lastOf cwd p) (w .tree)
 
-    abbrev unnamed : ℕ
-    unnamed = when 8 (badName (lastOf cwd p))
+      reply-is : reply ≡ createdOn (geoAt K I) I k (realPath cwd p)
+      unfolding createReply
+      reply-is = sym (given-none (changeCall K I (length W) cwd p) (createdOn (geoAt K I) I k (realPath cwd p)) change-passes)
 
-    abbrev Full : Type 0
-    Full = CreateFull (geoAt K I) maxDepth (wayOf cwd p) (lastOf cwd p) (w .tree)
+      reply-refused : (j : ℕ) → reply ≡ refused j → here ≡ refused j
+      unfolding createdOn freshOf
+      reply-refused j e = then-refused here _ j (sym reply-is ∙ e)
 
-    site-at : (s : Some) → find maxDepth (wayOf cwd p) (w .tree) ≡ some s → (x : Site) × (here ≡ given unnamed (given (tests s) (accepted x)))
-    site-at s f = site-answer (geoAt K I) I (w .tree) (volume-at K I w) kind.File (realPath cwd p) s f
+      refused-reply : (j : ℕ) → here ≡ refused j → reply ≡ refused j
+      unfolding createdOn freshOf
+      refused-reply j e = reply-is ∙ refused-then here _ j e
 
-    name-passed : (j : ℕ) (r : Reply Site) → (j ≡ 8 → ⊥) → given unnamed r ≡ refused j → (badName (lastOf cwd p) ≡ false) × (r ≡ refused j)
-    name-passed j r n e = go (either (badName (lastOf cwd p))) (given-refused unnamed r j e)
-      where
-        go : (badName (lastOf cwd p) ≡ true) ⊎ (badName (lastOf cwd p) ≡ false) → ((1 ≤ unnamed) × (j ≡ unnamed)) ⊎ ((unnamed ≡ 0) × (r ≡ refused j)) → (badName (lastOf cwd p) ≡ false) × (r ≡ refused j)
-        go (inl b) (inl a) = absurd (n (a .1 ∙ when-true 8 b))
-        go (inl b) (inr a) = absurd (omega (arith, a .0, when-true 8 b))
-        go (inr b) (inl a) = absurd (omega (arith, a .0, when-false 8 b))
-        go (inr b) (inr a) = (b, a .1)
+      abbrev tests : Some → ℕ
+      tests s = treeRefusal (geoAt K I) (freeBlocks (geoAt K I) maxDepth (w .tree)) k (lastOf cwd p) s
 
-    full-from : (d : Option Some) → find maxDepth (wayOf cwd p) (w .tree) ≡ d → here ≡ refused 9 → Full
-    full-from none f e =
-        let a = site-none (geoAt K I) I (w .tree) (volume-at K I w) kind.File (realPath cwd p) f in
-        let q = name-passed 9 (refused (a .0)) (λ z. omega arith) (sym (a .2) ∙ e) in
-        absurd (other (a .0) (a .1) (q .1))
-      where
-        other : (j : ℕ) → (j ≡ 5) ⊎ (j ≡ 6) → _≡_ {A = Reply Site} (refused j) (refused 9) → ⊥
-        other j (inl x) z = let k : j ≡ 9 = cc in omega arith
-        other j (inr x) z = let k : j ≡ 9 = cc in omega arith
-    full-from (some s) f e =
-        let a = site-at s f in
-        let q = name-passed 9 (given (tests s) (accepted (a .0))) (λ z. omega arith) (sym (a .1) ∙ e) in
-        go (given-refused (tests s) (accepted (a .0)) 9 (q .1)) (a .0) (q .0)
-      where
-        go : ((1 ≤ tests s) × (9 ≡ tests s)) ⊎ ((tests s ≡ 0) × (accepted (site-at s f .0) ≡ refused 9)) → Site → badName (lastOf cwd p) ≡ false → Full
-        go (inl a) x b =
-            let q = tree-full (geoAt K I) (freeBlocks (geoAt K I) maxDepth (w .tree)) kind.File (lastOf cwd p) s .0 (sym (a .1)) in
-            record { named = b; vacant = record { dir = s; there = f; free = q .1 }; few = q .2 }
-        go (inr a) x b = absurd (not-accepted 9 _ (sym (a .1)))
+      abbrev unnamed : ℕ
+      unnamed = when 8 (badName (lastOf cwd p))
 
-    full-to : Full → here ≡ refused 9
-    full-to f =
-        let s = f .vacant .dir in
-        let a = site-at s (f .vacant .there) in
-        let t : tests s ≡ 9 = tree-full (geoAt K I) (freeBlocks (geoAt K I) maxDepth (w .tree)) kind.File (lastOf cwd p) s .1 (refl, f .vacant .free, f .few) in
-        a .1 ∙ sym (given-none unnamed (given (tests s) (accepted (a .0))) (when-false 8 (f .named))) ∙ nine (tests s) (a .0) t
-      where
-        nine : (k : ℕ) (x : Site) → k ≡ 9 → given k (accepted x) ≡ refused 9
-        nine k x e = ap (λ (j : ℕ). given j (accepted x)) e ∙ (unfold given in refl)
+      site-at : (s : Some) → find maxDepth (wayOf cwd p) (w .tree) ≡ some s → (x : Site) × (here ≡ given unnamed (given (tests s) (accepted x)))
+      site-at s f = site-answer (geoAt K I) I (w .tree) (volume-at K I w) k (realPath cwd p) s f
 
-    -- "no room" exactly where it has none of 8, 5, 6, 7 and fewer blocks are free in reach than it adds.
-    pub create-full : (openSays o ≡ refused 9) ↔ CreateFull (geoAt K I) maxDepth (wayOf cwd p) (lastOf cwd p) (w .tree)
-    create-full = (λ e. full-from (find maxDepth (wayOf cwd p) (w .tree)) refl (says-refused 9 e), λ f. refused-says 9 (full-to f))
+      name-passed : (j : ℕ) (r : Reply Site) → (j ≡ 8 → ⊥) → given unnamed r ≡ refused j → (badName (lastOf cwd p) ≡ false) × (r ≡ refused j)
+      name-passed j r n e = go (either (badName (lastOf cwd p))) (given-refused unnamed r j e)
+        where
+          go : (badName (lastOf cwd p) ≡ true) ⊎ (badName (lastOf cwd p) ≡ false) → ((1 ≤ unnamed) × (j ≡ unnamed)) ⊎ ((unnamed ≡ 0) × (r ≡ refused j)) → (badName (lastOf cwd p) ≡ false) × (r ≡ refused j)
+          go (inl b) (inl a) = absurd (n (a .1 ∙ when-true 8 b))
+          go (inl b) (inr a) = absurd (omega (arith, a .0, when-true 8 b))
+          go (inr b) (inl a) = absurd (omega (arith, a .0, when-false 8 b))
+          go (inr b) (inr a) = (b, a .1)
 
-    -- A create is accepted where it has none of these and there is room: always refusing is wrong.
-    pub create-succeeds : CreateFits (geoAt K I) maxDepth (wayOf cwd p) (lastOf cwd p) (w .tree) → o .answer ≡ answer.Success
-    unfolding createdOn freshOf treeRefusal
-    create-succeeds f =
-        let s = f .vacant .dir in
-        let a = site-at s (f .vacant .there) in
-        let t : tests s ≡ 0 = passes 15 _ refl ∙ passes 7 _ (f .vacant .free) ∙ passes 9 [] (le-ltb _ _ (f .enough)) ∙ first-of-none in
-        let r : here ≡ accepted (a .0)
-        = a .1 ∙ sym (given-none unnamed (given (tests s) (accepted (a .0))) (when-false 8 (f .named))) ∙ sym (given-none (tests s) (accepted (a .0)) t) in
-        on-success (o .answer) (o .handle) _ (c .answer .answer ∙ accepted-then (createReply kind.File K I (length W) cwd p) _ _ (reply-is ∙ accepted-then here _ (a .0) r))
+      full-from : (d : Option Some) → find maxDepth (wayOf cwd p) (w .tree) ≡ d → here ≡ refused 9 → Full
+      full-from none f e =
+          let a = site-none (geoAt K I) I (w .tree) (volume-at K I w) k (realPath cwd p) f in
+          let q = name-passed 9 (refused (a .0)) (λ z. omega arith) (sym (a .2) ∙ e) in
+          absurd (other (a .0) (a .1) (q .1))
+        where
+          other : (j : ℕ) → (j ≡ 5) ⊎ (j ≡ 6) → _≡_ {A = Reply Site} (refused j) (refused 9) → ⊥
+          other j (inl x) z = let k : j ≡ 9 = cc in omega arith
+          other j (inr x) z = let k : j ≡ 9 = cc in omega arith
+      full-from (some s) f e =
+          let a = site-at s f in
+          let q = name-passed 9 (given (tests s) (accepted (a .0))) (λ z. omega arith) (sym (a .1) ∙ e) in
+          go (given-refused (tests s) (accepted (a .0)) 9 (q .1)) (a .0) (q .0)
+        where
+          go : ((1 ≤ tests s) × (9 ≡ tests s)) ⊎ ((tests s ≡ 0) × (accepted (site-at s f .0) ≡ refused 9)) → Site → badName (lastOf cwd p) ≡ false → Full
+          go (inl a) x b =
+              let q = tree-full (geoAt K I) (freeBlocks (geoAt K I) maxDepth (w .tree)) k (lastOf cwd p) s .0 (sym (a .1)) in
+              record { may = record { named = b; vacant = record { dir = s; there = f; free = q .1 }; shallow = not-deep k (s .0) (q .0) }; few = q .2 }
+          go (inr a) x b = absurd (not-accepted 9 _ (sym (a .1)))
+
+      full-to : Full → here ≡ refused 9
+      full-to f =
+          let m = f .may in
+          let s = m .vacant .dir in
+          let a = site-at s (m .vacant .there) in
+          let t : tests s ≡ 9
+          = tree-full (geoAt K I) (freeBlocks (geoAt K I) maxDepth (w .tree)) k (lastOf cwd p) s .1 (deep-not k (s .0) (m .shallow), m .vacant .free, f .few) in
+          a .1 ∙ sym (given-none unnamed (given (tests s) (accepted (a .0))) (when-false 8 (m .named))) ∙ nine (tests s) (a .0) t
+        where
+          nine : (k : ℕ) (x : Site) → k ≡ 9 → given k (accepted x) ≡ refused 9
+          nine k x e = ap (λ (j : ℕ). given j (accepted x)) e ∙ (unfold given in refl)
+
+      -- "no room" exactly where it has none of 8, 5, 6, 15, 7 and fewer blocks are free in reach than it adds;
+      reply-full : (reply ≡ refused 9) ↔ Full
+      reply-full = (λ e. full-from (find maxDepth (wayOf cwd p) (w .tree)) refl (reply-refused 9 e), λ f. refused-reply 9 (full-to f))
+
+      -- where it has none of these and there is room, it is accepted.
+      reply-fits : Fits → (x : Fresh) × (reply ≡ accepted x)
+      unfolding createdOn freshOf treeRefusal
+      reply-fits f =
+          let m = f .may in
+          let s = m .vacant .dir in
+          let a = site-at s (m .vacant .there) in
+          let t : tests s ≡ 0 = passes 15 _ (deep-not k (s .0) (m .shallow)) ∙ passes 7 _ (m .vacant .free) ∙ passes 9 [] (le-ltb _ _ (f .enough)) ∙ first-of-none in
+          let r : here ≡ accepted (a .0)
+          = a .1 ∙ sym (given-none unnamed (given (tests s) (accepted (a .0))) (when-false 8 (m .named))) ∙ sym (given-none (tests s) (accepted (a .0)) t) in
+          (_, reply-is ∙ accepted-then here _ (a .0) r)
+
+    module _ (now : ℕ) (o : OpenOut) (J Z : List ℕ) (c : CreatesFile K I W cwd p now o J Z) where
+      pub create-full : (openSays o ≡ refused 9) ↔ CreateFull (geoAt K I) kind.File maxDepth (wayOf cwd p) (lastOf cwd p) (w .tree)
+      create-full =
+          let r = reply-full kind.File in (
+            λ e. r .0 (then-refused (createReply kind.File K I (length W) cwd p) _ 9 (sym (c .answer .answer) ∙ e)),
+            λ f. c .answer .answer ∙ refused-then (createReply kind.File K I (length W) cwd p) _ 9 (r .1 f),
+          )
+
+      -- Always refusing is wrong.
+      pub create-succeeds : CreateFits (geoAt K I) kind.File maxDepth (wayOf cwd p) (lastOf cwd p) (w .tree) → o .answer ≡ answer.Success
+      create-succeeds f =
+          let r = reply-fits kind.File f in
+          on-success (o .answer) (o .handle) _ (c .answer .answer ∙ accepted-then (createReply kind.File K I (length W) cwd p) _ (r .0) (r .1))
+
+    module _ (now : ℕ) (q : Answer) (J Z : List ℕ) (c : CreatesDir K I W cwd p now q J Z) where
+      pub create-dir-full : (says q ≡ refused 9) ↔ CreateFull (geoAt K I) kind.Dir maxDepth (wayOf cwd p) (lastOf cwd p) (w .tree)
+      create-dir-full =
+          let r = reply-full kind.Dir in (
+            λ e. r .0 (then-refused (createReply kind.Dir K I (length W) cwd p) (λ x. tt) 9 (sym (c .answer) ∙ e)),
+            λ f. c .answer ∙ refused-then (createReply kind.Dir K I (length W) cwd p) (λ x. tt) 9 (r .1 f),
+          )
+
+      pub create-dir-succeeds : CreateFits (geoAt K I) kind.Dir maxDepth (wayOf cwd p) (lastOf cwd p) (w .tree) → q ≡ answer.Success
+      create-dir-succeeds f =
+          let r = reply-fits kind.Dir f in
+          says-success q (c .answer ∙ accepted-then (createReply kind.Dir K I (length W) cwd p) (λ x. tt) (r .0) (r .1))
 
 -- ---- "the accepted write and read": what is written is read
 
@@ -241,25 +299,3 @@ module _ (K : ℕ) (I W : List ℕ) (h : Handle) (buf : List ℕ) (now : ℕ) (o
     where
       one : (g j : ℕ × ℕ × List Cell) → some g ≡ some j → g ≡ j
       one g j e = cc
-
--- ---- "A used count is never invented"
-
--- W5, of any well-formed volume, and so after every accepted call (create-file-well, create-dir-well, delete-well, write-well of `on_tree`, and format):
--- the used count is D and the number of set bits.
-pub used-true : (K : ℕ) (J : List ℕ) → WellFormed K J → usedCount (geoAt K J) J ≡ dataAt (geoAt K J) + setBits J (geoAt K J)
-used-true K J w = used-set (geoAt K J) J maxDepth (w .tree) (volume-at K J w)
-
--- It is W5 again after each accepted call.
-module _ (K : ℕ) (I W : List ℕ) (now : ℕ) (J Z : List ℕ) (b : Bytes I) (clock : now < 2 ^ 64) where
-  pub create-file-used : (cwd p : List ℕ) (o : OpenOut) → CreatesFile K I W cwd p now o J Z → o .answer ≡ answer.Success → usedCount (geoAt K J) J ≡ dataAt (geoAt K J) + setBits J (geoAt K J)
-  create-file-used cwd p o c e = used-true K J (create-file-well K I W cwd p now J Z o c b clock e)
-
-  pub create-dir-used : (cwd p : List ℕ) (r : Answer) → CreatesDir K I W cwd p now r J Z → r ≡ answer.Success → usedCount (geoAt K J) J ≡ dataAt (geoAt K J) + setBits J (geoAt K J)
-  create-dir-used cwd p r c e = used-true K J (create-dir-well K I W cwd p now J Z r c b clock e)
-
-  pub delete-used : (cwd p : List ℕ) (r : Answer) → Deletes K I W cwd p now r J Z → r ≡ answer.Success → usedCount (geoAt K J) J ≡ dataAt (geoAt K J) + setBits J (geoAt K J)
-  delete-used cwd p r c e = used-true K J (delete-well K I W cwd p now J Z r c b clock e)
-
-  pub write-used : (h : Handle) (buf : List ℕ) (o : WriteOut) (k : ℕ) → Writes K I W h buf now o J Z → o .answer ≡ counted.Bytes k
-      → usedCount (geoAt K J) J ≡ dataAt (geoAt K J) + setBits J (geoAt K J)
-  write-used h buf o k c e = used-true K J (write-well K I W h buf now o J Z c k b clock e)

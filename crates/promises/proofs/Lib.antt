@@ -1,9 +1,16 @@
 pub mod Answered
+pub mod Lookups
+pub mod Others
 pub mod Files
 pub mod Once
 pub mod Path
 pub mod Counter
 pub mod Honest
+pub mod Exact
+pub mod Well
+pub mod Reopened
 pub mod Done
+pub mod Made
 pub mod Gone
+pub mod Kept
 pub mod Promises

@@ -51,7 +51,7 @@ module _ (d a : ℕ) (p : List Name) (t : Tree d) (s : DirAt d a p t) where
   edit-there : (g : ℕ → ℕ) (f : Edit) → blocksAt (f (s .dir .0) (s .dir .1)) ≡ blocksAt (s .dir .1) → DirAt d a p (edit d p g f t)
   edit-there g f e = record { dir = (s .dir .0, f (s .dir .0) (s .dir .1)); there = find-edit d p g f t (s .dir) (s .there); starts = e ∙ s .starts }
 
-  created-there : (cap : ℕ) (n : Name) (now w z : ℕ) (cs : List Cell) → Packed (s .dir .1) → DirAt d a p (created d cap p n now w z cs t)
+  pub created-there : (cap : ℕ) (n : Name) (now w z : ℕ) (cs : List Cell) → Packed (s .dir .1) → DirAt d a p (created d cap p n now w z cs t)
   unfolding created
   created-there cap n now w z cs k = edit-there (λ _. now) (λ e bs. insert cap w (fileEntry n now z cs) bs) (insert-at cap w (fileEntry n now z cs) (s .dir .1) k)
 

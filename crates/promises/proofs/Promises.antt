@@ -1,28 +1,66 @@
 -- Every promise is kept.
-use Rattle.promises.specs.Promises.{RoomIsExact, WorkIsDone, UsedIsTrue, PathIsRestored, CounterIsSafe}
+use Rattle.promises.specs.Promises.{RoomIsExact, RefusalIsExact, WorkIsDone, StaysWell, UsedIsTrue, PathIsRestored, OthersKept, CounterIsSafe}
 use Rattle.promises.proofs.Path.{calls-well, calls-restore}
-use Rattle.promises.proofs.Counter.{others-kept, other-bytes-kept, stale-kept, stale-answer, current-again}
-use Rattle.promises.proofs.Honest.{write-succeeds, write-full, create-succeeds, create-full, write-then-read, create-file-used, create-dir-used, delete-used, write-used}
-use Rattle.promises.proofs.Done.{create-changes, write-leaves}
+use Rattle.promises.proofs.Counter.{stale-kept, stale-answer, current-again}
+use Rattle.promises.proofs.Kept.{write-others, create-file-others, create-dir-others, delete-others}
+use Rattle.promises.proofs.Honest.{write-succeeds, write-full, create-succeeds, create-full, create-dir-succeeds, create-dir-full, write-then-read}
+use Rattle.promises.proofs.Exact.{delete-succeeds, delete-not-empty, delete-not-found, open-succeeds, open-not-found, info-not-found}
+use Rattle.promises.proofs.Well.{format-well, file-well, dir-well, deleted-well, written-well, check-well, format-used, create-file-used, create-dir-used, delete-used, write-used}
+use Rattle.promises.proofs.Reopened.{open-then-read}
+use Rattle.promises.proofs.Done.{write-leaves}
+use Rattle.promises.proofs.Made.{create-file-leaves, create-dir-leaves, create-changes}
 use Rattle.promises.proofs.Gone.{delete-leaves}
 
 -- Demand 1 is `one-outcome` and `refusal-keeps`, of Once.
 
 -- Demand 2.
 pub room-is-exact : RoomIsExact
-room-is-exact = record { write-succeeds = write-succeeds; write-full = write-full; create-succeeds = create-succeeds; create-full = create-full }
+room-is-exact =
+    record {
+      write-succeeds = write-succeeds;
+      write-full = write-full;
+      create-succeeds = create-succeeds;
+      create-full = create-full;
+      create-dir-succeeds = create-dir-succeeds;
+      create-dir-full = create-dir-full;
+    }
+
+pub refusal-is-exact : RefusalIsExact
+refusal-is-exact =
+    record {
+      delete-succeeds = delete-succeeds;
+      delete-not-empty = delete-not-empty;
+      delete-not-found = delete-not-found;
+      open-succeeds = open-succeeds;
+      open-not-found = open-not-found;
+      info-not-found = info-not-found;
+    }
 
 pub work-is-done : WorkIsDone
-work-is-done = record { write-then-read = write-then-read; write-leaves = write-leaves; create-changes = create-changes; delete-leaves = delete-leaves }
+work-is-done =
+    record {
+      write-then-read = write-then-read;
+      open-then-read = open-then-read;
+      write-leaves = write-leaves;
+      create-file-leaves = create-file-leaves;
+      create-dir-leaves = create-dir-leaves;
+      create-changes = create-changes;
+      delete-leaves = delete-leaves;
+    }
+
+pub stays-well : StaysWell
+stays-well = record { format = format-well; create-file = file-well; create-dir = dir-well; delete = deleted-well; write = written-well; check = check-well }
 
 pub used-is-true : UsedIsTrue
-used-is-true = record { create-file = create-file-used; create-dir = create-dir-used; delete = delete-used; write = write-used }
+used-is-true = record { format = format-used; create-file = create-file-used; create-dir = create-dir-used; delete = delete-used; write = write-used }
 
 -- Demand 3.
 pub path-is-restored : PathIsRestored
 path-is-restored = record { well = calls-well; restored = calls-restore }
 
 -- The counter's safety.
+pub others-kept : OthersKept
+others-kept = record { write = write-others; create-file = create-file-others; create-dir = create-dir-others; delete = delete-others }
+
 pub counter-is-safe : CounterIsSafe
-counter-is-safe =
-    record { others-kept = others-kept; other-bytes-kept = other-bytes-kept; stale-kept = stale-kept; stale-answer = stale-answer; current-again = current-again }
+counter-is-safe = record { stale-kept = stale-kept; stale-answer = stale-answer; current-again = current-again }
