@@ -1,0 +1,27 @@
+use Rattle.mfs_c.proofs.Laws.{usage-refused, usage-told}
+use borrow.Author.Needs.{needs}
+use Rattle.mfs_c.proofs.mfs_c_usage.Statement.{statement}
+use Rattle.mfs_c.proofs.mfs_c_usage.Tie as tie
+
+usage-requires : tie.Need-usage-requires
+usage-requires c κs = search needs
+
+enum-known-space : tie.Need-enum-known-space
+enum-known-space c = search needs
+
+code-requires : tie.Need-code-requires
+code-requires c κs = search needs
+
+enum-known-space-2 : tie.Need-enum-known-space-2
+enum-known-space-2 c = search needs
+
+returns : tie.Need-returns
+returns c = search usage-refused
+
+returns-2 : tie.Need-returns-2
+returns-2 c = search usage-told
+
+pub mfs-c-usage-spec : {M : Type 1} → statement M
+mfs-c-usage-spec =
+    tie.close
+    (tie.spec usage-requires enum-known-space code-requires enum-known-space-2 returns returns-2)
