@@ -220,17 +220,19 @@ pub extern "C" fn mfs_c_read(
 ) -> u32
     ensures { λ c. ⌜ ReadsC k (now (img .entry)) (now (number .entry)) (now (name .entry)) len (now (buf .entry)) (now (bytes .entry)) c (now (number .exit)) (now (buf .exit)) (now (bytes .exit)) ⌝ }
 {
-    let out = mfs::read(img, k, handle_of(number, name, len), buf);
+    let given = handle_of(number, name, len);
+    let out = mfs::read(img, k, given, buf);
     let answer = out.answer;
-    let h = out.handle;
-    give_count(answer, h, number, bytes)
+    let moved = out.handle;
+    give_count(answer, moved, number, bytes)
 }
 
 // Moves the handle's position.
 fn seek(number: &mut [u32; 4], name: &[u8; 255], len: usize, from: SeekFrom) -> u32
     ensures { λ c. ⌜ SeeksC (now (number .entry)) (now (name .entry)) len from c (now (number .exit)) ⌝ }
 {
-    let out = mfs::seek(handle_of(number, name, len), from);
+    let given = handle_of(number, name, len);
+    let out = mfs::seek(given, from);
     let answer = out.answer;
     match answer {
         Outcome::Refused(r) => code(r),
@@ -349,8 +351,9 @@ pub extern "C" fn mfs_c_write(
 ) -> u32
     ensures { λ c. ⌜ WritesC k (now (img .entry)) (now (work .entry)) (now (number .entry)) (now (name .entry)) len (now (buf .entry)) time (now (bytes .entry)) c (now (img .exit)) (now (work .exit)) (now (number .exit)) (now (bytes .exit)) ⌝ }
 {
-    let out = mfs::write(img, k, handle_of(number, name, len), buf, time, work);
+    let given = handle_of(number, name, len);
+    let out = mfs::write(img, k, given, buf, time, work);
     let answer = out.answer;
-    let h = out.handle;
-    give_count(answer, h, number, bytes)
+    let grown = out.handle;
+    give_count(answer, grown, number, bytes)
 }
