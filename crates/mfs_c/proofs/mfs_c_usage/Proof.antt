@@ -16,10 +16,14 @@ enum-known-space-2 : tie.Need-enum-known-space-2
 enum-known-space-2 c = search needs
 
 returns : tie.Need-returns
-returns c = search usage-refused
+returns c =
+    let call = c .before .before .before .before .usage in
+    usage-refused _ _ _ _ _ (call .result) (call .ensures) _ _ (c .before .before .space .given .1) (c .code .ensures)
 
 returns-2 : tie.Need-returns-2
-returns-2 c = search usage-told
+returns-2 c =
+    let call = c .before .before .before .usage in
+    usage-told _ _ _ _ _ (call .result) (call .ensures) _ _ _ (c .before .space2 .given .1)
 
 pub mfs-c-usage-spec : {M : Type 1} → statement M
 mfs-c-usage-spec =
