@@ -1,23 +1,35 @@
 // The public calls for programs in C and Rust, on numbers, byte slices and arrays of fixed size. Each answers 0, or 01's number of
 // its refusal; a refusal leaves every out parameter as it was. include/mfs.h declares them.
-// May use: mfs and what it gives out.
+// May use: mfs and what it gives out; the proofs also on_tree.
 use block::Addr;
-use dir_entry::Kind;
 use file::Counted;
 use file::Handle;
 use file::Outcome;
 use file::SeekFrom;
 use mfs::Answer;
 use mfs::Listing;
+use mfs::OpenOut;
 use mfs::Space;
 use model::Refusal;
+ghost use mathlib.Core.Path.{_≡_};
+ghost use Rattle.model.specs.Answers.{refusalNumber};
+ghost use Rattle.file.specs.declared.SeekFrom.the-variants as from;
+ghost use Rattle.file.specs.Written.{countedSays};
+ghost use Rattle.mfs.specs.Says.{says};
+ghost use Rattle.mfs.specs.Reading.{openSays};
+ghost use Rattle.mfs_c.specs.Exports.{told, handleOf, numbersOf, FormatsC, UsesC, ChecksC, HandleOut, OpensC, InformsC, ListsC, CountOut, ReadsC, SeeksC, CreatesFileC, CreatesDirC, DeletesC, WritesC};
 
 // The number of a refusal, as the exports answer it.
-fn code(r: Refusal) -> u32 {
+fn code(r: Refusal) -> u32
+    ensures { λ c. ⌜ c ≡ refusalNumber r ⌝ }
+{
     r.number() as u32
 }
 
-fn code_of(a: Answer) -> u32 {
+// The number of an answer without values: 0 is success.
+fn code_of(a: Answer) -> u32
+    ensures { λ c. ⌜ c ≡ told (says a) ⌝ }
+{
     match a {
         Answer::Success => 0,
         Answer::Refused(r) => code(r),
@@ -25,7 +37,9 @@ fn code_of(a: Answer) -> u32 {
 }
 
 // The handle of four numbers (the directory's first address, the file's, size, position) and a name of len bytes.
-fn handle_of(number: &[u32; 4], name: &[u8; 255], len: usize) -> Handle {
+fn handle_of(number: &[u32; 4], name: &[u8; 255], len: usize) -> Handle
+    ensures { λ h. ⌜ h ≡ handleOf (now (number .entry)) (now (name .entry)) len ⌝ }
+{
     Handle {
         dir: Addr(number[0]),
         name: *name,
@@ -37,57 +51,18 @@ fn handle_of(number: &[u32; 4], name: &[u8; 255], len: usize) -> Handle {
 }
 
 // The four numbers of a handle.
-fn numbers_of(h: Handle) -> [u32; 4] {
+fn numbers_of(h: Handle) -> [u32; 4]
+    ensures { λ r. ⌜ r ≡ numbersOf h ⌝ }
+{
     let d = h.dir;
     let a = h.addr;
     [d.0, a.0, h.size, h.position]
 }
 
-// Formats the whole image. Refusals: 1, 3.
-#[no_mangle]
-pub extern "C" fn mfs_c_format(img: &mut [u8], k: u32) -> u32 {
-    code_of(mfs::format(img, k))
-}
-
-// Bytes of the volume, of its used blocks, and the rest. Refusals: 1, 2, 3, 17.
-#[no_mangle]
-pub extern "C" fn mfs_c_usage(
-    img: &[u8],
-    k: u32,
-    size: &mut u64,
-    used: &mut u64,
-    free: &mut u64,
-) -> u32 {
-    let space = mfs::usage(img, k);
-    match space {
-        Space::Refused(r) => code(r),
-        Space::Bytes { size: s, used: u, free: f } => {
-            *size = s;
-            *used = u;
-            *free = f;
-            0
-        }
-    }
-}
-
-// The whole check. Refusals: 1, 2, 3, 16, 17.
-#[no_mangle]
-pub extern "C" fn mfs_c_check(img: &[u8], k: u32, work: &mut [u8]) -> u32 {
-    code_of(mfs::check(img, k, work))
-}
-
-// Opens the file at a path. Refusals: 1, 2, 3, 4, 5, 6, 17, 10.
-#[no_mangle]
-pub extern "C" fn mfs_c_open(
-    img: &[u8],
-    k: u32,
-    cwd: &[u8],
-    path: &[u8],
-    number: &mut [u32; 4],
-    name: &mut [u8; 255],
-    len: &mut usize,
-) -> u32 {
-    let out = mfs::open(img, k, cwd, path);
+// Hands over the handle of an open or a create: its numbers, its name and the name's length; nothing where the call is refused.
+fn give_handle(out: OpenOut, number: &mut [u32; 4], name: &mut [u8; 255], len: &mut usize) -> u32
+    ensures { λ c. ⌜ HandleOut (openSays out) (now (number .entry)) (now (name .entry)) (now (len .entry)) c (now (number .exit)) (now (name .exit)) (now (len .exit)) ⌝ }
+{
     let answer = out.answer;
     match answer {
         Answer::Refused(r) => code(r),
@@ -102,6 +77,79 @@ pub extern "C" fn mfs_c_open(
     }
 }
 
+// Hands over the byte count and the moved handle's numbers; nothing where the call is refused.
+fn give_count(answer: Counted, h: Handle, number: &mut [u32; 4], bytes: &mut usize) -> u32
+    ensures { λ c. ⌜ CountOut (countedSays answer) h (now (number .entry)) (now (bytes .entry)) c (now (number .exit)) (now (bytes .exit)) ⌝ }
+{
+    match answer {
+        Counted::Refused(r) => code(r),
+        Counted::Bytes(b) => {
+            *number = numbers_of(h);
+            *bytes = b;
+            0
+        }
+    }
+}
+
+// Formats the whole image. Refusals: 1, 3.
+#[no_mangle]
+pub extern "C" fn mfs_c_format(img: &mut [u8], k: u32) -> u32
+    ensures { λ c. ⌜ FormatsC k (now (img .entry)) c (now (img .exit)) ⌝ }
+{
+    code_of(mfs::format(img, k))
+}
+
+// Bytes of the volume, of its used blocks, and the rest. Refusals: 1, 2, 3, 17.
+#[no_mangle]
+pub extern "C" fn mfs_c_usage(
+    img: &[u8],
+    k: u32,
+    size: &mut u64,
+    used: &mut u64,
+    free: &mut u64,
+) -> u32
+    ensures { λ c. ⌜ UsesC k (now (img .entry)) (now (size .entry)) (now (used .entry)) (now (free .entry)) c (now (size .exit)) (now (used .exit)) (now (free .exit)) ⌝ }
+{
+    let space = mfs::usage(img, k);
+    match space {
+        Space::Refused(r) => code(r),
+        Space::Bytes {
+            size: s,
+            used: u,
+            free: f,
+        } => {
+            *size = s;
+            *used = u;
+            *free = f;
+            0
+        }
+    }
+}
+
+// The whole check. Refusals: 1, 2, 3, 16, 17.
+#[no_mangle]
+pub extern "C" fn mfs_c_check(img: &[u8], k: u32, work: &mut [u8]) -> u32
+    ensures { λ c. ⌜ ChecksC k (now (img .entry)) (now (work .entry)) c (now (work .exit)) ⌝ }
+{
+    code_of(mfs::check(img, k, work))
+}
+
+// Opens the file at a path. Refusals: 1, 2, 3, 4, 5, 6, 17, 10.
+#[no_mangle]
+pub extern "C" fn mfs_c_open(
+    img: &[u8],
+    k: u32,
+    cwd: &[u8],
+    path: &[u8],
+    number: &mut [u32; 4],
+    name: &mut [u8; 255],
+    len: &mut usize,
+) -> u32
+    ensures { λ c. ⌜ OpensC k (now (img .entry)) (now (cwd .entry)) (now (path .entry)) (now (number .entry)) (now (name .entry)) (now (len .entry)) c (now (number .exit)) (now (name .exit)) (now (len .exit)) ⌝ }
+{
+    give_handle(mfs::open(img, k, cwd, path), number, name, len)
+}
+
 // Kind (0 directory, 1 file, 2 device), size, time and name of what stands at a path. Refusals: 1, 2, 3, 4, 5, 6, 17.
 #[no_mangle]
 pub extern "C" fn mfs_c_info(
@@ -114,7 +162,9 @@ pub extern "C" fn mfs_c_info(
     time: &mut u64,
     name: &mut [u8; 255],
     len: &mut usize,
-) -> u32 {
+) -> u32
+    ensures { λ c. ⌜ InformsC k (now (img .entry)) (now (cwd .entry)) (now (path .entry)) (now (kind .entry)) (now (size .entry)) (now (time .entry)) (now (name .entry)) (now (len .entry)) c (now (kind .exit)) (now (size .exit)) (now (time .exit)) (now (name .exit)) (now (len .exit)) ⌝ }
+{
     let out = mfs::info(img, k, cwd, path);
     let answer = out.answer;
     match answer {
@@ -143,7 +193,9 @@ pub extern "C" fn mfs_c_list(
     buf: &mut [u8],
     bytes: &mut usize,
     next: &mut u32,
-) -> u32 {
+) -> u32
+    ensures { λ c. ⌜ ListsC k (now (img .entry)) (now (cwd .entry)) (now (path .entry)) i (now (buf .entry)) (now (bytes .entry)) (now (next .entry)) c (now (buf .exit)) (now (bytes .exit)) (now (next .exit)) ⌝ }
+{
     let listed = mfs::list(img, k, cwd, path, i, buf);
     match listed {
         Listing::Refused(r) => code(r),
@@ -165,23 +217,22 @@ pub extern "C" fn mfs_c_read(
     len: usize,
     buf: &mut [u8],
     bytes: &mut usize,
-) -> u32 {
-    let out = mfs::read(img, k, handle_of(number, name, len), buf);
+) -> u32
+    ensures { λ c. ⌜ ReadsC k (now (img .entry)) (now (number .entry)) (now (name .entry)) len (now (buf .entry)) (now (bytes .entry)) c (now (number .exit)) (now (buf .exit)) (now (bytes .exit)) ⌝ }
+{
+    let given = handle_of(number, name, len);
+    let out = mfs::read(img, k, given, buf);
     let answer = out.answer;
-    match answer {
-        Counted::Refused(r) => code(r),
-        Counted::Bytes(b) => {
-            let h = out.handle;
-            *number = numbers_of(h);
-            *bytes = b;
-            0
-        }
-    }
+    let moved = out.handle;
+    give_count(answer, moved, number, bytes)
 }
 
 // Moves the handle's position.
-fn seek(number: &mut [u32; 4], name: &[u8; 255], len: usize, from: SeekFrom) -> u32 {
-    let out = mfs::seek(handle_of(number, name, len), from);
+fn seek(number: &mut [u32; 4], name: &[u8; 255], len: usize, from: SeekFrom) -> u32
+    ensures { λ c. ⌜ SeeksC (now (number .entry)) (now (name .entry)) len from c (now (number .exit)) ⌝ }
+{
+    let given = handle_of(number, name, len);
+    let out = mfs::seek(given, from);
     let answer = out.answer;
     match answer {
         Outcome::Refused(r) => code(r),
@@ -200,7 +251,9 @@ pub extern "C" fn mfs_c_seek_start(
     name: &[u8; 255],
     len: usize,
     to: u32,
-) -> u32 {
+) -> u32
+    ensures { λ c. ⌜ SeeksC (now (number .entry)) (now (name .entry)) len (from.Start to) c (now (number .exit)) ⌝ }
+{
     seek(number, name, len, SeekFrom::Start(to))
 }
 
@@ -211,7 +264,9 @@ pub extern "C" fn mfs_c_seek_current(
     name: &[u8; 255],
     len: usize,
     by: i32,
-) -> u32 {
+) -> u32
+    ensures { λ c. ⌜ SeeksC (now (number .entry)) (now (name .entry)) len (from.Current by) c (now (number .exit)) ⌝ }
+{
     seek(number, name, len, SeekFrom::Current(by))
 }
 
@@ -222,7 +277,9 @@ pub extern "C" fn mfs_c_seek_end(
     name: &[u8; 255],
     len: usize,
     by: i32,
-) -> u32 {
+) -> u32
+    ensures { λ c. ⌜ SeeksC (now (number .entry)) (now (name .entry)) len (from.End by) c (now (number .exit)) ⌝ }
+{
     seek(number, name, len, SeekFrom::End(by))
 }
 
@@ -238,20 +295,15 @@ pub extern "C" fn mfs_c_create_file(
     number: &mut [u32; 4],
     name: &mut [u8; 255],
     len: &mut usize,
-) -> u32 {
-    let out = mfs::create_file(img, k, cwd, path, time, work);
-    let answer = out.answer;
-    match answer {
-        Answer::Refused(r) => code(r),
-        Answer::Success => {
-            let h = out.handle;
-            *number = numbers_of(h);
-            let n = h.name;
-            *name = n;
-            *len = h.len;
-            0
-        }
-    }
+) -> u32
+    ensures { λ c. ⌜ CreatesFileC k (now (img .entry)) (now (work .entry)) (now (cwd .entry)) (now (path .entry)) time (now (number .entry)) (now (name .entry)) (now (len .entry)) c (now (img .exit)) (now (work .exit)) (now (number .exit)) (now (name .exit)) (now (len .exit)) ⌝ }
+{
+    give_handle(
+        mfs::create_file(img, k, cwd, path, time, work),
+        number,
+        name,
+        len,
+    )
 }
 
 // Creates an empty directory at a path. Refusals: 1, 2, 3, 16, 17, 4, 8, 5, 6, 15, 7, 9.
@@ -263,7 +315,9 @@ pub extern "C" fn mfs_c_create_dir(
     path: &[u8],
     time: u64,
     work: &mut [u8],
-) -> u32 {
+) -> u32
+    ensures { λ c. ⌜ CreatesDirC k (now (img .entry)) (now (work .entry)) (now (cwd .entry)) (now (path .entry)) time c (now (img .exit)) (now (work .exit)) ⌝ }
+{
     code_of(mfs::create_dir(img, k, cwd, path, time, work))
 }
 
@@ -276,7 +330,9 @@ pub extern "C" fn mfs_c_delete(
     path: &[u8],
     time: u64,
     work: &mut [u8],
-) -> u32 {
+) -> u32
+    ensures { λ c. ⌜ DeletesC k (now (img .entry)) (now (work .entry)) (now (cwd .entry)) (now (path .entry)) time c (now (img .exit)) (now (work .exit)) ⌝ }
+{
     code_of(mfs::delete(img, k, cwd, path, time, work))
 }
 
@@ -292,16 +348,12 @@ pub extern "C" fn mfs_c_write(
     time: u64,
     work: &mut [u8],
     bytes: &mut usize,
-) -> u32 {
-    let out = mfs::write(img, k, handle_of(number, name, len), buf, time, work);
+) -> u32
+    ensures { λ c. ⌜ WritesC k (now (img .entry)) (now (work .entry)) (now (number .entry)) (now (name .entry)) len (now (buf .entry)) time (now (bytes .entry)) c (now (img .exit)) (now (work .exit)) (now (number .exit)) (now (bytes .exit)) ⌝ }
+{
+    let given = handle_of(number, name, len);
+    let out = mfs::write(img, k, given, buf, time, work);
     let answer = out.answer;
-    match answer {
-        Counted::Refused(r) => code(r),
-        Counted::Bytes(b) => {
-            let h = out.handle;
-            *number = numbers_of(h);
-            *bytes = b;
-            0
-        }
-    }
+    let grown = out.handle;
+    give_count(answer, grown, number, bytes)
 }
