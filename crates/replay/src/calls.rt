@@ -16,7 +16,7 @@ use mfs::Listing;
 use mfs::OpenOut;
 use mfs::Space;
 ghost use mathlib.Core.Path.{_≡_};
-ghost use Prim.Native.Nat.{_+_, _*_, _≤_, _<_};
+ghost use Prim.Native.Nat.{_<_};
 ghost use lib.ListN.{length};
 ghost use Rattle.replay.specs.Texts.{digestOf, Sown};
 

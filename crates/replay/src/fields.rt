@@ -3,7 +3,7 @@
 // cannot be read, and nothing can be read there: a line's fields are read one after the other, and only the last place is looked at.
 // May use: wire; io for its word on counts.
 ghost use mathlib.Core.Path.{_≡_};
-ghost use Prim.Native.Nat.{_+_, _-_, _*_, _≤_, _<_};
+ghost use Prim.Native.Nat.{_+_, _-_, _≤_, _<_};
 ghost use lib.ListN.{length};
 ghost use Rattle.io.specs.Counts.{Counts};
 ghost use Rattle.replay.specs.Texts.{ReadsNumber, ReadsBytes, hexOf, pairOf};
@@ -211,7 +211,7 @@ fn dot(line: &[u8], at: usize) -> Bytes
     no_bytes()
 }
 
-// The bytes at a place, into a buffer that has room for them.
+// The bytes at a place, into a buffer that has room for them. A field of nothing at all cannot be read.
 pub fn read_bytes(line: &[u8], at: usize, out: &mut [u8]) -> Bytes
     ensures { λ r. ⌜ Counts (r .len) (now (out .exit)) × ReadsBytes (now (line .entry)) at (r .len) (now (out .exit)) ⌝ }
 {
@@ -225,6 +225,9 @@ pub fn read_bytes(line: &[u8], at: usize, out: &mut [u8]) -> Bytes
     let mut i = at;
     while i < line.len() {
         if ends(line[i]) {
+            if i == at {
+                return no_bytes();
+            }
             return Bytes { len, next: i + 1 };
         }
         let b = pair(line, i);

@@ -23,10 +23,8 @@ mod calls;
 mod fields;
 
 use block::Addr;
-use calls::Turn;
 use file::Handle;
-ghost use Prim.Native.Nat.{_+_, _*_, _≤_, _<_};
-ghost use mathlib.Core.Path.{_≡_};
+ghost use Prim.Native.Nat.{_≤_, _<_};
 ghost use lib.ListN.{length};
 
 // What the lines so far leave: how many bytes the image has, its K, the handles, and whether the last line's answer is the list's.
@@ -37,6 +35,7 @@ struct State {
     same: bool,
 }
 
+// What a slot holds before anything is opened: a handle with no name, which is stale.
 fn no_handle() -> Handle {
     Handle {
         dir: Addr(0),
@@ -60,6 +59,7 @@ fn fresh(len: usize, k: u32) -> State {
 }
 
 impl State {
+    // The state with what is to be said of a line.
     fn told(mut self, same: bool) -> State {
         self.same = same;
         self
@@ -93,7 +93,7 @@ fn slot_call(img: &mut [u8], s: State, kind: u8, line: &[u8], at: usize) -> Stat
     t.told(turn.same)
 }
 
-// A line on the image's blocks, by its letter.
+// A line on the image, which is the blocks of the volume alone, by its letter.
 fn on_image(img: &mut [u8], s: State, kind: u8, line: &[u8], at: usize) -> State {
     match kind {
         b'o' | b'c' | b'r' | b's' | b'w' => slot_call(img, s, kind, line, at),
@@ -132,7 +132,7 @@ fn line_end(list: &[u8], at: usize) -> usize
     i
 }
 
-// 1 for a line that is a call.
+// 1 for a line that is a call; a line of no known kind counts as one.
 fn calls_of(kind: u8) -> u64
     ensures { λ r. ⌜ r ≤ 1 ⌝ }
 {
@@ -162,7 +162,7 @@ fn put_total(calls: u64, differ: u64) {
     io::write_all(1, b" differ\n");
 }
 
-// Line after line.
+// Line after line, counted from 1.
 fn replay(list: &[u8], img: &mut [u8]) {
     let mut s = fresh(0, 0);
     let mut lines: u64 = 0;
@@ -199,6 +199,7 @@ fn run(list: &mut [u8], img: &mut [u8]) {
     replay(&list[..n], img);
 }
 
+// A function that makes so long an array and lends it as a slice cannot be proved: the slices are made one call below.
 fn lend(list: &mut [u8; 524288], img: &mut [u8; 2201600]) {
     run(list, img);
 }

@@ -1,11 +1,10 @@
-use Rattle.replay.proofs.Laws.{digest-step, digest-done}
 use Prim.Native.Nat.{_-_, _≤_}
 use mathlib.Core.Path.{_≡_}
 use lib.ListN.{length}
 use native.Mathlib.Omega.{arith}
 use borrow.Author.Needs.{needs}
 use Rattle.replay.specs.Texts.{digestOf}
-use Rattle.replay.proofs.Laws.{digest-none, digest-more}
+use Rattle.replay.proofs.Laws.{digest-none, digest-step, digest-done}
 use Rattle.replay.proofs.calls.digest.Statement.{statement}
 use Rattle.replay.proofs.calls.digest.Tie as tie
 use Rattle.replay.proofs.calls.digest.Reads as reads

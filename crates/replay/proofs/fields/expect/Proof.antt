@@ -1,4 +1,4 @@
-use Rattle.replay.proofs.Laws.{number-same, number-unread}
+use Rattle.replay.proofs.Laws.{number-same}
 use borrow.Author.Needs.{needs}
 use Rattle.replay.proofs.fields.expect.Statement.{statement}
 use Rattle.replay.proofs.fields.expect.Tie as tie

@@ -1,10 +1,3 @@
-use Prim.Native.Nat.{_+_, _*_, _-_, _≤_}
-use mathlib.Core.Path.{_≡_}
-use lib.ListN.{length, length-set}
-use native.Mathlib.Omega.{arith}
-use borrow.Author.Needs.{needs}
-use Rattle.replay.specs.Texts.{ReadsBytes}
-use Rattle.replay.proofs.Laws.{BytesSofar, bytes-none, bytes-more, bytes-read, bytes-unread}
 use Rattle.replay.proofs.fields.read_bytes.Statement.{statement}
 use Rattle.replay.proofs.fields.read_bytes.Tie as tie
 use Rattle.replay.proofs.fields.read_bytes.Reads as reads
@@ -14,6 +7,11 @@ use Rattle.replay.proofs.fields.ends.Reads as ends-reads
 use Rattle.replay.proofs.fields.no_bytes.Reads as no-bytes-reads
 use Rattle.replay.proofs.fields.pair.Reads as pair-reads
 use Rattle.replay.proofs.fields.stands.Reads as stands-reads
+use Prim.Native.Nat.{_-_}
+use lib.ListN.{length}
+use native.Mathlib.Omega.{arith}
+use borrow.Author.Needs.{needs}
+use Rattle.replay.proofs.Laws.{BytesSofar, bytes-none, bytes-more, bytes-read, bytes-unread}
 
 abbrev Inv-loop : tie.InvT-loop
 Inv-loop line at out₀ len₀ i₀ out len i = BytesSofar line at out₀ out len i
@@ -55,9 +53,9 @@ shared-slice-read-ends c = search needs
 ends-requires : tie.Need-ends-requires Inv-loop μ-loop
 ends-requires c κs = search needs
 
--- src/fields.rt:203:39
-add-t14 : tie.Need-add-t14 Inv-loop μ-loop
-add-t14 c = search needs
+-- src/fields.rt:207:13
+no-bytes-requires-2 : tie.Need-no-bytes-requires-2 Inv-loop μ-loop
+no-bytes-requires-2 c κs = search needs
 
 -- src/fields.rt:203:13
 same-length : tie.Need-same-length Inv-loop μ-loop
@@ -65,15 +63,14 @@ same-length c = search needs
 
 -- src/fields.rt:203:13
 returns-3 : tie.Need-returns-3 Inv-loop μ-loop
-returns-3 c = search (bytes-read, needs)
+returns-3 c =
+    let d = c .before .before .before .before .before .before in
+    let a = d .before .before .before .before .before .before .args in
+    bytes-unread (a .line .now) (a .at) (d .loop .out) _ (c .no-bytes2 .ensures .0)
 
--- src/fields.rt:205:13
-pair-requires : tie.Need-pair-requires Inv-loop μ-loop
-pair-requires c κs = search needs
-
--- src/fields.rt:207:13
-no-bytes-requires-2 : tie.Need-no-bytes-requires-2 Inv-loop μ-loop
-no-bytes-requires-2 c κs = search needs
+-- src/fields.rt:231:39
+add-t15 : tie.Need-add-t15 Inv-loop μ-loop
+add-t15 c = search needs
 
 -- src/fields.rt:207:13
 same-length-2 : tie.Need-same-length-2 Inv-loop μ-loop
@@ -81,7 +78,11 @@ same-length-2 c = search needs
 
 -- src/fields.rt:207:13
 returns-4 : tie.Need-returns-4 Inv-loop μ-loop
-returns-4 c = search (bytes-unread, needs)
+returns-4 c = search (bytes-read, needs)
+
+-- src/fields.rt:205:13
+pair-requires : tie.Need-pair-requires Inv-loop μ-loop
+pair-requires c κs = search needs
 
 -- src/fields.rt:210:13
 no-bytes-requires-3 : tie.Need-no-bytes-requires-3 Inv-loop μ-loop
@@ -93,10 +94,22 @@ same-length-3 c = search needs
 
 -- src/fields.rt:210:13
 returns-5 : tie.Need-returns-5 Inv-loop μ-loop
-returns-5 c =
+returns-5 c = search (bytes-unread, needs)
+
+-- src/fields.rt:216:5
+no-bytes-requires-4 : tie.Need-no-bytes-requires-4 Inv-loop μ-loop
+no-bytes-requires-4 c κs = search needs
+
+-- src/fields.rt:190:1
+same-length-4 : tie.Need-same-length-4 Inv-loop μ-loop
+same-length-4 c = search needs
+
+-- src/fields.rt:190:1
+returns-6 : tie.Need-returns-6 Inv-loop μ-loop
+returns-6 c =
     let d = c .before .before .before .before .before .before .before .before in
     let a = d .before .before .before .before .before .before .args in
-    bytes-unread (a .line .now) (a .at) (d .loop .out) _ (c .no-bytes3 .ensures .0)
+    bytes-unread (a .line .now) (a .at) (d .loop .out) _ (c .no-bytes4 .ensures .0)
 
 -- src/fields.rt:212:20
 cast-out : tie.Need-cast-out Inv-loop μ-loop
@@ -122,17 +135,17 @@ loop-less c = search needs
 loop-again : tie.Need-loop-again Inv-loop μ-loop
 loop-again c = search (bytes-more, needs)
 
--- src/fields.rt:216:5
-no-bytes-requires-4 : tie.Need-no-bytes-requires-4 Inv-loop μ-loop
-no-bytes-requires-4 c κs = search needs
+-- src/fields.rt:244:5
+no-bytes-requires-5 : tie.Need-no-bytes-requires-5 Inv-loop μ-loop
+no-bytes-requires-5 c κs = search needs
 
--- src/fields.rt:190:1
-same-length-4 : tie.Need-same-length-4 Inv-loop μ-loop
-same-length-4 c = search needs
+-- src/fields.rt:215:1
+same-length-5 : tie.Need-same-length-5 Inv-loop μ-loop
+same-length-5 c = search needs
 
--- src/fields.rt:190:1
-returns-6 : tie.Need-returns-6 Inv-loop μ-loop
-returns-6 c = search (bytes-unread, needs)
+-- src/fields.rt:215:1
+returns-7 : tie.Need-returns-7 Inv-loop μ-loop
+returns-7 c = search (bytes-unread, needs)
 
 pub read-bytes-spec : {M : Type 1} → statement M
 read-bytes-spec =
@@ -148,22 +161,25 @@ read-bytes-spec =
     loop-holds
     shared-slice-read-ends
     ends-requires
-    add-t14
+    no-bytes-requires-2
     same-length
     returns-3
-    pair-requires
-    no-bytes-requires-2
+    add-t15
     same-length-2
     returns-4
+    pair-requires
     no-bytes-requires-3
     same-length-3
     returns-5
+    no-bytes-requires-4
+    same-length-4
+    returns-6
     cast-out
     slice-write-out
     add-len
     add-i
     loop-less
     loop-again
-    no-bytes-requires-4
-    same-length-4
-    returns-6)
+    no-bytes-requires-5
+    same-length-5
+    returns-7)
