@@ -1,6 +1,6 @@
 /*
- * A collector of meter readings on a volume in memory: one counter to a file, and a log. Prints each
- * call with its answer, and ends at the first answer that it does not expect.
+ * A collector of meter readings on a volume in memory: one counter to a file, and a log. Prints
+ * each call with its answer, and ends at the first answer that it does not expect.
  *
  * Written so that it is C99 and C++ at once. examples/run compiles and runs it as both.
  */
@@ -121,8 +121,8 @@ static void keep_a_log(const mfs_volume *volume)
     must("write stop;", mfs_write(volume, &other, "stop;", 5, 1700000180));
     must("seek to the start", mfs_seek_start(&other, 0));
     print_rest(volume, &other);
-    tell("write more than fits", mfs_write(volume, &other, more_than_fits, sizeof more_than_fits, 0),
-         MFS_NO_ROOM);
+    tell("write more than fits",
+         mfs_write(volume, &other, more_than_fits, sizeof more_than_fits, 0), MFS_NO_ROOM);
     tell("write nothing", mfs_write(volume, &other, "", 0, 0), MFS_EMPTY_WRITE);
     print_directory(volume, "/meters");
     must("delete log", mfs_delete(volume, "log", 1700000240));

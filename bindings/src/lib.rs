@@ -31,13 +31,12 @@
 //!   block: [`work_len`] says how many bytes are always enough. With n blocks in the volume and D the first of its data area,
 //!   ceil((n - D) / 8) bytes are used. They are zero after a call that reached the check, and untouched after one that was refused
 //!   before (1, 2, 3, 16). The bytes behind them are never touched.
-//! - A path that starts with `/` is a full path; another one is taken from the working directory, which must start with `/` then. Full
-//!   paths have up to 1,024 bytes of 0x20 to 0x7E. `.` and `..` are plain names. Slashes at the end are dropped, but not in a listing.
+//! - A path that starts with `/` is a full path; another one is taken from the working directory, which must start with `/` then. Its
+//!   bytes are 0x20 to 0x7E. `.` and `..` are plain names. Slashes at the end are dropped, but not in a listing.
 //! - `k` is the number of the superblock's block (8,192 in MOROS itself). Blocks below it and the one after it are never touched.
 //! - A time is the caller's number; it is stored and never looked at.
 //! - On a volume of fewer than 4,096 blocks nothing can be created ([`Refusal::NoRoom`]).
-//!
-//! Limits: images of 8,388,608 blocks, names of 255 bytes, files of 2,147,483,647 bytes, directories to depth 16.
+//! - The limits are [`IMAGE_BLOCKS`], [`NAME_LEN`], [`PATH_LEN`], [`FILE_LEN`] and [`DEPTH`].
 #![warn(missing_docs)]
 
 mod calls;
@@ -57,5 +56,13 @@ pub use volume::Volume;
 
 /// Bytes of a block.
 pub const BLOCK_SIZE: usize = 512;
+/// Blocks of the largest image: 4 GiB.
+pub const IMAGE_BLOCKS: usize = 8_388_608;
 /// Bytes of the longest name.
 pub const NAME_LEN: usize = 255;
+/// Bytes of the longest full path, working directory included.
+pub const PATH_LEN: usize = 1024;
+/// Bytes of the largest file.
+pub const FILE_LEN: u32 = 2_147_483_647;
+/// Depth of the deepest directory; the root is at 0.
+pub const DEPTH: usize = 16;
