@@ -71,7 +71,7 @@ static void names_end_with_a_zero_byte(void)
     EXPECT(same_text(entry.name, "") && entry.name_len == 0);
 }
 
-/* The root has the file of the longest name now, whose record just fits into the smallest buffer. */
+/* The root has the file of the longest name now. Its record just fits into the smallest buffer. */
 static void records_are_walked(void)
 {
     uint8_t buf[MFS_LIST_BYTES_MIN];

@@ -39,6 +39,11 @@
 //! - The limits are [`IMAGE_BLOCKS`], [`NAME_LEN`], [`PATH_LEN`], [`FILE_LEN`] and [`DEPTH`].
 #![warn(missing_docs)]
 
+// So that the program in README.md is compiled and run with the tests.
+#[cfg(doctest)]
+#[doc = include_str!("../README.md")]
+mod readme {}
+
 mod calls;
 mod handle;
 pub mod raw;
