@@ -71,6 +71,17 @@ static void names_end_with_a_zero_byte(void)
     EXPECT(same_text(entry.name, "") && entry.name_len == 0);
 }
 
+static void seeks_go_from_start_position_and_end(void)
+{
+    mfs_handle handle;
+    EXPECT(mfs_create_file(&volume, "/sought", 0, &handle) == MFS_OK);
+    EXPECT(mfs_write(&volume, &handle, "abcde", 5, 0) == MFS_OK);
+    EXPECT(mfs_seek_start(&handle, 1) == MFS_OK && mfs_position(&handle) == 1);
+    EXPECT(mfs_seek_current(&handle, 2) == MFS_OK && mfs_position(&handle) == 3);
+    EXPECT(mfs_seek_end(&handle, -1) == MFS_OK && mfs_position(&handle) == 4);
+    EXPECT(mfs_delete(&volume, "/sought", 0) == MFS_OK);
+}
+
 /* The root has the file of the longest name now. Its record just fits into the smallest buffer. */
 static void records_are_walked(void)
 {
@@ -90,14 +101,17 @@ static void records_are_walked(void)
     EXPECT(at == bytes);
 }
 
-/* Whether one record is found in the first bytes of a record of name "m1" with one byte changed. */
+static const uint8_t one_record[16] = {1,    0x81, 0x82, 0x83, 0x84, 0x91, 0x92, 0x93,
+                                       0x94, 0x95, 0x96, 0x97, 0x98, 2,    'm',  '1'};
+
+/* Whether a record is found in so many bytes of one_record with one byte changed. */
 static bool walks(size_t bytes, size_t changed, uint8_t byte)
 {
-    uint8_t buf[] = {1,    0x81, 0x82, 0x83, 0x84, 0x91, 0x92, 0x93,
-                     0x94, 0x95, 0x96, 0x97, 0x98, 2,    'm',  '1'};
+    uint8_t buf[sizeof one_record];
     mfs_record record = {MFS_KIND_DIR, 0, 0, "", 0};
     size_t at = 0;
     bool found;
+    memcpy(buf, one_record, sizeof buf);
     buf[changed] = byte;
     found = mfs_record_next(buf, bytes, &at, &record);
     EXPECT(found ? at == sizeof buf : at == 0 && record.name_len == 0);
@@ -108,8 +122,8 @@ static bool walks(size_t bytes, size_t changed, uint8_t byte)
 
 static void other_bytes_are_no_record(void)
 {
-    size_t bytes;
-    size_t past = 17;
+    uint8_t twice[2 * sizeof one_record];
+    size_t bytes, past = sizeof one_record;
     mfs_record record;
     EXPECT(walks(16, 0, 1) && walks(16, 0, 2) && walks(16, 15, '2'));
     for (bytes = 0; bytes < 16; bytes++) {
@@ -118,7 +132,9 @@ static void other_bytes_are_no_record(void)
     EXPECT(!walks(16, 0, 3));
     EXPECT(!walks(16, 13, 0));
     EXPECT(!walks(16, 13, 3));
-    EXPECT(!mfs_record_next(image, 16, &past, &record) && past == 17);
+    memcpy(twice, one_record, sizeof one_record);
+    memcpy(twice + sizeof one_record, one_record, sizeof one_record);
+    EXPECT(!mfs_record_next(twice, 15, &past, &record) && past == sizeof one_record);
 }
 
 static void every_number_has_its_words(void)
@@ -141,6 +157,7 @@ int main(void)
     EXPECT(mfs_format(&volume) == MFS_OK);
     structs_stay_on_a_refusal();
     names_end_with_a_zero_byte();
+    seeks_go_from_start_position_and_end();
     records_are_walked();
     other_bytes_are_no_record();
     every_number_has_its_words();
