@@ -4,6 +4,7 @@
 //! The original has one device, one clock and one working directory for all, so its callers take turns: every call is made through a
 //! [`Turn`]. Where its texts are not at hand [`PRESENT`] is false, and no turn can be had.
 #![cfg_attr(original, feature(custom_test_frameworks))]
+#![cfg_attr(original, allow(clippy::all))]
 
 include!(concat!(env!("OUT_DIR"), "/k.rs"));
 

@@ -28,4 +28,4 @@ pub use geometry::{Geometry, BLOCK_SIZE, CAPACITY};
 pub use random::{draw_name, random, Size, Wish};
 pub use rng::Rng;
 pub use tree::{NodeId, Order, Style, Tree, Volume, ROOT};
-pub use walk::{chain, entries, fill_of, Entry, Kind, HEADER};
+pub use walk::{chain, entries, fill_of, names_by_block, Entry, Kind, HEADER};

@@ -70,10 +70,16 @@ pub fn chain(image: &[u8], geometry: Geometry, first: u32) -> Vec<u32> {
     blocks
 }
 
+/// The names in a directory, block by block.
+pub fn names_by_block(image: &[u8], geometry: Geometry, dir: u32) -> Vec<Vec<&[u8]>> {
+    let names = |addr| slots(&block(image, addr)[4..]).iter().map(|slot| slot.name).collect();
+    chain(image, geometry, dir).into_iter().map(names).collect()
+}
+
 /// How many bytes of each block of a directory its entries take.
 pub fn fill_of(image: &[u8], geometry: Geometry, dir: u32) -> Vec<usize> {
-    let used = |addr| slots(&block(image, addr)[4..]).iter().map(|slot| HEADER + slot.name.len()).sum();
-    chain(image, geometry, dir).into_iter().map(used).collect()
+    let used = |names: &Vec<&[u8]>| names.iter().map(|name| HEADER + name.len()).sum();
+    names_by_block(image, geometry, dir).iter().map(used).collect()
 }
 
 fn read_dir(image: &[u8], geometry: Geometry, dir: u32, path: &[u8], depth: u32, found: &mut Vec<Entry>) {
