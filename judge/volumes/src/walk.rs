@@ -50,8 +50,8 @@ impl Entry {
     }
 }
 
-/// All entries of a well-formed volume: a directory's own entry stands before those in it. The volume must be well formed; of
-/// another image some reading is given, in finite time, or the program ends.
+/// All entries of a well-formed volume: a directory's own entry stands before those in it. Of a volume that is not well formed some
+/// reading is given.
 pub fn entries(image: &[u8], k: u32) -> Vec<Entry> {
     let geometry = Geometry::of(image, k).expect("the superblock is not that of a volume");
     let mut found = Vec::new();
@@ -59,11 +59,12 @@ pub fn entries(image: &[u8], k: u32) -> Vec<Entry> {
     found
 }
 
-/// The addresses of the blocks of the chain that begins at `first`, and no more of them than the volume has.
+/// The addresses of the blocks of the chain that begins at `first`: until it leaves the data area, and no more than this has.
 pub fn chain(image: &[u8], geometry: Geometry, first: u32) -> Vec<u32> {
+    let area = geometry.data()..geometry.blocks();
     let mut blocks = Vec::new();
     let mut addr = first;
-    while addr != 0 && blocks.len() < geometry.data_blocks() as usize {
+    while area.contains(&addr) && blocks.len() < area.len() {
         blocks.push(addr);
         addr = be32(block(image, addr));
     }
