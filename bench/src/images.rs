@@ -9,10 +9,10 @@ pub const SMALL: u32 = 64;
 pub const LARGE: u32 = 1024;
 /// The time of every entry, another than the one that the timed calls store.
 const TIME: u64 = 1_600_000_000;
-/// A file of one block.
-const SHORT: u32 = 16;
-/// A file of 2,065 blocks.
-const LONG: u32 = 1 << 20;
+/// The size of a file of one block.
+pub const SHORT: u32 = 16;
+/// The size of a file of 2,065 blocks.
+pub const LONG: u32 = 1 << 20;
 /// Entries of a full volume's directories, of which the last may have fewer.
 const DIR_ENTRIES: u32 = 1000;
 /// Entries that fill a directory block.

@@ -4,13 +4,15 @@
 //! No time is asserted. That both sides give the same answers and leave the same images is, in every run.
 mod calls;
 mod images;
+mod rows;
 mod side;
 mod table;
 mod timing;
 mod whole_check;
 
-use calls::{Row, Timed, GROUPS};
+use calls::{Call, Timed};
 use images::{Fill, LARGE, SMALL};
+use rows::{Row, GROUPS};
 use side::{Original, Ours};
 use std::process::ExitCode;
 use timing::median;
@@ -71,16 +73,19 @@ fn time_calls(wish: &Wish) {
     table::head(&["call", "ours", "its check", "the rest", "the Rust", "ours / Rust", "rest / Rust"]);
     for group in &GROUPS {
         let rows: Vec<&Row> = group.rows.iter().filter(|row| row.label.contains(wish.only)).collect();
-        if rows.is_empty() {
-            continue;
+        if !rows.is_empty() {
+            time_group(group.image, &rows, original.as_mut(), wish.runs);
         }
-        let mut ours = Ours::new((group.image)());
-        if let Some(original) = &mut original {
-            original.load(ours.image());
-        }
-        for row in rows {
-            time_call(row, &mut ours, original.as_mut(), wish.runs);
-        }
+    }
+}
+
+fn time_group(image: fn() -> Vec<u8>, rows: &[&Row], mut original: Option<&mut Original>, runs: usize) {
+    let mut ours = Ours::new(image());
+    if let Some(original) = &mut original {
+        original.load(ours.image());
+    }
+    for row in rows {
+        time_call(row, &mut ours, original.as_deref_mut(), runs);
     }
 }
 
@@ -88,10 +93,10 @@ fn time_call(row: &Row, ours: &mut Ours, mut original: Option<&mut Original>, ru
     let (mut own, mut others) = (Vec::new(), Vec::new());
     for run in 0..runs {
         let Some(original) = original.as_deref_mut() else {
-            own.push(row.time(ours));
+            own.push(row.call.time(ours));
             continue;
         };
-        let (mine, theirs) = time_both(row, ours, original, run % 2 == 0);
+        let (mine, theirs) = time_both(&row.call, ours, original, run % 2 == 0);
         assert!(mine.answer == theirs.answer, "the answers differ: {}", row.label);
         original.assert_image(ours.image(), row.label);
         own.push(mine);
@@ -101,13 +106,13 @@ fn time_call(row: &Row, ours: &mut Ours, mut original: Option<&mut Original>, ru
 }
 
 /// One run on both sides; who comes first changes from run to run.
-fn time_both(row: &Row, ours: &mut Ours, original: &mut Original, ours_first: bool) -> (Timed, Timed) {
+fn time_both(call: &Call, ours: &mut Ours, original: &mut Original, ours_first: bool) -> (Timed, Timed) {
     if ours_first {
-        let mine = row.time(ours);
-        (mine, row.time(original))
+        let mine = call.time(ours);
+        (mine, call.time(original))
     } else {
-        let theirs = row.time(original);
-        (row.time(ours), theirs)
+        let theirs = call.time(original);
+        (call.time(ours), theirs)
     }
 }
 
@@ -115,7 +120,7 @@ fn cells(row: &Row, own: &[Timed], others: Vec<f64>) -> Vec<String> {
     let over_runs = |figure: fn(&Timed) -> f64| median(own.iter().map(figure).collect());
     let [whole, check, rest] = [over_runs(|timed| timed.whole), over_runs(|timed| timed.check), over_runs(|timed| timed.rest)];
     let other = (!others.is_empty()).then(|| median(others));
-    let where_checked = |cell: String| if row.changes() { cell } else { String::new() };
+    let where_checked = |cell: String| if matches!(row.call, Call::Checked(..)) { cell } else { String::new() };
     let beside_other = |ours: f64| other.map_or(String::new(), |other| table::ratio(ours, other));
     vec![
         row.label.to_string(),
