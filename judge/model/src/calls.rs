@@ -27,12 +27,14 @@ pub struct Usage {
     pub free: u64,
 }
 
+/// The name's array has zeros after the name.
 #[derive(Clone, Debug, PartialEq, Eq)]
 pub struct Info {
     pub kind: Kind,
     pub size: u32,
     pub time: u64,
-    pub name: Vec<u8>,
+    pub name: [u8; NAME_LEN],
+    pub len: usize,
 }
 
 #[derive(Clone, Copy, Debug, PartialEq, Eq)]
@@ -51,9 +53,8 @@ pub enum SeekFrom {
 impl Handle {
     /// "Opening or creating a file answers a handle at position 0".
     fn opened(holder: &Opened, name: &[u8], addr: usize, size: usize) -> Handle {
-        let mut array = [0; NAME_LEN];
-        array[..name.len()].copy_from_slice(name);
-        Handle { dir: holder.first as u32, addr: addr as u32, size: size as u32, position: 0, name: array, len: name.len() }
+        let (dir, addr, size) = (holder.first as u32, addr as u32, size as u32);
+        Handle { dir, addr, size, position: 0, name: name_array(name), len: name.len() }
     }
 
     /// 11, "by its own fields, position above size, size above the limit or name length outside 1 to 255".
@@ -74,6 +75,13 @@ impl Handle {
         };
         directory::walk(image, geo, self.dir as usize).find(is_it)?.ok_or(Refusal::Stale)
     }
+}
+
+/// A name in the array that handles and infos have, zeros after it.
+fn name_array(name: &[u8]) -> [u8; NAME_LEN] {
+    let mut array = [0; NAME_LEN];
+    array[..name.len()].copy_from_slice(name);
+    array
 }
 
 /// "Format: n is the image's block count. Write the superblock with used count D, zero blocks a to D-1 and block D, allocate D (used
@@ -150,11 +158,12 @@ pub fn info(image: &[u8], k: u32, cwd: &[u8], path: &[u8]) -> Answer<Info> {
     let geo = volume::volume(image, k)?;
     if path == b"/" {
         let sum = directory::walk(image, geo, geo.d()).sum()?;
-        return Ok(Info { kind: Kind::Dir, size: sum as u32, time: 0, name: Vec::new() });
+        return Ok(Info { kind: Kind::Dir, size: sum as u32, time: 0, name: name_array(b""), len: 0 });
     }
     let full = full_path(cwd, path)?;
     let (_, entry) = find(image, geo, &full)?;
-    Ok(Info { kind: entry.kind, size: entry.size as u32, time: entry.time, name: entry.name })
+    let Entry { kind, size, time, name, .. } = entry;
+    Ok(Info { kind, size: size as u32, time, name: name_array(&name), len: name.len() })
 }
 
 /// "records of kind 1, size 4, time 8, length 1, name"
