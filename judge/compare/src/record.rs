@@ -65,7 +65,7 @@ impl<W: Write> List<'_, W> {
     }
 
     fn image_digest(&mut self, session: &Session) -> io::Result<()> {
-        writeln!(self.out, "g {}", digest(&session.ours.image))
+        writeln!(self.out, "g {}", digest(&session.original_image()))
     }
 
     fn random_calls(&mut self, session: &mut Session, seed: u64, count: usize) -> io::Result<()> {

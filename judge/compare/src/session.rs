@@ -75,6 +75,11 @@ impl<'a> Session<'a> {
         self.entries.get_or_init(|| entries(&self.ours.image, self.k))
     }
 
+    /// The image on the original's device.
+    pub fn original_image(&self) -> Vec<u8> {
+        self.original.dump()
+    }
+
     /// Makes a call on both sides, or leaves it out.
     pub fn step(&mut self, call: &Call) -> Verdict {
         watch::call();
