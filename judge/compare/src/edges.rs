@@ -14,6 +14,9 @@ const SIZES: [u32; 10] = [0, 1, 507, 508, 509, 1015, 1016, 1017, 1524, 1525];
 const FREE: [u32; 5] = [0, 1, 2, 3, 40];
 /// Bytes of a listing's record before the name.
 const RECORD: usize = 14;
+/// Lengths of two names that don't fit into one block.
+const FIRST: usize = 230;
+const SECOND: usize = 245;
 
 /// Compares reads, writes, listings and creates at their edges.
 pub fn compare_edges(tally: &mut Tally) -> Result<(), Box<Found>> {
@@ -99,27 +102,35 @@ impl Judge<'_> {
         self.compare(&start, calls)
     }
 
-    /// Names that end just before, at and after a block's end, in a directory of one block and of two.
+    /// Names that end just before, at and after a block's end, in a directory of one block and of two, with blocks left or too few.
     fn creates(&mut self) -> Result<(), Box<Found>> {
         for in_second in [0, 30, 236] {
-            let mut tree = Tree::new();
-            tree.dir(ROOT, b"d", 1);
-            let dir = tree.dir(ROOT, b"e", 1);
-            tree.file(dir, &[b'x'; 230], 2, 0);
-            if in_second > 0 {
-                tree.file(dir, &[b'y'; 240], 2, 0);
-                tree.file(dir, &vec![b'z'; in_second], 2, 0);
-            }
-            let start = laid(tree, None, "a directory of one block or two");
-            for end in 500..512usize {
-                for used in [HEADER + 230, HEADER + 240, HEADER + in_second] {
-                    let Some(len) = end.checked_sub(used + HEADER).filter(|len| (1..=255).contains(len)) else { continue };
-                    self.compare(&start, create_and_look(&vec![b'n'; len]))?;
+            for free in FREE {
+                let start = one_directory(in_second, free);
+                for end in 500..512usize {
+                    for used in [HEADER + FIRST, HEADER + SECOND, HEADER + in_second] {
+                        let len = end.saturating_sub(used + HEADER);
+                        if (1..=255).contains(&len) {
+                            self.compare(&start, create_and_look(&vec![b'n'; len]))?;
+                        }
+                    }
                 }
             }
         }
         Ok(())
     }
+}
+
+/// A directory `e` with a name in its first block, and, if there is to be one in its second, one more before it.
+fn one_directory(in_second: usize, free: u32) -> Start {
+    let mut tree = Tree::new();
+    let dir = tree.dir(ROOT, b"e", 1);
+    tree.file(dir, &[b'x'; FIRST], 2, 0);
+    if in_second > 0 {
+        tree.file(dir, &[b'y'; SECOND], 2, 0);
+        tree.file(dir, &vec![b'z'; in_second], 2, 0);
+    }
+    laid(tree, Some(free), "a directory of one block or two")
 }
 
 fn positions(size: u32) -> impl Iterator<Item = u32> {

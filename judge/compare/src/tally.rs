@@ -10,6 +10,7 @@ use std::fmt;
 pub struct Tally {
     compared: BTreeMap<(&'static str, String), u64>,
     left_out: BTreeMap<Reason, u64>,
+    not_made: u64,
 }
 
 impl Tally {
@@ -20,7 +21,8 @@ impl Tally {
                 *self.compared.entry((call.kind(), answer)).or_default() += 1;
             }
             Verdict::LeftOut(reason) => *self.left_out.entry(*reason).or_default() += 1,
-            Verdict::NotMade | Verdict::Differs(_) => {}
+            Verdict::NotMade => self.not_made += 1,
+            Verdict::Differs(_) => {}
         }
     }
 
@@ -31,6 +33,7 @@ impl Tally {
         for (reason, count) in other.left_out {
             *self.left_out.entry(reason).or_default() += count;
         }
+        self.not_made += other.not_made;
     }
 
     /// The number of calls compared.
@@ -47,6 +50,7 @@ impl fmt::Display for Tally {
         for (reason, count) in &self.left_out {
             writeln!(f, "  {count:>9}  left out: {reason}")?;
         }
+        writeln!(f, "  {:>9}  not made: nothing open there, or a listing from past the last entry", self.not_made)?;
         write!(f, "  {:>9}  compared in all", self.compared())
     }
 }
