@@ -1,7 +1,7 @@
 //! The calls of the proved library timed beside those of the original Rust, on the same images in one run; and the check beside a
 //! plain loop that only touches the same blocks. docs/BENCHMARKS.md says how to run it, and what it showed.
 //!
-//! No time is asserted. That both sides give the same answers and leave the same images is, in every run.
+//! No time is asserted. That both sides give the same answers and leave the same images is asserted in every run.
 mod calls;
 mod images;
 mod rows;
@@ -59,16 +59,15 @@ fn read_wish<'a>(args: &[&'a str]) -> Option<Wish<'a>> {
 }
 
 fn time_all(wish: &Wish) {
-    println!("Medians of {} runs.\n", wish.runs);
+    println!("Runs, of which each figure is the median: {}", wish.runs);
     time_calls(wish);
-    println!();
     time_checks(wish);
 }
 
 fn time_calls(wish: &Wish) {
     let mut original = Original::at_hand();
     if original.is_none() {
-        println!("{NO_ORIGINAL}\n");
+        println!("{NO_ORIGINAL}");
     }
     table::head(&["call", "ours", "its check", "the rest", "the Rust", "ours / Rust", "rest / Rust"]);
     for group in &GROUPS {
@@ -139,14 +138,15 @@ fn time_checks(wish: &Wish) {
         (Fill::Scattered, "files of 1 MiB, blocks scattered"),
         (Fill::Short, "files of one block"),
     ];
+    let volumes =
+        [SMALL, LARGE].into_iter().flat_map(|mib| kinds.map(|(fill, holds)| (mib, fill, format!("check, {mib} MiB, {holds}"))));
+    let wanted: Vec<_> = volumes.filter(|(_, _, label)| label.contains(wish.only)).collect();
+    if wanted.is_empty() {
+        return;
+    }
     table::head(&["check of a full volume", "blocks", "check", "plain loop", "check / loop", "check, a block", "loop, a block"]);
-    for mib in [SMALL, LARGE] {
-        for (fill, holds) in kinds {
-            let label = format!("check, {mib} MiB, {holds}");
-            if label.contains(wish.only) {
-                time_check(&label, Full::new(mib, fill), wish.runs);
-            }
-        }
+    for (mib, fill, label) in wanted {
+        time_check(&label, Full::new(mib, fill), wish.runs);
     }
 }
 

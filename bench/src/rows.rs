@@ -61,6 +61,7 @@ pub const GROUPS: [Group; 6] = [
         image: images::long_file,
         rows: &[
             plain("seek in a file of 1 MiB", Plain::Seek, "/d/big"),
+            plain("read of 16 bytes, last of 10 entries", Plain::Read(SHORT, SHORT), "/d/big"),
             plain("read of 1 MiB in one call", Plain::Read(LONG, LONG), "/d/big"),
             plain("read of 1 MiB in 508-byte calls", Plain::Read(LONG, 508), "/d/big"),
             checked("write of 1 MiB onto an empty file", Checked::Write, "/d/new"),

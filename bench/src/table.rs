@@ -1,6 +1,8 @@
 //! Tables as the documents have them, with each line shown as soon as it is known.
 
+/// Begins a table.
 pub fn head(columns: &[&str]) {
+    println!();
     line(columns);
     let rules: Vec<&str> = columns.iter().enumerate().map(|(i, _)| if i == 0 { "---" } else { "---:" }).collect();
     line(&rules);

@@ -26,8 +26,9 @@ fn now() -> f64 {
     time.seconds as f64 * 1e9 + time.nanos as f64
 }
 
-/// The mean time of a call over a stretch of calls. Shorter stretches before it warm the caches.
+/// The mean time of a call over a stretch of calls. A call and shorter stretches before it, which do not count, warm the caches.
 pub fn repeated<T>(mut call: impl FnMut() -> T) -> f64 {
+    black_box(call());
     let mut count = 1u32;
     loop {
         let start = now();

@@ -1,6 +1,6 @@
 //! The check of a full volume, beside a plain loop that only touches the same blocks.
 use crate::images::{self, Fill};
-use crate::timing::{median, repeated};
+use crate::timing::{median, once};
 use original_k8::K;
 use std::hint::black_box;
 use std::ops::Range;
@@ -51,12 +51,14 @@ impl Full {
         assert_eq!(touched, self.blocks, "blocks touched");
     }
 
-    /// Times both, one after the other in each run.
+    /// Times both, one after the other in each run. One check and one loop before, which do not count, warm the caches.
     pub fn time(&mut self, runs: usize) -> Figures {
+        self.check();
+        self.touch();
         let (mut check, mut touch) = (Vec::new(), Vec::new());
         for _ in 0..runs {
-            check.push(repeated(|| self.check()));
-            touch.push(repeated(|| self.touch()));
+            check.push(once(|| self.check()).0);
+            touch.push(once(|| self.touch()).0);
         }
         Figures { check: median(check), touch: median(touch) }
     }
