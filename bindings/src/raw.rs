@@ -1,6 +1,14 @@
-//! The exports of the proved library, as include/mfs.h declares them. A slice passes as a pointer and its length; no pointer is null,
-//! and no two buffers of a call overlap. Each answers 0, or the number of its refusal, which leaves every out parameter as it was.
-//! The safe functions of this crate call them; a program has no need to.
+//! The exports of the proved library, as include/mfs.h declares and documents them. The safe functions of this crate call them; a program
+//! has no need to.
+//!
+//! # Safety
+//!
+//! A slice passes as a pointer and its length, and every other pointer is to one value of its type. No pointer may be null, also where
+//! a length is 0. What an export may write (an image that is `*mut`, a work buffer, a read buffer, a handle's numbers, an out parameter) must
+//! overlap no other buffer of the call. All values are allowed. Each export answers 0, or the number of its refusal, which leaves every out
+//! parameter as it was.
+#![allow(missing_docs)] // include/mfs.h has them
+
 use crate::NAME_LEN;
 
 extern "C" {

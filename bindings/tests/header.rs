@@ -1,0 +1,120 @@
+//! include/mfs.h and this crate say the same: refusals with their numbers and words, limits, and the exports with their parameters.
+use mfs::Refusal;
+use std::collections::BTreeMap;
+
+const HEADER: &str = include_str!("../../include/mfs.h");
+const RAW: &str = include_str!("../src/raw.rs");
+
+/// `BadImage` is MFS_BAD_IMAGE in the header.
+fn c_name(refusal: Refusal) -> String {
+    let mut name = String::from("MFS");
+    for letter in format!("{refusal:?}").chars() {
+        if letter.is_uppercase() {
+            name.push('_');
+        }
+        name.extend(letter.to_uppercase());
+    }
+    name
+}
+
+/// What stands between two words of the header, the first time.
+#[track_caller]
+fn between<'a>(text: &'a str, from: &str, to: &str) -> &'a str {
+    let start = text.find(from).unwrap_or_else(|| panic!("{from} is not there")) + from.len();
+    let len = text[start..].find(to).unwrap_or_else(|| panic!("{to} is not there"));
+    &text[start..start + len]
+}
+
+#[test]
+fn refusals_have_the_same_numbers() {
+    let in_header: Vec<(String, u32)> = between(HEADER, "typedef enum mfs_refusal {", "}")
+        .lines()
+        .filter_map(|line| line.trim().split_once(" = "))
+        .map(|(name, rest)| {
+            let digits: String = rest.chars().take_while(char::is_ascii_digit).collect();
+            (name.to_owned(), digits.parse().unwrap())
+        })
+        .collect();
+    let mut expected = vec![(String::from("MFS_OK"), 0)];
+    expected.extend(Refusal::ALL.map(|refusal| (c_name(refusal), u32::from(refusal.number()))));
+    assert_eq!(in_header, expected);
+}
+
+#[test]
+fn refusals_have_the_same_words() {
+    let texts = between(HEADER, "switch (number) {", "default:");
+    for refusal in Refusal::ALL {
+        let case = between(texts, &format!("case {}:", c_name(refusal)), ";");
+        assert_eq!(case.trim(), format!("return \"{refusal}\""));
+    }
+}
+
+#[test]
+fn numbers_lead_back_to_their_refusals() {
+    for (place, refusal) in Refusal::ALL.into_iter().enumerate() {
+        assert_eq!(usize::from(refusal.number()), place + 1);
+        assert_eq!(Refusal::from_number(place as u32 + 1), Some(refusal));
+    }
+    for number in [0, 19, 256 + 1, u32::MAX] {
+        assert_eq!(Refusal::from_number(number), None);
+    }
+}
+
+#[test]
+fn limits_are_the_same() {
+    let limit = |name: &str| between(HEADER, &format!("#define {name} "), " ").trim().parse::<usize>().unwrap();
+    assert_eq!(limit("MFS_BLOCK_SIZE"), mfs::BLOCK_SIZE);
+    assert_eq!(limit("MFS_IMAGE_MAX_BLOCKS"), mfs::IMAGE_BLOCKS);
+    assert_eq!(limit("MFS_NAME_MAX"), mfs::NAME_LEN);
+    assert_eq!(limit("MFS_PATH_MAX"), mfs::PATH_LEN);
+    assert_eq!(limit("MFS_FILE_MAX"), mfs::FILE_LEN as usize);
+    assert_eq!(limit("MFS_DEPTH_MAX"), mfs::DEPTH);
+    assert_eq!(between(HEADER, "#define MFS_WORK_BYTES(image_len) ", "\n"), "(((image_len) / MFS_BLOCK_SIZE + 7) / 8)");
+    for (image_len, bytes) in [(0, 0), (511, 0), (512, 1), (8 * 512, 1), (9 * 512, 2), (4200 * 512, 525), (1 << 32, 1 << 20)] {
+        assert_eq!(mfs::work_len(image_len), bytes);
+    }
+}
+
+/// A declaration's parameters as C writes them, one space between words.
+fn c_parameters(list: &str) -> Vec<String> {
+    list.split(',').map(|parameter| parameter.split_whitespace().collect::<Vec<_>>().join(" ")).collect()
+}
+
+/// A parameter of raw.rs, as C writes it.
+fn as_c(parameter: &str) -> String {
+    let (name, kind) = parameter.split_once(": ").unwrap();
+    match kind {
+        "*const u8" => format!("const uint8_t *{name}"),
+        "*mut u8" => format!("uint8_t *{name}"),
+        "*mut u32" => format!("uint32_t *{name}"),
+        "*mut u64" => format!("uint64_t *{name}"),
+        "*mut usize" => format!("size_t *{name}"),
+        "*mut [u32; 4]" => format!("uint32_t {name}[4]"),
+        "*mut [u8; NAME_LEN]" => format!("uint8_t {name}[255]"),
+        "*const [u8; NAME_LEN]" => format!("const uint8_t {name}[255]"),
+        "usize" => format!("size_t {name}"),
+        "u32" => format!("uint32_t {name}"),
+        "u64" => format!("uint64_t {name}"),
+        "i32" => format!("int32_t {name}"),
+        other => panic!("{other} has no type in C here"),
+    }
+}
+
+#[test]
+fn exports_have_the_same_parameters() {
+    let in_header: BTreeMap<&str, Vec<String>> = HEADER
+        .split("\nuint32_t ")
+        .skip(1)
+        .map(|rest| (rest.split('(').next().unwrap(), c_parameters(between(rest, "(", ");"))))
+        .collect();
+    let in_raw: BTreeMap<&str, Vec<String>> = RAW
+        .split("pub fn ")
+        .skip(1)
+        .map(|rest| {
+            let list = between(rest, "(", ") -> u32;").trim().trim_end_matches(',');
+            (rest.split('(').next().unwrap(), c_parameters(list).iter().map(|parameter| as_c(parameter)).collect())
+        })
+        .collect();
+    assert_eq!(in_header.len(), 14);
+    assert_eq!(in_header, in_raw);
+}

@@ -1,0 +1,167 @@
+/*
+ * What the inline functions of mfs.h promise beyond the exports: structs stay on a refusal, names
+ * end with a zero byte, records are walked and never past the bytes given, every number has its
+ * words.
+ */
+#include <stdio.h>
+#include <stdlib.h>
+
+#include "mfs.h"
+
+static uint8_t image[4200 * MFS_BLOCK_SIZE];
+static uint8_t work[MFS_WORK_BYTES(sizeof image)];
+static const mfs_volume volume = {image, sizeof image, 8, work, sizeof work, "/"};
+
+/* assert.h's assert is nothing where NDEBUG is set. */
+#define EXPECT(condition) expect(condition, #condition, __LINE__)
+
+static void expect(bool condition, const char *text, int line)
+{
+    if (!condition) {
+        printf("line %d: not so: %s\n", line, text);
+        exit(EXIT_FAILURE);
+    }
+}
+
+static bool same_text(const char *text, const char *other)
+{
+    return strcmp(text, other) == 0;
+}
+
+/* A name of MFS_NAME_MAX bytes, and its zero byte. */
+static void longest_name(char name[MFS_NAME_MAX + 1])
+{
+    memset(name, 'n', MFS_NAME_MAX);
+    name[MFS_NAME_MAX] = '\0';
+}
+
+static void structs_stay_on_a_refusal(void)
+{
+    mfs_entry entry, entry_before;
+    mfs_handle handle, handle_before;
+    memset(&entry, 0xA5, sizeof entry);
+    memset(&handle, 0xA5, sizeof handle);
+    entry_before = entry;
+    handle_before = handle;
+    EXPECT(mfs_info(&volume, "/none", &entry) == MFS_NOT_FOUND);
+    EXPECT(mfs_open(&volume, "/none", &handle) == MFS_NOT_FOUND);
+    EXPECT(mfs_create_file(&volume, "/", 0, &handle) == MFS_BAD_NAME);
+    EXPECT(mfs_write(&volume, &handle, "abc", 3, 0) == MFS_STALE);
+    EXPECT(mfs_seek_start(&handle, 0) == MFS_STALE);
+    EXPECT(memcmp(&entry, &entry_before, sizeof entry) == 0);
+    EXPECT(memcmp(&handle, &handle_before, sizeof handle) == 0);
+}
+
+static void names_end_with_a_zero_byte(void)
+{
+    char name[MFS_NAME_MAX + 1];
+    mfs_handle handle;
+    mfs_entry entry;
+    longest_name(name);
+    memset(&entry, 0xA5, sizeof entry);
+    EXPECT(mfs_create_file(&volume, name, 7, &handle) == MFS_OK);
+    EXPECT(mfs_size(&handle) == 0 && mfs_position(&handle) == 0);
+    EXPECT(mfs_write(&volume, &handle, "abc", 3, UINT64_MAX) == MFS_OK);
+    EXPECT(mfs_size(&handle) == 3 && mfs_position(&handle) == 3);
+    EXPECT(mfs_info(&volume, name, &entry) == MFS_OK);
+    EXPECT(entry.kind == MFS_KIND_FILE && entry.size == 3 && entry.time == UINT64_MAX);
+    EXPECT(same_text(entry.name, name) && entry.name_len == MFS_NAME_MAX);
+    EXPECT(mfs_info(&volume, "/", &entry) == MFS_OK);
+    EXPECT(entry.kind == MFS_KIND_DIR && entry.size == 18 + MFS_NAME_MAX && entry.time == 0);
+    EXPECT(same_text(entry.name, "") && entry.name_len == 0);
+}
+
+static void seeks_go_from_start_position_and_end(void)
+{
+    mfs_handle handle;
+    EXPECT(mfs_create_file(&volume, "/sought", 0, &handle) == MFS_OK);
+    EXPECT(mfs_write(&volume, &handle, "abcde", 5, 0) == MFS_OK);
+    EXPECT(mfs_seek_start(&handle, 1) == MFS_OK && mfs_position(&handle) == 1);
+    EXPECT(mfs_seek_current(&handle, 2) == MFS_OK && mfs_position(&handle) == 3);
+    EXPECT(mfs_seek_end(&handle, -1) == MFS_OK && mfs_position(&handle) == 4);
+    EXPECT(mfs_delete(&volume, "/sought", 0) == MFS_OK);
+}
+
+/* The root has the file of the longest name now. Its record just fits into the smallest buffer. */
+static void records_are_walked(void)
+{
+    uint8_t buf[MFS_LIST_BYTES_MIN];
+    char name[MFS_NAME_MAX + 1];
+    mfs_record record;
+    size_t bytes, at = 0;
+    uint32_t next;
+    longest_name(name);
+    EXPECT(mfs_list(&volume, "/", 0, buf, sizeof buf, &bytes, &next) == MFS_OK);
+    EXPECT(bytes == sizeof buf - 1 && next == 1);
+    EXPECT(mfs_record_next(buf, bytes, &at, &record));
+    EXPECT(at == bytes);
+    EXPECT(record.kind == MFS_KIND_FILE && record.size == 3 && record.time == UINT64_MAX);
+    EXPECT(record.name_len == MFS_NAME_MAX && memcmp(record.name, name, MFS_NAME_MAX) == 0);
+    EXPECT(!mfs_record_next(buf, bytes, &at, &record));
+    EXPECT(at == bytes);
+}
+
+static const uint8_t one_record[16] = {1,    0x81, 0x82, 0x83, 0x84, 0x91, 0x92, 0x93,
+                                       0x94, 0x95, 0x96, 0x97, 0x98, 2,    'm',  '1'};
+
+/* Whether a record is found in so many bytes of one_record with one byte changed. */
+static bool walks(size_t bytes, size_t changed, uint8_t byte)
+{
+    uint8_t buf[sizeof one_record];
+    mfs_record record = {MFS_KIND_DIR, 0, 0, "", 0};
+    size_t at = 0;
+    bool found;
+    memcpy(buf, one_record, sizeof buf);
+    buf[changed] = byte;
+    found = mfs_record_next(buf, bytes, &at, &record);
+    EXPECT(found ? at == sizeof buf : at == 0 && record.name_len == 0);
+    EXPECT(!found || record.size == 0x81828384u);
+    EXPECT(!found || record.time == 0x9192939495969798u);
+    return found;
+}
+
+static void other_bytes_are_no_record(void)
+{
+    uint8_t twice[2 * sizeof one_record];
+    size_t bytes, past = sizeof one_record;
+    mfs_record record;
+    EXPECT(walks(16, 0, 1) && walks(16, 0, 2) && walks(16, 15, '2'));
+    for (bytes = 0; bytes < 16; bytes++) {
+        EXPECT(!walks(bytes, 0, 1));
+    }
+    EXPECT(!walks(16, 0, 3));
+    EXPECT(!walks(16, 13, 0));
+    EXPECT(!walks(16, 13, 3));
+    memcpy(twice, one_record, sizeof one_record);
+    memcpy(twice + sizeof one_record, one_record, sizeof one_record);
+    EXPECT(!mfs_record_next(twice, 15, &past, &record) && past == sizeof one_record);
+}
+
+static void every_number_has_its_words(void)
+{
+    const char *none = mfs_refusal_text(MFS_LOST_DIR + 1);
+    uint32_t number, other;
+    EXPECT(same_text(none, mfs_refusal_text(UINT32_MAX)));
+    for (number = MFS_OK; number <= MFS_LOST_DIR; number++) {
+        EXPECT(!same_text(mfs_refusal_text(number), none));
+        for (other = MFS_OK; other < number; other++) {
+            EXPECT(!same_text(mfs_refusal_text(number), mfs_refusal_text(other)));
+        }
+    }
+}
+
+int main(void)
+{
+    EXPECT(sizeof work == 525);
+    EXPECT(MFS_WORK_BYTES(8 * 512) == 1 && MFS_WORK_BYTES(9 * 512) == 2);
+    EXPECT(mfs_format(&volume) == MFS_OK);
+    structs_stay_on_a_refusal();
+    names_end_with_a_zero_byte();
+    seeks_go_from_start_position_and_end();
+    records_are_walked();
+    other_bytes_are_no_record();
+    every_number_has_its_words();
+    EXPECT(mfs_check(&volume) == MFS_OK);
+    puts("all so");
+    return EXIT_SUCCESS;
+}

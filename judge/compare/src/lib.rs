@@ -1,0 +1,18 @@
+//! The proved library and the original Rust, compared call by call: answers, handles, buffers and whole images.
+//!
+//! [`session::Session`] holds both sides on one image and makes one call after the other; [`domain`] says which calls are left out.
+//! [`formats`], [`paths`], [`edges`] and [`sequences`] are what is compared; [`record`] writes the fixed list of calls and answers.
+pub mod call;
+pub mod domain;
+pub mod draw;
+pub mod edges;
+pub mod formats;
+pub mod original;
+pub mod ours;
+pub mod paths;
+pub mod record;
+pub mod sequences;
+pub mod session;
+pub mod tally;
+pub mod trial;
+pub mod watch;

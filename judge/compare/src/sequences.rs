@@ -1,0 +1,84 @@
+//! Sequences of calls at random, each on a volume of its own.
+use crate::call::Call;
+use crate::draw::Drawer;
+use crate::original::{original, Original, KS};
+use crate::session::{Difference, Session, Verdict};
+use crate::tally::Tally;
+use crate::trial::{Found, Start};
+use crate::watch;
+use volumes::{random, Geometry, Rng, Size, Wish, BLOCK_SIZE};
+
+/// The longest read, write or listing in a sequence.
+const LONGEST: usize = 40_000;
+
+/// Compares sequences until so many calls were compared: that of the first seed, that of the next, and so on. Answers their number.
+pub fn compare_sequences(first_seed: u64, calls: u64, tally: &mut Tally) -> Result<u64, Box<Found>> {
+    let mut originals: Vec<Box<dyn Original>> = KS.iter().map(|&k| original(k)).collect();
+    let mut seed = first_seed;
+    let mut done = 0;
+    while done < calls {
+        let part = compare_one(seed, &mut originals)?;
+        done += part.compared();
+        tally.add(part);
+        seed += 1;
+    }
+    Ok(seed - first_seed)
+}
+
+fn compare_one(seed: u64, originals: &mut [Box<dyn Original>]) -> Result<Tally, Box<Found>> {
+    watch::at(seed);
+    let mut rng = Rng::new(seed);
+    let start = draw_start(seed, &mut rng);
+    let original = side(originals, start.k);
+    let mut session = Session::new(original, start.image.clone(), start.k);
+    let mut tally = Tally::default();
+    let mut made = Vec::new();
+    let length = rng.between(50, 400);
+    let mut drawer = Drawer::new(rng, LONGEST);
+    for step in 0..length {
+        let call = if start.raw && step == 0 { Call::Format } else { drawer.draw(&session) };
+        let verdict = session.step(&call);
+        tally.count(&call, &verdict);
+        made.push(call);
+        if let Verdict::Differs(difference) = verdict {
+            return Err(Box::new(start.shorten(made, difference, original)));
+        }
+    }
+    match session.ours.check() {
+        Ok(()) => Ok(tally),
+        Err(refusal) => {
+            let ours = format!("the check refuses the volume at the end, {}", refusal.number());
+            let difference = Difference { ours, original: "the same image".to_string(), block: None };
+            Err(Box::new(Found { start: start.what, number: made.len(), calls: made, difference }))
+        }
+    }
+}
+
+fn side(originals: &mut [Box<dyn Original>], k: u32) -> &mut dyn Original {
+    let place = KS.iter().position(|&known| known == k).expect("a build for this place of the superblock");
+    originals[place].as_mut()
+}
+
+fn draw_start(seed: u64, rng: &mut Rng) -> Start {
+    let k = *rng.pick(&[8, 8, 8, 8, 8, 1, 1, 1, 1, 8192]);
+    let size = match rng.below(20) {
+        0..=3 => Size::Small,
+        4 => Size::Large,
+        _ => Size::Usual,
+    };
+    let wish = Wish {
+        k,
+        size,
+        entries: *rng.pick(&[0, 3, 10, 30, 30, 60, 120]),
+        depth: if rng.one_in(4) { rng.between(8, 16) as u32 } else { rng.below(4) as u32 },
+        free: rng.one_in(3).then(|| *rng.pick(&[0, 1, 1, 2, 2, 3, 4, 6, 20])),
+    };
+    let mut image = random(wish, rng).image;
+    let blocks = image.len() / BLOCK_SIZE;
+    let raw = rng.one_in(6) && Geometry::new(k, blocks as u32).is_some();
+    if raw {
+        rng.fill(&mut image);
+    }
+    let kind = if raw { "random bytes".to_string() } else { format!("the volume of {wish:?}") };
+    Start { k, image, what: format!("{kind}, {blocks} blocks, seed {seed}"), raw }
+}

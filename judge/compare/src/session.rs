@@ -1,0 +1,190 @@
+//! Both sides on the same image, call by call.
+use crate::call::{Answer, Call, Place};
+use crate::domain::{full_path, outside, Before, Reason};
+use crate::original::Original;
+use crate::ours::Ours;
+use crate::watch;
+use mfs::Handle;
+use std::cell::OnceCell;
+use std::fmt;
+use std::panic::{catch_unwind, AssertUnwindSafe};
+use volumes::{entries, Entry, Geometry};
+
+/// The two sides, and what is known of the volume they are on.
+pub struct Session<'a> {
+    pub ours: Ours,
+    original: &'a mut dyn Original,
+    k: u32,
+    /// The entries of the image as it is now, read when they are asked for.
+    entries: OnceCell<Vec<Entry>>,
+}
+
+/// What became of a call.
+#[derive(Debug)]
+pub enum Verdict {
+    /// Both answered this; a refusal has the library's number.
+    Same(Answer, Option<u8>),
+    LeftOut(Reason),
+    /// No handle is in the call's slot, the page's directory is gone, or a listing would begin past the last entry.
+    NotMade,
+    Differs(Difference),
+}
+
+/// How the sides differ.
+#[derive(Debug, PartialEq, Eq)]
+pub struct Difference {
+    pub ours: String,
+    pub original: String,
+    /// The first block in which the images differ.
+    pub block: Option<usize>,
+}
+
+impl fmt::Display for Difference {
+    fn fmt(&self, f: &mut fmt::Formatter<'_>) -> fmt::Result {
+        writeln!(f, "  the library:  {}", self.ours)?;
+        writeln!(f, "  the original: {}", self.original)?;
+        match self.block {
+            Some(block) => write!(f, "  the images differ, first in block {block}"),
+            None => write!(f, "  the images are the same"),
+        }
+    }
+}
+
+impl<'a> Session<'a> {
+    /// Both sides with the same image, whose superblock is in block `k`.
+    pub fn new(original: &'a mut dyn Original, image: Vec<u8>, k: u32) -> Session<'a> {
+        original.load(&image);
+        Session { ours: Ours::new(image, k), original, k, entries: OnceCell::new() }
+    }
+
+    /// The volume as it is now, before a call with a handle.
+    fn before<'b>(&'b self, handle: Option<&'b Handle>) -> Before<'b> {
+        Before { image: &self.ours.image, geometry: self.geometry(), entries: self.entries(), handle }
+    }
+
+    /// The first address of the directory at a place, all of whose path names directories.
+    pub fn dir_at(&self, place: &Place) -> Option<u32> {
+        self.before(None).dir_at(&full_path(place))
+    }
+
+    pub fn geometry(&self) -> Geometry {
+        Geometry::of(&self.ours.image, self.k).expect("the image holds a volume")
+    }
+
+    pub fn entries(&self) -> &[Entry] {
+        self.entries.get_or_init(|| entries(&self.ours.image, self.k))
+    }
+
+    /// The image on the original's device.
+    pub fn original_image(&self) -> Vec<u8> {
+        self.original.dump()
+    }
+
+    /// Makes a call on both sides, or leaves it out.
+    pub fn step(&mut self, call: &Call) -> Verdict {
+        watch::call();
+        if !self.can_be_made(call) {
+            return Verdict::NotMade;
+        }
+        if *call == Call::Format && self.format_never_ends() {
+            return Verdict::LeftOut(Reason::FormatNeverEnds);
+        }
+        let listed = self.listed(call);
+        let handle = call.slot().and_then(|slot| self.ours.handle(slot).cloned());
+        let ours = self.ours.make(call);
+        match (&ours, listed) {
+            (Err(refusal), _) if outside(refusal.number()) => self.refused_outside(refusal.number(), call, handle.as_ref()),
+            (Ok(_), Some(reason)) | (Err(_), Some(reason @ Reason::SeekOverflows)) => {
+                self.undo(call, handle);
+                Verdict::LeftOut(reason)
+            }
+            _ => self.compare(call, ours),
+        }
+    }
+
+    /// The library's side as it was before the call, which the original has not made.
+    fn undo(&mut self, call: &Call, handle: Option<Handle>) {
+        if call.changes() {
+            self.ours.image = self.original.dump();
+        }
+        if let Some(slot) = call.slot() {
+            self.ours.set_handle(slot, handle);
+        }
+    }
+
+    fn can_be_made(&self, call: &Call) -> bool {
+        match call {
+            Call::Read { slot, .. } | Call::Seek { slot, .. } | Call::Write { slot, .. } => self.ours.handle(*slot).is_some(),
+            Call::ListOn { page, .. } => self.page_is_current(*page),
+            Call::List { place, from, .. } if *from > 0 => self.dir_at(place).is_none_or(|dir| *from <= self.count_of(dir)),
+            _ => true,
+        }
+    }
+
+    /// The number of a directory's entries. The original can't begin a listing past the last, only go on with one.
+    fn count_of(&self, dir: u32) -> u32 {
+        self.entries().iter().filter(|entry| entry.dir == dir).count() as u32
+    }
+
+    /// Whether the directory of a page is still the one at the path where its listing was begun.
+    fn page_is_current(&self, page: usize) -> bool {
+        match (self.ours.page(page), self.original.page(page)) {
+            (Some((place, _)), Some((addr, _))) => self.dir_at(place) == Some(addr),
+            _ => false,
+        }
+    }
+
+    fn format_never_ends(&self) -> bool {
+        Geometry::new(self.k, (self.ours.image.len() / volumes::BLOCK_SIZE) as u32).is_none()
+    }
+
+    fn listed(&self, call: &Call) -> Option<Reason> {
+        if matches!(call, Call::Format) {
+            return None;
+        }
+        let handle = call.slot().and_then(|slot| self.ours.handle(slot));
+        let resume = call.slot().and_then(|slot| self.original.resume(slot));
+        self.before(handle).listed(call, resume)
+    }
+
+    /// The original isn't asked. The library must have had cause, and left its image as the original's is.
+    fn refused_outside(&self, number: u8, call: &Call, handle: Option<&Handle>) -> Verdict {
+        let block = self.original.first_difference(&self.ours.image);
+        if block.is_none() && self.before(handle).gives_cause(number, call) {
+            return Verdict::LeftOut(Reason::Refusal(number));
+        }
+        let fault = if block.is_some() { "and changed the image" } else { "without cause" };
+        Verdict::Differs(Difference { ours: format!("refused {number}, {fault}"), original: "not asked".to_string(), block })
+    }
+
+    fn compare(&mut self, call: &Call, ours: Result<Answer, mfs::Refusal>) -> Verdict {
+        let original = self.make_original(call);
+        if call.changes() {
+            self.entries.take();
+        }
+        let block = self.original.first_difference(&self.ours.image);
+        let number = ours.as_ref().err().map(|refusal| refusal.number());
+        let ours = ours.unwrap_or(Answer::Refused);
+        let states = call.slot().map(|slot| (self.ours.file(slot), self.original.file(slot)));
+        let same_state = states.is_none_or(|(ours, original)| ours == original);
+        if ours == original && same_state && block.is_none() {
+            return Verdict::Same(original, number);
+        }
+        let (our_state, original_state) = states.unwrap_or((None, None));
+        let refusal = number.map_or(String::new(), |number| format!(" {number}"));
+        Verdict::Differs(Difference {
+            ours: format!("{ours:?}{refusal}; then {our_state:?}"),
+            original: format!("{original:?}; then {original_state:?}"),
+            block,
+        })
+    }
+
+    /// The original's answer; inside the domain a panic is a difference.
+    fn make_original(&mut self, call: &Call) -> Answer {
+        catch_unwind(AssertUnwindSafe(|| self.original.make(call))).unwrap_or_else(|cause| {
+            let message = cause.downcast_ref::<String>().cloned();
+            let text = message.or_else(|| cause.downcast_ref::<&str>().map(|text| text.to_string()));
+            Answer::Panicked(text.unwrap_or_default())
+        })
+    }
+}

@@ -1,0 +1,58 @@
+//! The model's outcome of a case.
+use crate::case::{Answer, Call, Case, Values};
+use model::{Handle, Info, Refusal};
+
+/// The answer, and everything that the call may change as it is afterwards.
+pub struct Outcome {
+    pub answer: Answer,
+    /// None where the call can't change it.
+    pub image: Option<Vec<u8>>,
+    pub handle: Handle,
+    pub buf: Vec<u8>,
+    pub work: Vec<u8>,
+}
+
+pub fn run(case: &Case) -> Outcome {
+    let (mut handle, mut buf, mut work) = (case.handle.clone(), case.buf.clone(), case.work.clone());
+    if case.call.changes_the_image() {
+        let mut image = case.image.clone();
+        let answer = change(case, &mut image, &mut handle, &buf, &mut work);
+        Outcome { answer, image: Some(image), handle, buf, work }
+    } else {
+        let answer = look(case, &case.image, &mut handle, &mut buf, &mut work);
+        Outcome { answer, image: None, handle, buf, work }
+    }
+}
+
+/// A call that changes the image. Image, handle and buffers are those given here and not those of the case.
+pub fn change(case: &Case, image: &mut [u8], handle: &mut Handle, buf: &[u8], work: &mut [u8]) -> Answer {
+    let Case { k, cwd, path, time, .. } = case;
+    let answer = match case.call {
+        Call::Format => model::format(image, *k).map(|()| Values::None),
+        Call::CreateFile => model::create_file(image, *k, cwd, path, *time, work).map(Values::Handle),
+        Call::CreateDir => model::create_dir(image, *k, cwd, path, *time, work).map(|()| Values::None),
+        Call::Delete => model::delete(image, *k, cwd, path, *time, work).map(|()| Values::None),
+        _ => model::write(image, *k, handle, buf, *time, work).map(Values::Bytes),
+    };
+    answer.map_err(Refusal::number)
+}
+
+/// A call that doesn't change the image.
+pub fn look(case: &Case, image: &[u8], handle: &mut Handle, buf: &mut [u8], work: &mut [u8]) -> Answer {
+    let Case { k, cwd, path, from, .. } = case;
+    let answer = match case.call {
+        Call::Usage => model::usage(image, *k).map(Values::Usage),
+        Call::Check => model::check(image, *k, work).map(|()| Values::None),
+        Call::Open => model::open(image, *k, cwd, path).map(Values::Handle),
+        Call::Info => model::info(image, *k, cwd, path).map(info_values),
+        Call::List => model::list(image, *k, cwd, path, *from, buf).map(Values::Listed),
+        Call::Seek(to) => model::seek(handle, to).map(|()| Values::None),
+        _ => model::read(image, *k, handle, buf).map(Values::Bytes),
+    };
+    answer.map_err(Refusal::number)
+}
+
+fn info_values(info: Info) -> Values {
+    let Info { kind, size, time, name, len } = info;
+    Values::Info { kind: kind as u8, size, time, name, len }
+}

@@ -1,0 +1,361 @@
+//! Edits aimed at the structure of a volume. Most make it a damaged one; some keep all rules but one, and some keep all.
+use volumes::{chain, Geometry, Kind, Rng, Volume, BLOCK_SIZE, CAPACITY, HEADER};
+
+/// Where the parts of a volume stand before the first edit.
+struct Parts {
+    geometry: Geometry,
+    /// The chains of all directories, the root's first, and how deep each lies.
+    dirs: Vec<(Vec<u32>, u32)>,
+    /// The chains of files and devices.
+    others: Vec<Vec<u32>>,
+    free: Vec<u32>,
+    /// The place in the image of each entry, and of the end of each directory block's entries.
+    entries: Vec<usize>,
+    ends: Vec<usize>,
+}
+
+/// The volume with its edits.
+struct Editor<'a> {
+    image: &'a mut [u8],
+    parts: &'a Parts,
+    rng: &'a mut Rng,
+}
+
+/// Makes some edits at random and says what they are.
+pub fn damage(volume: &mut Volume, edits: u64, rng: &mut Rng) -> Vec<String> {
+    let parts = Parts::of(volume);
+    let mut editor = Editor { image: &mut volume.image, parts: &parts, rng };
+    (0..edits).map(|_| editor.edit()).collect()
+}
+
+impl Parts {
+    fn of(volume: &Volume) -> Parts {
+        let Volume { image, geometry, entries } = volume;
+        let mut dirs = vec![(chain(image, *geometry, geometry.data()), 0)];
+        let mut others = Vec::new();
+        for entry in entries {
+            match entry.kind {
+                Kind::Dir => dirs.push((entry.chain.clone(), entry.depth)),
+                _ => others.push(entry.chain.clone()),
+            }
+        }
+        let free = (geometry.data()..geometry.blocks()).filter(|&addr| !geometry.taken(image, addr)).collect();
+        let mut parts = Parts { geometry: *geometry, dirs, others, free, entries: Vec::new(), ends: Vec::new() };
+        for &addr in parts.dirs.iter().flat_map(|(blocks, _)| blocks) {
+            let end = push_entries(image, data_of(addr), &mut parts.entries);
+            parts.ends.push(end);
+        }
+        parts
+    }
+}
+
+/// Finds the entries of one directory block, and where they end.
+fn push_entries(image: &[u8], data: usize, entries: &mut Vec<usize>) -> usize {
+    let mut at = data;
+    while at < data + CAPACITY - HEADER && image[at + 17] != 0 {
+        entries.push(at);
+        at += HEADER + image[at + 17] as usize;
+    }
+    at
+}
+
+/// The place of a block's data.
+fn data_of(addr: u32) -> usize {
+    addr as usize * BLOCK_SIZE + 4
+}
+
+impl Editor<'_> {
+    fn edit(&mut self) -> String {
+        match self.rng.below(12) {
+            0 => self.edit_superblock(),
+            1 => self.flip_bit(),
+            2 | 3 => self.edit_next(),
+            4..=6 => self.edit_entry(),
+            7 => self.edit_after_last_entry(),
+            8 => self.lengthen_chain(),
+            9 => self.shorten_chain(),
+            10 => self.add_directory(),
+            _ => self.edit_anywhere(),
+        }
+    }
+
+    fn superblock(&self) -> usize {
+        self.parts.geometry.k() as usize * BLOCK_SIZE
+    }
+
+    fn number(&self, place: usize) -> u32 {
+        u32::from_be_bytes(self.image[place..place + 4].try_into().expect("four bytes"))
+    }
+
+    fn put(&mut self, place: usize, bytes: &[u8]) -> String {
+        self.image[place..place + bytes.len()].copy_from_slice(bytes);
+        let hex: String = bytes.iter().map(|byte| format!(" {byte:02x}")).collect();
+        format!("block {} byte {}:{hex}", place / BLOCK_SIZE, place % BLOCK_SIZE)
+    }
+
+    fn put_number(&mut self, place: usize, number: u32) -> String {
+        self.put(place, &number.to_be_bytes())
+    }
+
+    fn edit_superblock(&mut self) -> String {
+        let place = self.superblock();
+        match self.rng.below(8) {
+            0 => {
+                let byte = self.rng.below(8) as usize;
+                self.put(place + byte, b"x")
+            }
+            1 => {
+                let version = *self.rng.pick(&[0, 1, 3, 255]);
+                self.put(place + 8, &[version])
+            }
+            2 => self.put(place + 9, &[1]),
+            3 | 4 => {
+                let count = self.draw_block_count();
+                self.put_number(place + 10, count)
+            }
+            5 | 6 => {
+                let count = self.draw_used_count();
+                self.put_number(place + 14, count)
+            }
+            _ => {
+                let byte = *self.rng.pick(&[18, 19, 255, 510, 511]);
+                self.put(place + byte, &[1])
+            }
+        }
+    }
+
+    /// Counts at the edges of what a volume can have here.
+    fn draw_block_count(&mut self) -> u32 {
+        let (bitmap, n) = (self.parts.geometry.bitmap(), self.parts.geometry.blocks());
+        let image = (self.image.len() / BLOCK_SIZE) as u32;
+        let any = self.rng.below(2 * u64::from(n)) as u32;
+        *self.rng.pick(&[0, 1, bitmap, bitmap + 1, bitmap + 2, n - 1, n + 1, image, image + 1, bitmap + 4098, u32::MAX, any])
+    }
+
+    fn draw_used_count(&mut self) -> u32 {
+        let used = self.number(self.superblock() + 14);
+        let (data, n) = (self.parts.geometry.data(), self.parts.geometry.blocks());
+        *self.rng.pick(&[0, used.wrapping_sub(1), used.wrapping_add(1), data, n, n + 1, u32::MAX])
+    }
+
+    /// Changes a bit of the bitmap; half the time the used count follows.
+    fn flip_bit(&mut self) -> String {
+        let geometry = self.parts.geometry;
+        let bits = (geometry.data() - geometry.bitmap()) as u64 * 4096;
+        let index = match self.rng.below(4) {
+            0 => self.draw_block() - geometry.data(),
+            1 => geometry.data_blocks().min(bits as u32 - 1),
+            2 => self.rng.below(bits) as u32,
+            _ => self.rng.below(u64::from(geometry.data_blocks())) as u32,
+        };
+        let (place, mask) = geometry.bit(geometry.data() + index);
+        let byte = self.image[place] ^ mask;
+        if self.rng.one_in(2) {
+            self.add_to_used(if byte & mask != 0 { 1 } else { -1 });
+        }
+        self.put(place, &[byte])
+    }
+
+    fn add_to_used(&mut self, change: i32) {
+        let place = self.superblock() + 14;
+        let used = self.number(place).wrapping_add_signed(change);
+        self.put_number(place, used);
+    }
+
+    /// A block of some chain.
+    fn draw_block(&mut self) -> u32 {
+        let chain = self.draw_chain();
+        *self.rng.pick(&chain)
+    }
+
+    /// The chain of a directory, or of a file or device.
+    fn draw_chain(&mut self) -> Vec<u32> {
+        if self.parts.others.is_empty() || self.rng.one_in(2) {
+            self.rng.pick(&self.parts.dirs).0.clone()
+        } else {
+            self.rng.pick(&self.parts.others).clone()
+        }
+    }
+
+    /// Addresses in use, free, and at and past the edges of the data area.
+    fn draw_address(&mut self) -> u32 {
+        let geometry = self.parts.geometry;
+        let (k, data, n) = (geometry.k(), geometry.data(), geometry.blocks());
+        match self.rng.below(4) {
+            0 => self.draw_block(),
+            1 => self.draw_chain()[0],
+            2 => data + self.rng.below(u64::from(geometry.data_blocks())) as u32,
+            _ => *self.rng.pick(&[0, 1, k, data - 1, data, n - 1, n, n + 1, 0x8000_0000, u32::MAX]),
+        }
+    }
+
+    /// Makes a circle, leads into another chain, out of the data area, or ends a chain early.
+    fn edit_next(&mut self) -> String {
+        let addr = self.draw_block();
+        let next = if self.rng.one_in(4) { addr } else { self.draw_address() };
+        self.put_number(addr as usize * BLOCK_SIZE, next)
+    }
+
+    fn edit_entry(&mut self) -> String {
+        if self.parts.entries.is_empty() {
+            return self.edit_after_last_entry();
+        }
+        let at = *self.rng.pick(&self.parts.entries);
+        match self.rng.below(8) {
+            0 => {
+                let kind = *self.rng.pick(&[0, 1, 2, 3, 255]);
+                self.put(at, &[kind])
+            }
+            1 | 2 => {
+                let addr = self.draw_address();
+                self.put_number(at + 1, addr)
+            }
+            3 | 4 => {
+                let size = self.draw_size(at);
+                self.put_number(at + 5, size)
+            }
+            5 => {
+                let len = self.draw_name_length(at);
+                self.put(at + 17, &[len])
+            }
+            6 => {
+                let place = at + HEADER + self.rng.below(self.name_length(at).max(1) as u64) as usize;
+                let byte = *self.rng.pick(&[0, 0x1f, 0x20, 0x2f, 0x7e, 0x7f, 0x80, 0xff]);
+                self.put(place, &[byte])
+            }
+            _ => self.copy_name(at),
+        }
+    }
+
+    /// The length of an entry's name, as far as it lies in its block.
+    fn name_length(&self, at: usize) -> usize {
+        let room = BLOCK_SIZE - at % BLOCK_SIZE - HEADER;
+        room.min(self.image[at + 17] as usize)
+    }
+
+    fn draw_size(&mut self, at: usize) -> u32 {
+        let size = self.number(at + 5);
+        let near = [size.wrapping_sub(1), size.wrapping_add(1), size.wrapping_sub(508), size.wrapping_add(508)];
+        match self.rng.below(3) {
+            0 => *self.rng.pick(&near),
+            1 => *self.rng.pick(&[0, 1, 508, 509, i32::MAX as u32 - 1, i32::MAX as u32, 0x8000_0000, u32::MAX]),
+            _ => self.rng.below(20_000) as u32,
+        }
+    }
+
+    /// Lengths near the old one, and those with which the entry ends at 507 and at 508.
+    fn draw_name_length(&mut self, at: usize) -> u8 {
+        let len = self.image[at + 17];
+        let room = 507 - (at % BLOCK_SIZE - 4) as i64 - HEADER as i64;
+        let to_end = room.clamp(0, 255) as u8;
+        *self.rng.pick(&[0, 1, len.wrapping_sub(1), len.wrapping_add(1), to_end, to_end.saturating_add(1), 255])
+    }
+
+    /// Gives an entry the name of another one, as far as its own is long.
+    fn copy_name(&mut self, at: usize) -> String {
+        let other = *self.rng.pick(&self.parts.entries);
+        let len = self.name_length(at).min(self.name_length(other));
+        let name = self.image[other + HEADER..other + HEADER + len].to_vec();
+        self.put(at + HEADER, &name)
+    }
+
+    /// A byte between the last entry of a directory block and the block's end.
+    fn edit_after_last_entry(&mut self) -> String {
+        let end = *self.rng.pick(&self.parts.ends);
+        let last = end / BLOCK_SIZE * BLOCK_SIZE + BLOCK_SIZE - 1;
+        let place = *self.rng.pick(&[end, end + 1, end + 17, end + 18, last]);
+        let byte = *self.rng.pick(&[1, 2, 3, 255]);
+        self.put(place.min(last), &[byte])
+    }
+
+    /// Links a free block, counted and marked, at the end of a chain. Of a file half the time the size follows.
+    fn lengthen_chain(&mut self) -> String {
+        let (chain, Some(new)) = (self.draw_chain(), self.draw_free()) else {
+            return self.edit_next();
+        };
+        self.take(new);
+        let own = self.parts.entries.iter().copied().find(|&at| self.number(at + 1) == chain[0]);
+        match own {
+            Some(at) if self.image[at] == 1 && self.rng.one_in(2) => {
+                self.put_number(at + 5, (chain.len() * CAPACITY + 1) as u32);
+            }
+            _ => {}
+        }
+        self.put_number(chain[chain.len() - 1] as usize * BLOCK_SIZE, new)
+    }
+
+    fn draw_free(&mut self) -> Option<u32> {
+        let free = &self.parts.free;
+        (!free.is_empty()).then(|| *self.rng.pick(free))
+    }
+
+    /// Marks and counts a free block; its old bytes, but not its old next address, often stay.
+    fn take(&mut self, addr: u32) {
+        let (place, mask) = self.parts.geometry.bit(addr);
+        self.image[place] |= mask;
+        self.add_to_used(1);
+        let start = addr as usize * BLOCK_SIZE;
+        let zeros = if self.rng.one_in(3) { 4 } else { BLOCK_SIZE };
+        self.image[start..start + zeros].fill(0);
+    }
+
+    /// Takes the last block off a chain, with its bit and from the count.
+    fn shorten_chain(&mut self) -> String {
+        let chain = self.draw_chain();
+        let [.., before, last] = chain[..] else {
+            return self.flip_bit();
+        };
+        let (place, mask) = self.parts.geometry.bit(last);
+        self.image[place] &= !mask;
+        self.add_to_used(-1);
+        self.put_number(before as usize * BLOCK_SIZE, 0)
+    }
+
+    /// Adds an empty directory, in all but the depth by the rules, most often to the deepest directory.
+    fn add_directory(&mut self) -> String {
+        let parts = self.parts;
+        let deepest = parts.dirs.iter().max_by_key(|(_, depth)| depth).expect("there is a root");
+        let (holder, _) = if self.rng.one_in(3) { self.rng.pick(&parts.dirs) } else { deepest };
+        let end = push_entries(self.image, data_of(holder[0]), &mut Vec::new());
+        let has_room = end + HEADER + 1 - data_of(holder[0]) < CAPACITY;
+        let (true, Some(new)) = (has_room, self.draw_free()) else {
+            return self.edit_next();
+        };
+        self.take(new);
+        let own = parts.entries.iter().copied().find(|&at| self.number(at + 1) == holder[0]);
+        if let Some(at) = own {
+            let sum = self.number(at + 5).wrapping_add(HEADER as u32 + 1);
+            self.put_number(at + 5, sum);
+        }
+        self.put_number(end + 1, new);
+        self.put(end + 17, b"\x01q")
+    }
+
+    /// A byte of the volume or beside it, most often in a block that is not looked at.
+    fn edit_anywhere(&mut self) -> String {
+        let place = self.rng.below(self.image.len() as u64) as usize;
+        let byte = self.rng.next_u64() as u8;
+        self.put(place, &[byte])
+    }
+}
+
+#[cfg(test)]
+mod tests {
+    use super::*;
+    use volumes::{random, Size, Wish};
+
+    #[test]
+    fn some_edits_damage_a_volume_and_some_do_not() {
+        let mut rng = Rng::new(1);
+        let mut answers = [0; 18];
+        for _ in 0..500 {
+            let mut volume = random(Wish { k: 8, size: Size::Small, entries: 12, depth: 16, free: None }, &mut rng);
+            let done = damage(&mut volume, 2, &mut rng);
+            assert_eq!(done.len(), 2);
+            let mut work = vec![0; volume.image.len() / 4096 + 1];
+            let number = model::check(&volume.image, 8, &mut work).err().map_or(0, model::Refusal::number);
+            answers[number as usize] += 1;
+        }
+        assert!(answers[0] > 10 && answers[2] > 5 && answers[3] > 5 && answers[17] > 300, "{answers:?}");
+    }
+}

@@ -1,0 +1,64 @@
+//! A case on both sides: the same answer and the same bytes, and what must hold whatever the answer is.
+use crate::by_library::{number_bytes, Library};
+use crate::by_model::{self, Outcome};
+use crate::case::{Answer, Case};
+use crate::guard::Guarded;
+
+/// The outcome that both sides agree on, or what is wrong.
+pub fn judge(case: &Case, guarded: Guarded, library: &mut Library) -> Result<Outcome, String> {
+    let expected = by_model::run(case);
+    let answer = library.run(case, guarded);
+    compare(&expected, &answer, case, library)?;
+    look_from_outside(&answer, case, library)?;
+    if answer.is_ok() && case.call.changes_the_image() {
+        let refusal = library.check_again(case.k, guarded);
+        if refusal != 0 {
+            return Err(format!("the call is accepted, and then the check refuses the volume: {refusal}"));
+        }
+    }
+    Ok(expected)
+}
+
+fn compare(expected: &Outcome, answer: &Answer, case: &Case, library: &Library) -> Result<(), String> {
+    if *answer != expected.answer {
+        return Err(format!("the library answers {answer:?}\nthe model answers   {:?}", expected.answer));
+    }
+    same("image", library.image.bytes(), expected.image.as_ref().unwrap_or(&case.image))?;
+    same("buffer", library.buf.bytes(), &expected.buf)?;
+    same("work buffer", library.work.bytes(), &expected.work)?;
+    if case.call.takes_handle() {
+        same("handle", library.number.bytes(), &number_bytes(&expected.handle))?;
+        same("handle's name", library.name.bytes(), &expected.handle.name)?;
+    }
+    Ok(())
+}
+
+/// What must hold of every call, without asking the model.
+fn look_from_outside(answer: &Answer, case: &Case, library: &Library) -> Result<(), String> {
+    if !library.margins_are_whole() {
+        return Err("a byte beside a buffer was changed".to_string());
+    }
+    if !library.inputs_are_whole(case) {
+        return Err("a byte of the path or of the working directory was changed".to_string());
+    }
+    if answer.is_err() {
+        if !library.outs_are_untouched(case.call) {
+            return Err("a refused call changed an out parameter".to_string());
+        }
+        if library.image.bytes() != case.image || library.buf.bytes() != case.buf {
+            return Err("a refused call changed the image or the buffer".to_string());
+        }
+    }
+    Ok(())
+}
+
+/// Where two runs of bytes first differ.
+pub fn same(what: &str, library: &[u8], model: &[u8]) -> Result<(), String> {
+    if library == model {
+        return Ok(());
+    }
+    let place = library.iter().zip(model).position(|(a, b)| a != b).unwrap_or(library.len().min(model.len()));
+    let (block, byte) = (place / 512, place % 512);
+    let (ours, theirs) = (library.get(place), model.get(place));
+    Err(format!("the {what} differs first in block {block} byte {byte}: the library has {ours:?}, the model {theirs:?}"))
+}

@@ -1,0 +1,187 @@
+//! The images that calls are made on.
+use crate::by_model::Outcome;
+use crate::case::{Case, Values};
+use crate::damage::damage;
+use model::Handle;
+use volumes::{entries, random, Entry, Geometry, Rng, Size, Volume, Wish, BLOCK_SIZE, CAPACITY, HEADER};
+
+/// An image, and what is known of it for aiming calls.
+pub struct Scene {
+    pub image: Vec<u8>,
+    pub k: u32,
+    /// What the volume held before it was damaged, or holds.
+    pub entries: Vec<Entry>,
+    /// Handles that calls have answered.
+    pub handles: Vec<Handle>,
+    /// How the image was made.
+    pub made: String,
+    pub well_formed: bool,
+}
+
+pub fn draw(rng: &mut Rng) -> Scene {
+    match rng.below(20) {
+        0..=7 => whole(rng),
+        8..=14 => damaged(rng),
+        15..=17 => wild(rng),
+        18 => noise(rng),
+        _ => cut(rng),
+    }
+}
+
+fn draw_volume(rng: &mut Rng) -> Volume {
+    let size = match rng.below(40) {
+        0 => Size::Large,
+        1..=10 => Size::Usual,
+        _ => Size::Small,
+    };
+    let k = match rng.below(16) {
+        0 => 0,
+        1 => 1,
+        2 => rng.below(40) as u32,
+        // A few data blocks, and all in reach.
+        3 if size == Size::Usual => 4090,
+        _ => 8,
+    };
+    let entries = *rng.pick(&[0, 1, 3, 6, 12, 25, 60]);
+    let depth = if rng.one_in(4) { *rng.pick(&[2, 5, 15, 16, 16, 16]) } else { 0 };
+    let free = rng.one_in(3).then(|| rng.below(4) as u32);
+    random(Wish { k, size, entries, depth, free }, rng)
+}
+
+fn whole(rng: &mut Rng) -> Scene {
+    let volume = draw_volume(rng);
+    let made = format!("a well-formed volume, {:?}", volume.geometry);
+    Scene::new(volume, made, true)
+}
+
+/// A volume with one to three edits.
+fn damaged(rng: &mut Rng) -> Scene {
+    let mut volume = draw_volume(rng);
+    let edits = rng.between(1, 3);
+    let done = damage(&mut volume, edits, rng);
+    let made = format!("a volume, {:?}, edited: {}", volume.geometry, done.join("; "));
+    Scene::new(volume, made, false)
+}
+
+/// A volume that ends early, at a block or within one, or an empty image.
+fn cut(rng: &mut Rng) -> Scene {
+    let mut volume = draw_volume(rng);
+    let len = match rng.below(6) {
+        0 => 0,
+        1 => volume.image.len() - 1,
+        2 => volume.image.len() / BLOCK_SIZE / 2 * BLOCK_SIZE,
+        3 => volume.image.len() - BLOCK_SIZE,
+        4 => (volume.geometry.blocks() as usize) * BLOCK_SIZE - BLOCK_SIZE,
+        _ => rng.below(volume.image.len() as u64) as usize,
+    };
+    volume.image.truncate(len);
+    let made = format!("a volume, {:?}, cut to {len} bytes", volume.geometry);
+    Scene::new(volume, made, false)
+}
+
+impl Scene {
+    fn new(volume: Volume, made: String, well_formed: bool) -> Scene {
+        let Volume { image, geometry, entries } = volume;
+        Scene { image, k: geometry.k(), entries, handles: Vec::new(), made, well_formed }
+    }
+
+    /// How many calls are made on it, one after the other: more where they can change it.
+    pub fn calls(&self) -> usize {
+        let reach = self.geometry().map_or(0, Geometry::reach);
+        if self.well_formed && reach > 0 {
+            30
+        } else {
+            10
+        }
+    }
+
+    /// Takes note of what a call left: its image, a handle, and after an accepted change another well-formed volume.
+    pub fn go_on(&mut self, case: Case, outcome: Outcome) {
+        let changed = outcome.answer.is_ok() && case.call.changes_the_image();
+        match outcome.answer {
+            Ok(Values::Handle(handle)) => self.handles.push(handle),
+            Ok(_) if case.call.takes_handle() => self.handles.push(outcome.handle),
+            _ => {}
+        }
+        self.image = outcome.image.unwrap_or(case.image);
+        if changed {
+            self.k = case.k;
+            self.entries = entries(&self.image, self.k);
+            self.well_formed = true;
+        }
+    }
+
+    /// What the superblock says of the volume's places, where such a volume can be in the image.
+    pub fn geometry(&self) -> Option<Geometry> {
+        let blocks = self.image.len() / BLOCK_SIZE;
+        Geometry::of(&self.image, self.k).filter(|geometry| geometry.blocks() as usize <= blocks)
+    }
+}
+
+/// A small image of random bytes; half the time with a superblock that fits.
+fn noise(rng: &mut Rng) -> Scene {
+    let k = rng.below(10) as u32;
+    let mut image = vec![0; rng.between(1, 40) as usize * BLOCK_SIZE];
+    rng.fill(&mut image);
+    let n = (image.len() / BLOCK_SIZE) as u32;
+    if let (Some(geometry), true) = (Geometry::new(k, n), rng.one_in(2)) {
+        put_superblock(&mut image, geometry, rng);
+    }
+    Scene { image, k, entries: Vec::new(), handles: Vec::new(), made: "random bytes".to_string(), well_formed: false }
+}
+
+fn put_superblock(image: &mut [u8], geometry: Geometry, rng: &mut Rng) {
+    let superblock = &mut image[geometry.k() as usize * BLOCK_SIZE..][..BLOCK_SIZE];
+    superblock.fill(0);
+    superblock[..10].copy_from_slice(b"MOROS FS\x02\x00");
+    superblock[10..14].copy_from_slice(&geometry.blocks().to_be_bytes());
+    let used = rng.below(u64::from(geometry.blocks()) + 2) as u32;
+    superblock[14..18].copy_from_slice(&used.to_be_bytes());
+}
+
+/// A superblock, and data blocks that are all directory blocks of random entries with few names, linked at random: walks through it
+/// run in circles, into each other and out of the area.
+fn wild(rng: &mut Rng) -> Scene {
+    let k = rng.below(10) as u32;
+    let geometry = Geometry::new(k, k + 3 + rng.between(2, 12) as u32).expect("a small volume");
+    let mut image = vec![0; geometry.blocks() as usize * BLOCK_SIZE];
+    put_superblock(&mut image, geometry, rng);
+    for addr in geometry.data()..geometry.blocks() {
+        let next = draw_wild_address(geometry, rng);
+        let block = &mut image[addr as usize * BLOCK_SIZE..][..BLOCK_SIZE];
+        block[..4].copy_from_slice(&next.to_be_bytes());
+        fill_wild_block(&mut block[4..], geometry, rng);
+    }
+    Scene { image, k, entries: Vec::new(), handles: Vec::new(), made: format!("wild links, {geometry:?}"), well_formed: false }
+}
+
+fn draw_wild_address(geometry: Geometry, rng: &mut Rng) -> u32 {
+    match rng.below(8) {
+        0..=2 => 0,
+        3 => *rng.pick(&[geometry.data() - 1, geometry.blocks(), u32::MAX]),
+        _ => geometry.data() + rng.below(u64::from(geometry.data_blocks())) as u32,
+    }
+}
+
+/// The names of a wild volume, made of the letters that drawn paths have.
+const WILD_NAMES: [&[u8]; 7] = [b"a", b"b", b".", b"ab", b"a.", b"\x7f", b"a/b"];
+
+fn fill_wild_block(data: &mut [u8], geometry: Geometry, rng: &mut Rng) {
+    let mut at = 0;
+    for _ in 0..rng.below(9) {
+        let long = [b'a'; 255];
+        let name = if rng.one_in(20) { &long[..*rng.pick(&[200, 236, 255])] } else { *rng.pick(&WILD_NAMES) };
+        let end = at + HEADER + name.len();
+        if end > CAPACITY {
+            break;
+        }
+        data[at] = *rng.pick(&[0, 0, 0, 1, 1, 1, 2, 3]);
+        data[at + 1..at + 5].copy_from_slice(&draw_wild_address(geometry, rng).to_be_bytes());
+        let size = *rng.pick(&[0, 1, 300, 508, 509, 1016, 4000, i32::MAX as u32, 0x8000_0000, u32::MAX]);
+        data[at + 5..at + 9].copy_from_slice(&size.to_be_bytes());
+        data[at + 9..at + 17].copy_from_slice(&rng.next_u64().to_be_bytes());
+        data[at + 17] = name.len() as u8;
+        data[at + HEADER..end].copy_from_slice(name);
+        at = end;
+    }
+}

@@ -1,0 +1,94 @@
+//! A well-formed volume, W1 to W5. None here stands for damage, whatever it is.
+use std::collections::HashSet;
+
+use crate::directory::{entries_of_block, used_of_block, Entry, Kind};
+use crate::path::is_path_byte;
+use crate::volume::{self, Geometry, CAPACITY};
+
+/// 01, "Limits: file up to 2,147,483,647 bytes; directories up to depth 16 (root is 0)".
+pub const MAX_FILE: usize = 2_147_483_647;
+pub const MAX_DEPTH: usize = 16;
+
+/// For each index whether a chain has its block.
+type Reached = Vec<bool>;
+
+/// W1 (what refusals 1, 2 and 3 leave of it), W2 to W4 by walking the tree, and W5.
+pub fn well_formed(image: &[u8], geo: Geometry) -> bool {
+    let mut reached = vec![false; geo.data_blocks()];
+    volume::superblock_rest_is_zero(image, geo)
+        && directory_sum(image, geo, geo.d(), 0, &mut reached).is_some()
+        && bits_are_true(image, geo, &reached)
+}
+
+/// W5: "a bit is set exactly for each block reached from the root, bits past the data are clear, and the used count is D plus the
+/// number of set bits."
+fn bits_are_true(image: &[u8], geo: Geometry, reached: &Reached) -> bool {
+    let set = |x: &usize| volume::is_set(image, geo, *x);
+    let data_bits_are_true = (0..geo.data_blocks()).all(|x| set(&x) == reached[x]);
+    let other_bits_are_clear = (geo.data_blocks()..geo.bitmap_bits()).all(|x| !set(&x));
+    let set_bits = (0..geo.bitmap_bits()).filter(set).count();
+    data_bits_are_true && other_bits_are_clear && volume::used(image, geo) == geo.d() + set_bits
+}
+
+/// W2: "every chain stays in D..n-1, ends, and no two chains share a block." Answers the chain's blocks.
+fn claim(image: &[u8], geo: Geometry, first: usize, reached: &mut Reached) -> Option<Vec<usize>> {
+    let chain = volume::chain(image, geo, first);
+    for &block in &chain.blocks {
+        if std::mem::replace(&mut reached[geo.index(block)], true) {
+            return None;
+        }
+    }
+    chain.whole.then_some(chain.blocks)
+}
+
+/// "The check walks a directory's entries, and an entry that is a directory is walked in its turn, depth falling." Answers the sum.
+/// W4: "each directory block but the first has an entry; depth at most 16".
+fn directory_sum(image: &[u8], geo: Geometry, first: usize, depth: usize, reached: &mut Reached) -> Option<usize> {
+    if depth > MAX_DEPTH {
+        return None;
+    }
+    let blocks = claim(image, geo, first, reached)?;
+    if !blocks.iter().all(|&block| rest_is_zero(image, block)) {
+        return None;
+    }
+    if blocks[1..].iter().any(|&block| entries_of_block(image, block).is_empty()) {
+        return None;
+    }
+    let entries: Vec<Entry> = blocks.iter().flat_map(|&block| entries_of_block(image, block)).collect();
+    if !names_are_good(&entries) {
+        return None;
+    }
+    for entry in &entries {
+        walk_entry(image, geo, entry, depth, reached)?;
+    }
+    Some(entries.iter().map(Entry::len).sum())
+}
+
+/// W3: "every entry's address is in D..n-1, so 0 is damage", which claiming its chain shows. W4: "a file within the size limit has
+/// max(1, ceil(size/508)) blocks; a directory entry's size is the sum of 18 + name length over its entries. A device's chain has any
+/// length." A file above the limit is damage (reading 1).
+fn walk_entry(image: &[u8], geo: Geometry, entry: &Entry, depth: usize, reached: &mut Reached) -> Option<()> {
+    let is_good = match entry.kind {
+        Kind::Dir => directory_sum(image, geo, entry.address, depth + 1, reached)? == entry.size,
+        Kind::File => claim(image, geo, entry.address, reached)?.len() == file_blocks(entry.size) && entry.size <= MAX_FILE,
+        Kind::Device => claim(image, geo, entry.address, reached).is_some(),
+    };
+    is_good.then_some(())
+}
+
+/// How many blocks a file has: "max(1, ceil(size/508))".
+pub fn file_blocks(size: usize) -> usize {
+    size.div_ceil(CAPACITY).max(1)
+}
+
+/// W3: "bytes after a block's last entry are zero".
+fn rest_is_zero(image: &[u8], block: usize) -> bool {
+    volume::data(image, block)[used_of_block(image, block)..].iter().all(|&byte| byte == 0)
+}
+
+/// W3: "names are 1 to 255 bytes of 0x20 to 0x7E without `/`, distinct in a directory". A read entry's length is never 0.
+fn names_are_good(entries: &[Entry]) -> bool {
+    let bytes_are_good = |entry: &Entry| entry.name.iter().all(|&byte| is_path_byte(byte) && byte != b'/');
+    let distinct: HashSet<&[u8]> = entries.iter().map(|entry| entry.name.as_slice()).collect();
+    entries.iter().all(bytes_are_good) && distinct.len() == entries.len()
+}

@@ -1,0 +1,156 @@
+//! Directories: the entries of a block, and walks along a directory's chain.
+use crate::volume::{self, Geometry, CAPACITY};
+use crate::{Answer, Refusal};
+
+/// "header 18"
+pub const HEADER: usize = 18;
+/// An entry ends by here: "offset + 18 + length is above 507" stops.
+pub const LAST_END: usize = 507;
+
+#[derive(Clone, Copy, Debug, PartialEq, Eq)]
+pub enum Kind {
+    Dir = 0,
+    File = 1,
+    Device = 2,
+}
+
+/// "kind (0 directory, 1 file, 2 device), address 4, size 4, time 8, name length 1, name", and where it stands.
+#[derive(Clone, Debug, PartialEq, Eq)]
+pub struct Entry {
+    pub kind: Kind,
+    pub address: usize,
+    pub size: usize,
+    pub time: u64,
+    pub name: Vec<u8>,
+    /// The directory block that holds it.
+    pub block: usize,
+    /// Its offset in the block's 508 bytes.
+    pub offset: usize,
+}
+
+impl Entry {
+    pub fn len(&self) -> usize {
+        HEADER + self.name.len()
+    }
+
+    pub fn end(&self) -> usize {
+        self.offset + self.len()
+    }
+}
+
+/// "A block's entries stop where the offset is 490 or more, the kind is above 2, the name length is 0, or offset + 18 + length is
+/// above 507."
+fn entry_at(image: &[u8], block: usize, offset: usize) -> Option<Entry> {
+    if offset >= CAPACITY - HEADER {
+        return None;
+    }
+    let bytes = &volume::data(image, block)[offset..];
+    let kind = match bytes[0] {
+        0 => Kind::Dir,
+        1 => Kind::File,
+        2 => Kind::Device,
+        _ => return None,
+    };
+    let length = bytes[17] as usize;
+    if length == 0 || offset + HEADER + length > LAST_END {
+        return None;
+    }
+    Some(Entry {
+        kind,
+        address: volume::number(&bytes[1..5]) as usize,
+        size: volume::number(&bytes[5..9]) as usize,
+        time: volume::number(&bytes[9..17]),
+        name: bytes[HEADER..HEADER + length].to_vec(),
+        block,
+        offset,
+    })
+}
+
+/// All entries of a block, those with address 0 among them.
+pub fn entries_of_block(image: &[u8], block: usize) -> Vec<Entry> {
+    let mut found: Vec<Entry> = Vec::new();
+    while let Some(entry) = entry_at(image, block, found.last().map_or(0, Entry::end)) {
+        found.push(entry);
+    }
+    found
+}
+
+/// The bytes of a block that its entries take.
+pub fn used_of_block(image: &[u8], block: usize) -> usize {
+    entries_of_block(image, block).last().map_or(0, Entry::end)
+}
+
+/// The entries that a walk along a directory meets.
+pub struct Walk {
+    pub entries: Vec<Entry>,
+    /// Whether the walk came to the end of the directory; else going on past the last entry gives 17.
+    pub whole: bool,
+}
+
+/// "Entries with address 0 are passed over. Reading goes on in the next block."
+pub fn walk(image: &[u8], geo: Geometry, first: usize) -> Walk {
+    let chain = volume::chain(image, geo, first);
+    let all = chain.blocks.iter().flat_map(|&block| entries_of_block(image, block));
+    Walk { entries: all.filter(|entry| entry.address != 0).collect(), whole: chain.whole }
+}
+
+impl Walk {
+    /// "A walk ends where its answer is known: a lookup at its entry": the first entry that will do, nothing, or 17 where the walk
+    /// finds none before the damage.
+    pub fn find(self, will_do: impl Fn(&Entry) -> bool) -> Answer<Option<Entry>> {
+        match self.entries.into_iter().find(will_do) {
+            Some(entry) => Ok(Some(entry)),
+            None if self.whole => Ok(None),
+            None => Err(Refusal::Damaged),
+        }
+    }
+
+    /// The directory's size: "the sum of 18 + name length over its entries".
+    pub fn sum(&self) -> Answer<usize> {
+        if !self.whole {
+            return Err(Refusal::Damaged);
+        }
+        Ok(self.entries.iter().map(Entry::len).sum())
+    }
+}
+
+/// The entry of that name, or 5, or 17.
+pub fn lookup(image: &[u8], geo: Geometry, first: usize, name: &[u8]) -> Answer<Entry> {
+    walk(image, geo, first).find(|entry| entry.name == name)?.ok_or(Refusal::NotFound)
+}
+
+/// A directory that a path leads to.
+pub struct Opened {
+    pub first: usize,
+    /// "directories up to depth 16 (root is 0)"
+    pub depth: usize,
+    /// The directory's own entry, if it has one: the root has none.
+    pub own: Option<Entry>,
+}
+
+/// "an empty piece is not found": when its turn comes, and without a walk for it (reading 3). 6: "a directory part isn't a directory".
+pub fn open_directory(image: &[u8], geo: Geometry, pieces: &[&[u8]]) -> Answer<Opened> {
+    let mut at = Opened { first: geo.d(), depth: 0, own: None };
+    for piece in pieces {
+        if piece.is_empty() {
+            return Err(Refusal::NotFound);
+        }
+        let entry = lookup(image, geo, at.first, piece)?;
+        if entry.kind != Kind::Dir {
+            return Err(Refusal::WrongKind);
+        }
+        at = Opened { first: entry.address, depth: at.depth + 1, own: Some(entry) };
+    }
+    Ok(at)
+}
+
+/// The first addresses of all directories at and under one, in a volume that passed the check.
+pub fn directories_under(image: &[u8], geo: Geometry, first: usize) -> Vec<usize> {
+    let mut found = vec![first];
+    for entry in walk(image, geo, first).entries {
+        if entry.kind == Kind::Dir {
+            found.extend(directories_under(image, geo, entry.address));
+        }
+    }
+    found
+}

@@ -1,1 +1,0 @@
-//! original_k1

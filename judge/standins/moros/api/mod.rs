@@ -1,0 +1,3 @@
+pub mod fs;
+pub mod process;
+pub mod syscall;

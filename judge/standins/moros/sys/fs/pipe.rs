@@ -1,0 +1,1 @@
+// Pipes: nothing of the file system uses them.

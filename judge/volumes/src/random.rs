@@ -1,0 +1,154 @@
+//! Volumes at random.
+use crate::geometry::Geometry;
+use crate::rng::Rng;
+use crate::tree::{NodeId, Order, Style, Tree, Volume, ROOT};
+
+/// How many blocks a volume shall have.
+#[derive(Clone, Copy, Debug, PartialEq, Eq)]
+pub enum Size {
+    /// From 2 blocks after the bitmap's start to some hundreds. With K below some 4,000 nothing is in reach of allocation.
+    Small,
+    /// 4,096 to 4,400 blocks, with K above these so many and K.
+    Usual,
+    /// Up to 20,500 blocks and K: several bitmap blocks, and often blocks out of reach.
+    Large,
+}
+
+/// What is asked of a volume made at random.
+#[derive(Clone, Copy, Debug)]
+pub struct Wish {
+    pub k: u32,
+    pub size: Size,
+    /// Entries at most.
+    pub entries: u32,
+    /// A line of directories to this depth, at most 16.
+    pub depth: u32,
+    /// Exactly so many blocks in reach stay free.
+    pub free: Option<u32>,
+}
+
+/// Sizes at the edges of a block, and some others.
+const SIZES: [u32; 18] = [0, 1, 2, 490, 507, 508, 509, 600, 1000, 1015, 1016, 1017, 1523, 1524, 1525, 2032, 3000, 9000];
+/// Lengths of long names: two of 235 and 236 bytes fill a block to its end, and to one byte too many.
+const LONG: [usize; 9] = [60, 100, 144, 145, 200, 235, 236, 237, 255];
+const SHORT: [&str; 14] = ["a", "b", ".", "..", "ab", "ba", "a.", "..b", "aa", "bb", "a b", "~", " ", "m1"];
+
+/// Makes a volume; what a wish asks is left out where it doesn't fit.
+pub fn random(wish: Wish, rng: &mut Rng) -> Volume {
+    let geometry = draw_geometry(wish.k, wish.size, rng);
+    let mut entries = u64::from(wish.entries);
+    let mut free = wish.free.filter(|&free| free < geometry.reach());
+    let mut depth = wish.depth;
+    loop {
+        let style = Style {
+            order: if rng.one_in(4) { Order::Rising } else { Order::Scattered },
+            loose: rng.one_in(2),
+            stale: !rng.one_in(4),
+            tail: if rng.one_in(3) { rng.between(1, 9) as u32 } else { 0 },
+            free,
+        };
+        let tree = grow(entries, depth, rng);
+        if let Some(volume) = tree.lay(geometry, style, rng) {
+            return volume;
+        }
+        if entries == 0 {
+            free = None;
+            depth /= 2;
+        }
+        entries /= 2;
+    }
+}
+
+fn draw_geometry(k: u32, size: Size, rng: &mut Rng) -> Geometry {
+    loop {
+        if let Some(geometry) = Geometry::new(k, draw_blocks(k, size, rng)) {
+            return geometry;
+        }
+    }
+}
+
+fn draw_blocks(k: u32, size: Size, rng: &mut Rng) -> u32 {
+    let first_bitmap = k + 2;
+    let base = if k > 4000 { first_bitmap } else { 0 };
+    let blocks = match size {
+        Size::Small if rng.one_in(3) => u64::from(first_bitmap) + rng.between(2, 6),
+        Size::Small => u64::from(first_bitmap) + rng.between(2, 600),
+        // The last block of one bitmap block, and the first ones of the next.
+        Size::Usual if rng.one_in(4) => u64::from(first_bitmap) + rng.between(4096, 4100),
+        Size::Usual => u64::from(base) + rng.between(4096, 4400),
+        // Around the places where one bitmap block more comes into reach.
+        Size::Large if rng.one_in(2) => u64::from(base) + rng.between(2, 5) * 4096 + rng.below(24) - 12,
+        Size::Large => u64::from(base) + rng.between(8200, 20_500),
+    };
+    blocks as u32
+}
+
+fn grow(entries: u64, depth: u32, rng: &mut Rng) -> Tree {
+    let mut tree = Tree::new();
+    let mut dirs = vec![ROOT];
+    for _ in 0..depth.min(16) {
+        let deepest = dirs[dirs.len() - 1];
+        let name = draw_new_name(&tree, deepest, rng);
+        dirs.push(tree.dir(deepest, &name[..name.len().min(40)], rng.next_u64()));
+    }
+    for _ in 0..entries {
+        add_entry(&mut tree, &mut dirs, rng);
+    }
+    tree
+}
+
+fn add_entry(tree: &mut Tree, dirs: &mut Vec<NodeId>, rng: &mut Rng) {
+    // The root and the first directories get the most, so that some have several blocks.
+    let last = rng.below(dirs.len() as u64);
+    let parent = dirs[rng.below(last + 1) as usize];
+    let name = draw_new_name(tree, parent, rng);
+    let time = draw_time(rng);
+    match rng.below(6) {
+        0 | 1 if tree.depth(parent) < 16 => dirs.push(tree.dir(parent, &name, time)),
+        2 => {
+            let size = rng.next_u64() as u32;
+            let blocks = rng.between(1, 4) as u32;
+            tree.device(parent, &name, time, size, blocks);
+        }
+        _ => {
+            let size = if rng.one_in(4) { rng.below(2600) as u32 } else { *rng.pick(&SIZES) };
+            tree.file(parent, &name, time, size);
+        }
+    }
+}
+
+fn draw_time(rng: &mut Rng) -> u64 {
+    match rng.below(4) {
+        0 => 0,
+        1 => rng.next_u64(),
+        _ => rng.between(1_500_000_000, 2_000_000_000),
+    }
+}
+
+fn draw_new_name(tree: &Tree, dir: NodeId, rng: &mut Rng) -> Vec<u8> {
+    loop {
+        let name = draw_name(rng);
+        if !tree.has(dir, &name) {
+            return name;
+        }
+    }
+}
+
+/// A legal name: a short one of few letters, one of any bytes, or a long one.
+pub fn draw_name(rng: &mut Rng) -> Vec<u8> {
+    let any_byte = |rng: &mut Rng| match rng.between(0x20, 0x7e) as u8 {
+        b'/' => b'x',
+        byte => byte,
+    };
+    match rng.below(8) {
+        0..=2 => rng.pick(&SHORT).as_bytes().to_vec(),
+        3 => {
+            let len = *rng.pick(&LONG);
+            (0..len).map(|_| any_byte(rng)).collect()
+        }
+        _ => {
+            let len = rng.between(1, 24);
+            (0..len).map(|_| any_byte(rng)).collect()
+        }
+    }
+}
