@@ -110,7 +110,7 @@ module _ (K : ℕ) (I J : List ℕ) (w : WellFormed K I) (h : Handle) (now : ℕ
 -- ---- the calls
 
 -- A read that is not refused counts its bytes and stores them.
-reads-given : (k : ℕ) (h f : Handle) (vs l m : List ℕ) (c : Counted) → k ≡ 0 → CountedIs k h f vs l m c → (c ≡ counted.Bytes (toRead h (length l))) × (m ≡ splice l 0 vs)
+pub reads-given : (k : ℕ) (h f : Handle) (vs l m : List ℕ) (c : Counted) → k ≡ 0 → CountedIs k h f vs l m c → (c ≡ counted.Bytes (toRead h (length l))) × (m ≡ splice l 0 vs)
 reads-given k h f vs l m (counted.Bytes j) z a = (ap counted.Bytes (a .count), a .stored)
 reads-given k h f vs l m (counted.Refused x) z a = absurd (omega (arith, a .refused, number-some x))
 
