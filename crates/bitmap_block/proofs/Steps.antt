@@ -4,7 +4,7 @@ use mathlib.Core.Path.{_≡_, refl, sym, ap, _∙_, subst}
 use mathlib.Core.Logic.{_⊎_, inl, inr, _≢_}
 use mathlib.Core.List.{List, [], _∷_, _++_}
 use Prim.Native.Nat.{ℕ, _+_, _-_, _*_, _/_, _%_, _^_, _≤_, _<_}
-use native.Mathlib.Nat.{mul-one, mul-add, mul-suc, mul-comm, mul-le-mul-left, div-add-mod, mod-lt, div-lt-iff-lt-mul}
+use native.Mathlib.Nat.{mul-one, mul-add, mul-comm, mul-le-mul-left, div-add-mod, mod-lt, div-lt-iff-lt-mul}
 use native.Mathlib.Decide.{decLt}
 use native.Mathlib.Omega.{arith}
 use lib.ListN.{length, getD, drop, length-append}
@@ -19,7 +19,7 @@ use Rattle.model.specs.Render.{blocks, count, padded, Shows}
 use Rattle.model.specs.Geometry.{Geo, geo, blockSize, mapAt, dataAt, reach, mapBits, signature, superBytes, usedCount, Sound}
 use Rattle.model.specs.Volume.{Volume}
 use Rattle.model.specs.Calls.{freeBlocks}
-use Rattle.model.proofs.Areas.{area, few, size-large}
+use Rattle.model.proofs.Areas.{area, few, size-large, block-inside}
 use Rattle.model.proofs.Counts.{count-append}
 use Rattle.model.proofs.Free.{LowestClear, clear-ext, clear-lowest, clear-next, free-image, free-found, free-once}
 use Rattle.model.proofs.Commit.{shows-both, shows-two, shows-stored, shows-before, shows-after}
@@ -28,7 +28,7 @@ use Rattle.model.proofs.OneVolume.{top-reads, used-is}
 use Rattle.model.proofs.Owns.{shows-kept}
 use Rattle.model.proofs.Sums.{row}
 use Rattle.super_block.specs.Super.{counted}
-use Rattle.bitmap_block.specs.Bitmap.{mark, marked, clears, more, fewer, taken, freed, Room}
+use Rattle.bitmap_block.specs.Bitmap.{mark, marked, clears, more, fewer, taken, freed, Room, fresh}
 
 -- ---- places
 
@@ -44,10 +44,6 @@ mark-place K n I x =
 pub mark-is : (g : Geo) (I : List ℕ) (x : ℕ) → mark g I x ≡ bit I (blockSize g * mapAt g) x
 unfolding mark
 mark-is g I x = refl
-
--- a block below n is in an image of n blocks or more
-in-image : (B k n len : ℕ) → n * B ≤ len → k < n → B * k + B ≤ len
-in-image B k n len h q = omega (arith, mul-le-mul-left B q, mul-suc B k, mul-comm B n)
 
 -- a bit of the k blocks from a on has its byte in them
 byte-in : (B a k x : ℕ) → x < 8 * (B * k) → B * a + x / 8 < B * (a + k)
@@ -68,10 +64,10 @@ module _ (g : Geo) (len : ℕ) (s : Sound g len) where
 
   -- the superblock, and a block of the data, are in the image
   pub super-in : blockSize g * g .K + blockSize g ≤ len
-  super-in = in-image (blockSize g) (g .K) (g .n) len (s .inside-image) (omega (arith, s .room))
+  super-in = block-inside g len s (g .K) (omega (arith, s .room))
 
   pub data-in : (x : ℕ) → dataAt g + x < g .n → blockSize g * (dataAt g + x) + blockSize g ≤ len
-  data-in x h = in-image (blockSize g) (dataAt g + x) (g .n) len (s .inside-image) h
+  data-in x h = block-inside g len s (dataAt g + x) h
 
   -- an index in the data has a bit in the bitmap
   pub index-in : (x : ℕ) → dataAt g + x < g .n → x < mapBits g
@@ -84,7 +80,7 @@ module _ (g : Geo) (len : ℕ) (s : Sound g len) where
 
   pub bit-in : (x : ℕ) → x < mapBits g → blockSize g * mapAt g + x / 8 < len
   bit-in x h =
-      omega (arith, bit-below x h, in-image (blockSize g) (dataAt g) (g .n) len (s .inside-image) (area g len s .some-data))
+      omega (arith, bit-below x h, block-inside g len s (dataAt g) (area g len s .some-data))
 
 -- ---- any store: where it keeps what a reader looks at
 
@@ -379,6 +375,37 @@ clears-first g I x h e = go (clears g I) h e
     go : (l : List ℕ) → 1 ≤ length l → dataAt g + x ≡ getD l 0 0 → l ≡ (dataAt g + x) ∷ drop 1 l
     go [] h e = absurd (omega arith)
     go (a ∷ l) h e = ap (λ (b : ℕ). b ∷ l) (sym e)
+
+-- What stands first among the clear ones is a block of the data,
+module _ (g : Geo) (I : List ℕ) (h : 1 ≤ length (clears g I)) where
+  pub fresh-low : dataAt g ≤ fresh g I
+  unfolding clears fresh
+  fresh-low = go (clears g I) refl h
+    where
+      go : (c : List ℕ) → clears g I ≡ c → 1 ≤ length c → dataAt g ≤ getD c 0 0
+      go [] e k = absurd (omega arith)
+      go (a ∷ c) e k = clear-lowest (λ b. mark g I (b - dataAt g)) _ _ a c e .from
+
+  pub fresh-index : dataAt g + (fresh g I - dataAt g) ≡ fresh g I
+  fresh-index = omega (arith, fresh-low)
+
+  pub fresh-first : clears g I ≡ (dataAt g + (fresh g I - dataAt g)) ∷ drop 1 (clears g I)
+  unfolding fresh
+  fresh-first = clears-first g I (fresh g I - dataAt g) h (unfold fresh in fresh-index)
+
+  pub fresh-head : clears g I ≡ fresh g I ∷ drop 1 (clears g I)
+  fresh-head = fresh-first ∙ ap (λ (b : ℕ). b ∷ drop 1 (clears g I)) fresh-index
+
+  -- and clear
+  module _ (s : Sound g (length I)) where
+    pub fresh-data : dataAt g + (fresh g I - dataAt g) < g .n
+    fresh-data = first-in g I s (fresh g I - dataAt g) (drop 1 (clears g I)) fresh-first
+
+    pub fresh-high : fresh g I < g .n
+    fresh-high = omega (arith, fresh-data, fresh-index)
+
+    pub fresh-clear : mark g I (fresh g I - dataAt g) ≡ 0
+    fresh-clear = first-clear g I s (fresh g I - dataAt g) (drop 1 (clears g I)) fresh-first
 
 -- ---- a block given back
 

@@ -1,7 +1,7 @@
 -- The bitmap: what is read of it, and what taking and freeing a block make of the image.
 use mathlib.Core.List.{List}
 use Prim.Native.Nat.{ℕ, _+_, _-_, _*_, _≤_}
-use lib.ListN.{length}
+use lib.ListN.{length, getD}
 use Rattle.bits.specs.Bit.{bit, withBit}
 use Rattle.block.specs.Block.{zeroed}
 use Rattle.model.specs.Geometry.{Geo, blockSize, mapAt, dataAt, reach, usedCount}
@@ -20,6 +20,10 @@ marked g I x v = withBit I (blockSize g * mapAt g) x v
 -- The addresses of the clear indexes in reach, lowest first.
 unfoldable pub clears : Geo → List ℕ → List ℕ
 clears g I = clearFrom (λ b. mark g I (b - dataAt g)) (dataAt g) (reach g)
+
+-- 01: "A new block is the lowest clear index within reach": its address.
+unfoldable pub fresh : Geo → List ℕ → ℕ
+fresh g I = getD (clears g I) 0 0
 
 -- The used count one more, or one fewer.
 unfoldable pub more : Geo → List ℕ → List ℕ

@@ -7,23 +7,23 @@ use native.Mathlib.Omega.{arith}
 use lib.Dec.{ltb, leb, eqb}
 use lib.ListN.{length, take}
 use borrow.Author.Tests.{lt-ltb, le-ltb, eq-eqb, ne-eqb, leb-true, ltb-false, eqb-false}
+use Rattle.wire.proofs.Picks.{pick-case}
 use Rattle.model.specs.Answers.{Reply, accepted, refused, refusalNumber, andThen, when, given}
-use Rattle.model.specs.Geometry.{Geo, geoAt, geo, countAt, dataAt}
-use Rattle.model.specs.Tree.{Tree}
-use Rattle.model.specs.Volume.{Volume, WellFormed, maxDepth}
+use Rattle.model.specs.Geometry.{Geo, countAt, dataAt}
+use Rattle.model.specs.Volume.{WellFormed, maxDepth}
 use Rattle.model.specs.declared.Refusal.{Refusal}
 use Rattle.model.proofs.Opens.{when-true, when-false, or-false}
-use Rattle.model.proofs.OneVolume.{laid-geo}
+use Rattle.model.proofs.Replies.{given-none, given-some, and-then-ok, and-then-no}
 use Rattle.block.specs.Block.{next}
 use Rattle.super_block.specs.declared.SuperBlock.{SuperBlock}
 use Rattle.super_block.specs.Super.{geoOf, Fit}
+use Rattle.super_block.proofs.Fits.{well-volume}
 use Rattle.bitmap_block.specs.Bitmap.{clears, Room}
 use Rattle.bitmap_block.proofs.Steps.{volume-clears, volume-room}
 use Rattle.dir_entry.specs.declared.DirEntry.{DirEntry}
 use Rattle.dir_entry.specs.declared.Kind.{Kind}
 use Rattle.dir_entry.specs.declared.Kind.the-variants.{Dir}
 use Rattle.dir_entry.specs.Entry.{header, isDir}
-use Rattle.dir_entry.proofs.Slots.{pick-case}
 use Rattle.read_dir.specs.declared.Found.{Found}
 use Rattle.read_dir.specs.declared.Found.the-variants as found
 use Rattle.read_dir.specs.declared.Place.{Place}
@@ -39,31 +39,16 @@ use Rattle.path.specs.Path.{lastName, dirPart}
 use Rattle.path.specs.Post.{between, PartsIs}
 use Rattle.path.specs.declared.Parts.{Parts}
 use Rattle.dir.specs.Hold.{Hold, holdDir, ownOf}
-use Rattle.dir.specs.Post.{holdOf, holdsSays, HoldsIn, ownedSays, OwnedIn}
+use Rattle.dir.specs.Post.{holdOf, holdsSays, HoldsIn, ownedSays}
 use Rattle.dir.specs.declared.Holding.{Holding}
 use Rattle.dir.specs.declared.Holds.{Holds}
 use Rattle.dir.specs.declared.Holds.the-variants as holds
 use Rattle.dir.specs.declared.Owned.{Owned}
 use Rattle.dir.specs.declared.Owned.the-variants as owned
-use Rattle.dir.proofs.Laws.{and-then-ok, and-then-no}
 use Rattle.creates.specs.Creating.{Site, Fresh, badName, tooDeep, existsNumber, spotNumber, noRoom, siteAt, siteIn, siteOf, freshOf, createdOn, imageAt, createdImage}
 use Rattle.creates.specs.Post.{sitedSays, SitedIn}
 use Rattle.creates.specs.declared.Sited.{Sited}
 use Rattle.creates.specs.declared.Sited.the-variants as sited
-
--- ---- a refusal, if there is one
-
-pub given-none : {A : Type 0} {k : ℕ} (r : Reply A) → k ≡ 0 → given k r ≡ r
-unfolding given
-given-none r e = ap (λ (j : ℕ). given j r) e
-
-given-suc : {A : Type 0} (k : ℕ) (r : Reply A) → 1 ≤ k → given k r ≡ refused k
-unfolding given
-given-suc zero r h = absurd (omega arith)
-given-suc (suc k) r h = refl
-
-pub given-some : {A : Type 0} (j : ℕ) {k : ℕ} (r : Reply A) → 1 ≤ j → k ≡ j → given k r ≡ refused j
-given-some j {k} r h e = ap (λ (i : ℕ). given i r) e ∙ given-suc j r h
 
 -- ---- the tests of name and depth
 
@@ -86,14 +71,6 @@ module _ (x : List ℕ) where
 
 pub deep-dir : (k : Kind) (d : ℕ) → k ≡ Dir → leb 16 d ≡ (isDir k && leb maxDepth d)
 deep-dir k d e = ap (λ (z : Kind). isDir z && leb 16 d) (sym e)
-
--- ---- the volume that was checked
-
-pub well-volume : (s : SuperBlock) (I : List ℕ) → WellFormed (s .addr .0) I → s .blocks ≡ countAt (s .addr .0) I → (t : Tree maxDepth) × Volume (geoOf s) I maxDepth t
-well-volume s I w e =
-    let q : w .numbers ≡ geoOf s
-    = laid-geo (w .numbers) I maxDepth (w .tree) _ (w .volume .laid) ∙ ap (λ (K : ℕ). geoAt K I) (w .here) ∙ ap (geo (s .addr .0)) (sym e) in
-    (w .tree, subst (λ (g : Geo). Volume g I maxDepth (w .tree)) q (w .volume))
 
 -- ---- a spot
 
@@ -120,10 +97,7 @@ module _ (s : SuperBlock) (I : List ℕ) (p : Spot) (k : ℕ) (needs : k ≡ nee
   pub spot-room : (m : ℕ) → WellFormed (s .addr .0) I → s .blocks ≡ countAt (s .addr .0) I → m ≡ length (clears (geoOf s) I) → k ≤ m → Room (geoOf s) I (needed p)
   spot-room m w e q h =
       let v = well-volume s I w e in
-      volume-room (geoOf s) I maxDepth (v .0) (v .1) (needed p) (subst (λ (l : List ℕ). needed p ≤ length l) (volume-clears (geoOf s) I maxDepth (v .0) (v .1)) (omega arith))
-
-pub own-in : (I : List ℕ) (o : Owned) (w : Own) → OwnedIn I o → o ≡ owned.At w → OwnIn I w
-own-in I o w h e = subst (OwnedIn I) e h
+      volume-room (geoOf s) I maxDepth (w .tree) v (needed p) (subst (λ (l : List ℕ). needed p ≤ length l) (volume-clears (geoOf s) I maxDepth (w .tree) v) (omega arith))
 
 -- ---- the site at a spot
 

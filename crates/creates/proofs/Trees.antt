@@ -19,6 +19,7 @@ use Rattle.model.specs.Volume.{maxDepth, GoodName, Volume}
 use Rattle.model.specs.Calls.{freeBlocks, entryRoom, toCreate, entryBlock, CreatesFile, CreatesDir}
 use Rattle.model.proofs.Opens.{when-true, when-false, when-none, first-of-one}
 use Rattle.model.proofs.Lists.{not-some}
+use Rattle.model.proofs.Replies.{not-accepted, accepted-one, given-none, given-some, given-accepted, given-refused, then-accepted, then-refused, and-then-ok, and-then-no}
 use Rattle.bitmap_block.proofs.Steps.{volume-clears}
 use Rattle.dir_entry.specs.declared.Kind.{Kind}
 use Rattle.dir_entry.specs.declared.Kind.the-variants.{Dir, File}
@@ -34,35 +35,14 @@ use Rattle.dir_create.proofs.Inserted.{inserted-file, inserted-dir, inserted-en
 use Rattle.path.specs.Path.{pathBytes, lastName, dirPart, steps}
 use Rattle.path.proofs.Laws.{bytes-all, last-names}
 use Rattle.dir.specs.Hold.{Hold, holdDir, ownOf}
-use Rattle.dir.proofs.Laws.{and-then-ok, and-then-no}
 use Rattle.dir_tree.specs.Held.{HeldAt}
 use Rattle.dir_tree.proofs.Finds.{lookup-or, find-is, find-missing}
 use Rattle.dir_tree.proofs.Holding.{hold-is, own-is, hold-refused, hold-some}
 use Rattle.creates.specs.Creating.{Site, Fresh, badName, tooDeep, existsNumber, spotNumber, noRoom, siteAt, siteIn, siteOf, freshOf, createdOn, imageAt, createdImage}
 use Rattle.creates.specs.OnTree.{treeRefusal}
-use Rattle.creates.proofs.Sites.{given-none, given-some, name-short}
+use Rattle.creates.proofs.Sites.{name-short}
 
 -- ---- answers
-
-not-accepted : {A : Type 0} (k : ℕ) (a : A) → refused k ≡ accepted a → ⊥
-not-accepted k a e = let z : _≡_ {A = ℕ} 0 1 = cc in omega arith
-
-same-value : {A : Type 0} (a b : A) → accepted a ≡ accepted b → a ≡ b
-same-value a b e = cc
-
-same-number : {A : Type 0} (j k : ℕ) → _≡_ {A = Reply A} (refused j) (refused k) → j ≡ k
-same-number j k e = cc
-
-given-accepted : {A : Type 0} (k : ℕ) (r : Reply A) (a : A) → given k r ≡ accepted a → (k ≡ 0) × (r ≡ accepted a)
-unfolding given
-given-accepted zero r a e = (refl, e)
-given-accepted (suc k) r a e = absurd (not-accepted (suc k) a e)
-
--- what is refused is the first refusal, or the answer's own
-given-refused : {A : Type 0} (k : ℕ) (r : Reply A) (j : ℕ) → given k r ≡ refused j → ((1 ≤ k) × (j ≡ k)) ⊎ ((k ≡ 0) × (r ≡ refused j))
-unfolding given
-given-refused zero r j e = inr (refl, e)
-given-refused (suc k) r j e = inl (omega arith, sym (same-number (suc k) j e))
 
 given-first : {A : Type 0} (k : ℕ) (ks : List ℕ) (r : Reply A) → given (firstOf (k ∷ ks)) r ≡ given k (given (firstOf ks) r)
 unfolding given firstOf
@@ -71,16 +51,6 @@ given-first (suc k) ks r = refl
 
 given-last : {A : Type 0} (k : ℕ) (r : Reply A) → given (firstOf (k ∷ [])) r ≡ given k r
 given-last k r = ap (λ (j : ℕ). given j r) (first-of-one k)
-
-then-accepted : {A B : Type 0} (r : Reply A) (f : A → Reply B) (b : B) → andThen r f ≡ accepted b → (a : A) × (r ≡ accepted a) × (f a ≡ accepted b)
-unfolding andThen
-then-accepted (accepted a) f b e = (a, refl, e)
-then-accepted (refused k) f b e = absurd (not-accepted k b e)
-
-then-refused : {A B : Type 0} (r : Reply A) (f : A → Reply B) (j : ℕ) → andThen r f ≡ refused j → (r ≡ refused j) ⊎ ((a : A) × (r ≡ accepted a) × (f a ≡ refused j))
-unfolding andThen
-then-refused (accepted a) f j e = inr (a, refl, e)
-then-refused (refused k) f j e = inl (ap refused (same-number k j e))
 
 -- ---- the refusals of the tree
 
@@ -242,7 +212,7 @@ module _ (g : Geo) (I : List ℕ) (t : Tree maxDepth) (v : Volume g I maxDepth t
       let b = then-accepted (holdDir (blockSize g) (dataAt g) (g .n) I (dirPart l)) (siteIn g I k last) s (a .1) in
       let q = held (b .0) (b .1) in
       let c = given-accepted (treeRefusal g unused k last (q .there)) _ s (sym (site-is g I t v way (b .0) q k last) ∙ b .2) in
-      record { hold = b .0; at = q; named = when-none 8 _ (omega arith) (a .0); tests = c .0; here = sym (same-value _ s (c .1)) }
+      record { hold = b .0; at = q; named = when-none 8 _ (omega arith) (a .0); tests = c .0; here = sym (accepted-one _ s (c .1)) }
 
   one-there : (s : Some) (h : Hold) (q : HeldAt (blockSize g) maxDepth way t h) → find maxDepth way t ≡ some s → q .there ≡ s
   one-there s h q f = let e = q .found in cc

@@ -5,10 +5,10 @@ use mathlib.Core.Logic.{_⊎_, inl, inr}
 use mathlib.Core.List.{List, [], _∷_}
 use Prim.Native.Nat.{ℕ, _-_, _<_}
 use native.Mathlib.Omega.{arith}
-use Rattle.wire.specs.Pick.{pick}
 use Rattle.wire.proofs.Picks.{either}
-use Rattle.model.specs.Answers.{Reply, accepted, refused, andThen, when, given}
+use Rattle.model.specs.Answers.{Reply, accepted, refused, when, given}
 use Rattle.model.specs.Geometry.{Geo, blockSize, dataAt}
+use Rattle.model.proofs.Replies.{not-accepted, given-yes, given-no, then-accepted, first-refused}
 use Rattle.dir_entry.specs.declared.DirEntry.{DirEntry}
 use Rattle.dir_entry.proofs.Slots.{slot-stands}
 use Rattle.read_dir.specs.declared.Place.{Place}
@@ -26,39 +26,21 @@ use Rattle.deletes.specs.Deleting.{Doomed, hasEntries, onPlaced, doomedA
 
 -- ---- replies
 
-pub given-some : {A : Type 0} (b : Bool) (r : Reply A) → b ≡ true → given (when 14 b) r ≡ refused 14
-unfolding given when pick
-given-some b r e = rw e
-
-pub given-none : {A : Type 0} (b : Bool) (r : Reply A) → b ≡ false → given (when 14 b) r ≡ r
-unfolding given when pick
-given-none b r e = rw e
-
--- a refusal is no answer
-pub not-refused : {A : Type 0} (k : ℕ) (a : A) → refused k ≡ accepted a → ⊥
-not-refused k a e = let z : _≡_ {A = ℕ} 0 1 = cc in omega arith
-
--- what is accepted was accepted before
-then-some : {A C : Type 0} (r : Reply A) (f : A → Reply C) (c : C) → andThen r f ≡ accepted c → (a : A) × (r ≡ accepted a) × (f a ≡ accepted c)
-unfolding andThen
-then-some (accepted a) f c e = (a, refl, e)
-then-some (refused k) f c e = absurd (not-refused k c e)
-
 given-past : {A : Type 0} (b : Bool) (r : Reply A) (a : A) → given (when 14 b) r ≡ accepted a → (b ≡ false) × (r ≡ accepted a)
 given-past b r a e = go (either b)
   where
     go : (b ≡ true) ⊎ (b ≡ false) → (b ≡ false) × (r ≡ accepted a)
-    go (inl t) = absurd (not-refused 14 a (sym (given-some b r t) ∙ e))
-    go (inr t) = (t, sym (given-none b r t) ∙ e)
+    go (inl t) = absurd (not-accepted 14 a (sym (given-yes 14 r (omega arith) t) ∙ e))
+    go (inr t) = (t, sym (given-no 14 r t) ∙ e)
 
 name-past : {A : Type 0} (x : List ℕ) (r : Reply A) (a : A) → onName x r ≡ accepted a → r ≡ accepted a
-name-past [] r a e = absurd (not-refused 5 a e)
+name-past [] r a e = absurd (not-accepted 5 a e)
 name-past (c ∷ x) r a e = e
 
 placed-past : {A : Type 0} (f : Found) (k : DirEntry → Place → Reply A) (a : A) → onPlaced f k ≡ accepted a → (e : DirEntry) × (p : Place) × (f ≡ found.At e p) × (k e p ≡ accepted a)
 placed-past (found.At e p) k a q = (e, p, refl, q)
-placed-past found.Missing k a q = absurd (not-refused 5 a q)
-placed-past found.Damaged k a q = absurd (not-refused 17 a q)
+placed-past found.Missing k a q = absurd (not-accepted 5 a q)
+placed-past found.Damaged k a q = absurd (not-accepted 17 a q)
 
 -- ---- the entry that is accepted
 
@@ -75,13 +57,13 @@ module _ (g : Geo) (I l : List ℕ) where
   pub doomed-by : (d : Doomed) → doomedOf g I l ≡ accepted d → DoomedBy d
   unfolding doomedOf doomedIn doomedAt
   doomed-by d k =
-      let a = then-some (holdDir (blockSize g) (dataAt g) (g .n) I (dirPart l)) (doomedIn g I (lastName l)) d (name-past (lastName l) _ d k) in
+      let a = then-accepted (holdDir (blockSize g) (dataAt g) (g .n) I (dirPart l)) (doomedIn g I (lastName l)) d (name-past (lastName l) _ d k) in
       let h : Hold = a .0 in
       let b = placed-past (findIn (lastName l) (walk (blockSize g) (dataAt g) (g .n) I (h .dir))) (doomedAt g I h) d (a .2) in
       let e : DirEntry = b .0 in
       let p : Place = b .1 in
       let c = given-past (hasEntries e) _ d (b .3) in
-      let o = then-some (ownOf (blockSize g) (dataAt g) (g .n) I h) (λ o. accepted (record { dir = h .dir; entry = e; place = p; own = o })) d (c .1) in
+      let o = then-accepted (ownOf (blockSize g) (dataAt g) (g .n) I h) (λ o. accepted (record { dir = h .dir; entry = e; place = p; own = o })) d (c .1) in
       let made : Doomed = record { dir = h .dir; entry = e; place = p; own = o .0 } in
       let q : accepted made ≡ accepted d = o .2 in
       let z : made ≡ d = cc in
@@ -96,23 +78,16 @@ module _ (g : Geo) (I l : List ℕ) where
 
 -- ---- the call's answer
 
-same-refusal : {A C : Type 0} (j k : ℕ) → _≡_ {A = Reply A} (refused j) (refused k) → _≡_ {A = Reply C} (refused j) (refused k)
-same-refusal j k e = let z : j ≡ k = cc in ap (λ (i : ℕ). refused i) z
-
 module _ (g : Geo) (I l : List ℕ) where
   -- plain success is an entry that is accepted,
   pub done-doomed : deletedOn g I l ≡ accepted tt → (x : Doomed) × (doomedOf g I l ≡ accepted x)
   unfolding deletedOn
-  done-doomed k = let r = then-some (doomedOf g I l) (λ d. accepted tt) tt k in (r .0, r .1)
+  done-doomed k = let r = then-accepted (doomedOf g I l) (λ d. accepted tt) tt k in (r .0, r .1)
 
   -- a refusal is that of the entry,
   pub refused-doomed : (k : ℕ) → deletedOn g I l ≡ refused k → doomedOf g I l ≡ refused k
-  unfolding deletedOn andThen
-  refused-doomed k e = go (doomedOf g I l) e
-    where
-      go : (r : Reply Doomed) → _≡_ {A = Reply (Unit {0})} (andThen r (λ d. accepted tt)) (refused k) → r ≡ refused k
-      go (accepted x) q = absurd (not-refused k tt (sym q))
-      go (refused j) q = same-refusal j k q
+  unfolding deletedOn
+  refused-doomed k e = first-refused (doomedOf g I l) (λ d. tt) k e
 
   -- and it leaves the image.
   pub refused-keeps : (k time : ℕ) → deletedOn g I l ≡ refused k → deletedImage g I l time ≡ I

@@ -2,14 +2,15 @@
 use mathlib.Core.Path.{_≡_, refl, sym, ap, _∙_, subst}
 use mathlib.Core.Bool.{Bool, true, false, not, _&&_}
 use mathlib.Core.List.{List}
-use Prim.Native.Nat.{ℕ, zero, suc, _+_, _-_, _≤_, _<_}
+use Prim.Native.Nat.{ℕ, zero, suc, _+_, _≤_, _<_}
 use native.Mathlib.Omega.{arith}
 use lib.Dec.{ltb, eqb}
-use lib.ListN.{length, take, length-take, length-drop}
+use lib.ListN.{length, take}
 use borrow.Author.Tests.{lt-ltb, ne-eqb}
 use Rattle.model.specs.Answers.{Reply, accepted, refused, andThen, refusalNumber}
 use Rattle.model.specs.declared.Refusal.{Refusal}
 use Rattle.model.specs.Geometry.{dataAt}
+use Rattle.model.proofs.Replies.{given-yes, given-no, and-then-ok, and-then-no}
 use Rattle.block.specs.declared.Addr.{Addr}
 use Rattle.super_block.specs.declared.SuperBlock.{SuperBlock}
 use Rattle.super_block.specs.Super.{geoOf, Fit}
@@ -27,19 +28,20 @@ use Rattle.dir_delete.specs.Delete.{removed}
 use Rattle.path.specs.Path.{lastName}
 use Rattle.path.specs.Post.{between, PartsIs}
 use Rattle.path.specs.declared.Parts.{Parts}
+use Rattle.path.proofs.Ends.{name-long}
 use Rattle.dir.specs.declared.Holding.{Holding}
 use Rattle.dir.specs.declared.Holds.{Holds}
 use Rattle.dir.specs.declared.Holds.the-variants as holds
 use Rattle.dir.specs.declared.Owned.{Owned}
 use Rattle.dir.specs.declared.Owned.the-variants as owned
 use Rattle.dir.specs.Hold.{Hold, holdDir, ownOf}
-use Rattle.dir.specs.Post.{holdOf, holdsSays, HoldsIn, ownedSays, OwnedIn}
-use Rattle.dir.proofs.Laws.{name-empty, name-some, and-then-ok, and-then-no}
+use Rattle.dir.specs.Post.{holdOf, holdsSays, HoldsIn, ownedSays}
+use Rattle.dir.proofs.Laws.{name-empty, name-some}
 use Rattle.deletes.specs.Deleting.{Doomed, hasEntries, onPlaced, doomedAt, doomedIn, doomedOf, deletedOn, imageAt, deletedImage}
 use Rattle.deletes.specs.Post.{markedSays, MarkedIn}
 use Rattle.deletes.specs.declared.Marked.{Marked}
 use Rattle.deletes.specs.declared.Marked.the-variants as marked
-use Rattle.deletes.proofs.Accepted.{Ready, given-some, given-none, doomed-by, doomed-ready}
+use Rattle.deletes.proofs.Accepted.{Ready, doomed-by, doomed-ready}
 
 -- ---- an entry that has entries
 
@@ -69,23 +71,20 @@ module _ (s : SuperBlock) (I full : List ℕ) (h : Holding) (f : Fit s I) (e : D
 
   pub at-full : t ≡ true → refused 14 ≡ doomedAt (geoOf s) I (holdOf full h) e p
   unfolding doomedAt
-  at-full z = sym (given-some (hasEntries e) _ (sym q ∙ z))
+  at-full z = sym (given-yes 14 _ (omega arith) (sym q ∙ z))
 
   module _ (z : t ≡ false) (w : Owned) (v : ownedSays w ≡ ownOf 512 (s .area .0) (s .blocks) I (holdOf full h)) where
     owned-is : andThen (ownedSays w) with-own ≡ doomedAt (geoOf s) I (holdOf full h) e p
     unfolding doomedAt
     owned-is =
         ap (λ (r : Reply Own). andThen r with-own) (v ∙ ap (λ (d : ℕ). ownOf 512 d (s .blocks) I (holdOf full h)) (f .area))
-        ∙ sym (given-none (hasEntries e) _ (sym q ∙ z))
+        ∙ sym (given-no 14 _ (sym q ∙ z))
 
     pub at-owned : (o : Own) → w ≡ owned.At o → accepted (record { dir = h .dir .0; entry = e; place = p; own = o }) ≡ doomedAt (geoOf s) I (holdOf full h) e p
     at-owned o k = sym (and-then-ok o with-own (ap ownedSays k)) ∙ owned-is
 
     pub at-lost : w ≡ owned.Lost → refused 18 ≡ doomedAt (geoOf s) I (holdOf full h) e p
     at-lost k = sym (and-then-no 18 with-own (ap ownedSays k)) ∙ owned-is
-
-pub own-inside : (I : List ℕ) (w : Owned) (o : Own) → OwnedIn I w → w ≡ owned.At o → OwnIn I o
-own-inside I w o i k = subst (OwnedIn I) k i
 
 -- ---- by its name
 
@@ -107,12 +106,9 @@ module _ (s : SuperBlock) (I full x : List ℕ) (h : Holding) (f : Fit s I) (w :
 -- ---- at its path
 
 module _ (s : SuperBlock) (I full : List ℕ) (len : ℕ) (f : Fit s I) (ps : Parts) (inside : len ≤ length full) (p : PartsIs full len ps) where
-  name-long : length (lastName (take len full)) ≡ ps .to - ps .from
-  name-long = ap length (sym (p .name)) ∙ simp (length-take, length-drop) (omega (arith, p .from-in, p .to-in))
-
   pub mark-empty : ps .from ≡ ps .to → refused 5 ≡ doomedOf (geoOf s) I (take len full)
   unfolding doomedOf
-  mark-empty e = name-empty (lastName (take len full)) _ (omega (arith, name-long))
+  mark-empty e = name-empty (lastName (take len full)) _ (omega (arith, name-long full len ps inside p))
 
   module _ (w : Holds) (some : ps .from ≡ ps .to → ⊥) (q : holdsSays full w ≡ holdDir 512 (s .area .0) (s .blocks) I (take (ps .dir) full)) where
     held-is : andThen (holdsSays full w) (doomedIn (geoOf s) I (lastName (take len full))) ≡ doomedOf (geoOf s) I (take len full)
@@ -120,7 +116,7 @@ module _ (s : SuperBlock) (I full : List ℕ) (len : ℕ) (f : Fit s I) (ps : Pa
     held-is =
         ap (λ (r : Reply Hold). andThen r (doomedIn (geoOf s) I (lastName (take len full))))
         (q ∙ ap (λ (d : ℕ). holdDir 512 d (s .blocks) I (take (ps .dir) full)) (f .area) ∙ ap (holdDir 512 (dataAt (geoOf s)) (s .blocks) I) (p .dir))
-        ∙ sym (name-some (lastName (take len full)) _ (λ z. some (omega (arith, name-long, p .from-in))))
+        ∙ sym (name-some (lastName (take len full)) _ (λ z. some (omega (arith, name-long full len ps inside p, p .from-in))))
 
     pub mark-held : (h : Holding) (r : Reply Doomed) → w ≡ holds.At h → r ≡ doomedIn (geoOf s) I (between full (ps .from) (ps .to)) (holdOf full h)
         → r ≡ doomedOf (geoOf s) I (take len full)

@@ -11,15 +11,18 @@ use lib.ListN.{length}
 use borrow.Author.Tests.{eqb-true, eq-eqb}
 use Rattle.wire.proofs.Picks.{either, not-both}
 use Rattle.model.specs.Answers.{Reply, accepted, refused, andThen, when, given}
-use Rattle.model.specs.Tree.{Name, Node, file, device, sub, Entry, Block, Below, Tree, Absent, lookup, weight, used, sum, Some, find, NoEntries, Bare}
+use Rattle.model.specs.Tree.{Name, Node, file, device, sub, Entry, Block, Below, Tree, Absent, lookup, sum, Some, find, NoEntries, Bare}
 use Rattle.model.specs.Render.{blocksAt, sizeOf, view}
 use Rattle.model.specs.Geometry.{Geo, blockSize, dataAt}
 use Rattle.model.specs.Volume.{GoodBelow, Volume}
 use Rattle.model.specs.Calls.{Occupied, Deletes}
 use Rattle.model.proofs.Full.{good-lookup, good-find}
 use Rattle.model.proofs.Lists.{not-some}
+use Rattle.model.proofs.Replies.{not-accepted, accepted-one, given-yes, given-no, and-then-ok, and-then-no}
+use Rattle.model.proofs.Levels.{used-none, bare-sum}
 use Rattle.dir_entry.specs.declared.DirEntry.{DirEntry}
 use Rattle.dir_entry.specs.Entry.{isDir}
+use Rattle.dir_entry.specs.Shown.{kindIs, headOf}
 use Rattle.read_dir.specs.declared.Found.{Found}
 use Rattle.read_dir.specs.declared.Found.the-variants as found
 use Rattle.read_dir.specs.Walk.{walk}
@@ -29,31 +32,21 @@ use Rattle.dir_delete.proofs.Removes.{removed-is}
 use Rattle.path.specs.Path.{lastName, dirPart, steps}
 use Rattle.dir.specs.Resolve.{onName}
 use Rattle.dir.specs.Hold.{Hold, holdDir}
-use Rattle.dir.proofs.Laws.{name-some, and-then-ok, and-then-no}
-use Rattle.tree_walk.specs.Shown.{kindIs, headOf, spotOf}
+use Rattle.dir.proofs.Laws.{name-some}
+use Rattle.tree_walk.specs.Shown.{spotOf}
 use Rattle.dir_tree.specs.Held.{HeldAt}
 use Rattle.dir_tree.proofs.Finds.{lookup-or, find-is, find-missing, found-is}
 use Rattle.dir_tree.proofs.Resolves.{lookup-name, absent-none}
 use Rattle.dir_tree.proofs.Holding.{hold-is, own-is, hold-refused, hold-some}
 use Rattle.deletes.specs.Deleting.{Doomed, hasEntries, onPlaced, doomedAt, doomedIn, doomedOf, deletedOn, imageAt, deletedImage}
-use Rattle.deletes.proofs.Accepted.{DoomedBy, given-some, given-none, not-refused, doomed-by, done-doomed}
+use Rattle.deletes.proofs.Accepted.{DoomedBy, doomed-by, done-doomed}
 
 -- ---- a directory has no entries where its size is 0
-
-used-none : {X : Type 0} (es : List (Entry X)) → used es ≡ 0 → es ≡ []
-unfolding used weight
-used-none [] h = refl
-used-none (e ∷ es) h = absurd (omega arith)
 
 sum-none : {X : Type 0} (bs : List (Block X)) → sum bs ≡ 0 → NoEntries bs
 unfolding sum
 sum-none [] h = tt
 sum-none (b ∷ bs) h = (used-none (b .entries) (omega arith), sum-none bs (omega arith))
-
-none-sum : {X : Type 0} (bs : List (Block X)) → NoEntries bs → sum bs ≡ 0
-unfolding sum used
-none-sum [] h = refl
-none-sum (b ∷ bs) h = let k : used (b .entries) ≡ 0 = ap used (h .0) in omega (arith, none-sum bs (h .1))
 
 -- by the size that the entry shows
 not-zero : (z : ℕ) → not (eqb z 0) ≡ false → z ≡ 0
@@ -75,7 +68,7 @@ unfolding sizeOf view
 node-bare B d (file s cs) h = refl
 node-bare B d (device s cs) h = refl
 node-bare B zero (sub x) h = absurd x
-node-bare B (suc d) (sub x) h = ap not (eq-eqb (sum x) 0 (none-sum x h))
+node-bare B (suc d) (sub x) h = ap not (eq-eqb (sum x) 0 (bare-sum x h))
 
 -- The size in an entry of the tree tells exactly whether the entry is bare: "14 directory to delete has entries".
 module _ (B d : ℕ) (e : Entry (Below d)) where
@@ -88,9 +81,6 @@ module _ (B d : ℕ) (e : Entry (Below d)) where
   is-bare h = node-bare B d (e .node) h
 
 -- ---- an accepted delete
-
-same-value : {A : Type 0} (a b : A) → accepted a ≡ accepted b → a ≡ b
-same-value a b e = cc
 
 same-some : {A : Type 0} (a b : A) → some a ≡ some b → a ≡ b
 same-some a b e = cc
@@ -109,7 +99,7 @@ module _ (g : Geo) (I : List ℕ) (d : ℕ) (t : Tree d) (l : List ℕ) (v : Vol
       let q : HeldAt (blockSize g) d way t h = hold-is g I d t _ way (v .laid) h (b .held) in
       let s : Some = q .there in
       let o = own-is g I d t _ way (v .laid) h q in
-      let r : o .0 ≡ x .own = same-value (o .0) (x .own) (sym (o .1) ∙ b .own) in
+      let r : o .0 ≡ x .own = accepted-one (o .0) (x .own) (sym (o .1) ∙ b .own) in
       let e = found-is g I d t _ way s (v .laid) (q .found) (lastName l) (x .entry) (x .place)
       (ap (λ (a : ℕ). findIn (lastName l) (walk (blockSize g) (dataAt g) (g .n) I a)) (q .starts) ∙ b .entry) in
       subst (Deletes g d way (lastName l) now t I) (sym (ap (imageAt g I now) k))
@@ -204,14 +194,14 @@ module _ (g : Geo) (I : List ℕ) (d : ℕ) (t : Tree d) (l : List ℕ) (v : Vol
   pub bare-accepted : (o : There) → Bare (o .dir .0) (o .entry .node) → (x : Doomed) × (doomedOf g I l ≡ accepted x)
   bare-accepted o b =
       let r = there-is o in
-      (r .0, r .1 ∙ given-none (hasEntries (shown-there o)) (accepted (r .0)) (is-bare (blockSize g) (o .dir .0) (o .entry) b))
+      (r .0, r .1 ∙ given-no 14 (accepted (r .0)) (is-bare (blockSize g) (o .dir .0) (o .entry) b))
 
   -- one that has entries is refused 14,
   pub full-refused : (o : There) → (Bare (o .dir .0) (o .entry .node) → ⊥) → doomedOf g I l ≡ refused 14
   full-refused o b = go (either (hasEntries (shown-there o)))
     where
       go : (hasEntries (shown-there o) ≡ true) ⊎ (hasEntries (shown-there o) ≡ false) → doomedOf g I l ≡ refused 14
-      go (inl h) = let r = there-is o in r .1 ∙ given-some (hasEntries (shown-there o)) (accepted (r .0)) h
+      go (inl h) = let r = there-is o in r .1 ∙ given-yes 14 (accepted (r .0)) (omega arith) h
       go (inr h) = absurd (b (bare-is (blockSize g) (o .dir .0) (o .entry) h))
 
   -- and where there is none it is 5 or 6: these are all the answers.
@@ -257,7 +247,7 @@ module _ (g : Geo) (I : List ℕ) (d : ℕ) (t : Tree d) (l : List ℕ) (v : Vol
   refused-full q = go answered
     where
       go : Answer → (o : There) × (Bare (o .dir .0) (o .entry .node) → ⊥)
-      go (goes o b x r) = absurd (not-refused 14 x (sym q ∙ r))
+      go (goes o b x r) = absurd (not-accepted 14 x (sym q ∙ r))
       go (full o b r) = (o, b)
       go (vacant b j (inl h) r) = absurd (omega (arith, same-number j 14 r q))
       go (vacant b j (inr h) r) = absurd (omega (arith, same-number j 14 r q))
@@ -267,7 +257,7 @@ module _ (g : Geo) (I : List ℕ) (d : ℕ) (t : Tree d) (l : List ℕ) (v : Vol
   never-lost k q = go answered
     where
       go : Answer → (k ≡ 5) ⊎ ((k ≡ 6) ⊎ (k ≡ 14))
-      go (goes o b x r) = absurd (not-refused k x (sym q ∙ r))
+      go (goes o b x r) = absurd (not-accepted k x (sym q ∙ r))
       go (full o b r) = inr (inr (same-number k 14 q r))
       go (vacant b j (inl h) r) = inl (same-number k j q r ∙ h)
       go (vacant b j (inr h) r) = inr (inl (same-number k j q r ∙ h))

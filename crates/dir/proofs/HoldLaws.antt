@@ -1,5 +1,5 @@
 -- The way to a holding directory and its own entry: what the code knows where it answers, one law for each answer.
-use mathlib.Core.Path.{_≡_, refl, sym, ap, _∙_}
+use mathlib.Core.Path.{_≡_, refl, sym, ap, _∙_, subst}
 use mathlib.Core.Bool.{Bool, true, false}
 use mathlib.Core.List.{List, [], _∷_}
 use Prim.Native.Nat.{ℕ, _+_, _<_}
@@ -12,6 +12,7 @@ use Rattle.wire.proofs.Picks.{pick-true, pick-false}
 use Rattle.model.specs.Answers.{Reply, accepted, refused, andThen, refusalNumber}
 use Rattle.model.specs.Geometry.{blockSize, dataAt}
 use Rattle.model.specs.declared.Refusal.{Refusal}
+use Rattle.model.proofs.Replies.{and-then-ok, and-then-no}
 use Rattle.block.specs.declared.Addr.{Addr}
 use Rattle.super_block.specs.declared.SuperBlock.{SuperBlock}
 use Rattle.super_block.specs.Super.{geoOf, Fit}
@@ -27,16 +28,19 @@ use Rattle.read_dir.specs.Finds.{findIn}
 use Rattle.read_dir.proofs.Items.{found-item}
 use Rattle.own_entry.specs.declared.Own.the-variants as own
 use Rattle.own_entry.specs.Own.{OwnIn}
+use Rattle.own_entry.specs.declared.Own.{Own}
 use Rattle.path.specs.Path.{slash, split}
 use Rattle.path.specs.Post.{between, PieceIs, FirstIs}
 use Rattle.path.proofs.Laws.{split-count, steps-is-root, steps-from}
 use Rattle.dir.specs.Resolve.{onFound}
 use Rattle.dir.specs.Hold.{Hold, rootHold, placeOrLost, holdFrom, holdDir, ownOf}
-use Rattle.dir.specs.Post.{openedSays, holdOf}
+use Rattle.dir.specs.Post.{openedSays, holdOf, OwnedIn}
 use Rattle.dir.specs.declared.Holding.{Holding}
 use Rattle.dir.specs.declared.Opened.{Opened}
 use Rattle.dir.specs.declared.Opened.the-variants as opened
-use Rattle.dir.proofs.Laws.{and-then-ok, and-then-no, and-then-pick, lt-of-ne, entered}
+use Rattle.dir.specs.declared.Owned.{Owned}
+use Rattle.dir.specs.declared.Owned.the-variants as owned
+use Rattle.dir.proofs.Laws.{and-then-pick, lt-of-ne, entered}
 
 -- ---- name after name
 
@@ -165,3 +169,7 @@ module _ (s : SuperBlock) (I : List ℕ) (fit : Fit s I) where
 
   pub own-numbers : (h : Hold) → ownOf 512 (s .area .0) (s .blocks) I h ≡ ownOf (blockSize (geoOf s)) (dataAt (geoOf s)) (geoOf s .n) I h
   own-numbers h = ap (λ (D : ℕ). ownOf 512 D (s .blocks) I h) (fit .area)
+
+-- An own entry that is found is in the image.
+pub own-in : (I : List ℕ) (o : Owned) (w : Own) → OwnedIn I o → o ≡ owned.At w → OwnIn I w
+own-in I o w h e = subst (OwnedIn I) e h

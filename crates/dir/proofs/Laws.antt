@@ -7,18 +7,19 @@ use Prim.Native.Nat.{ℕ, _+_, _-_, _≤_, _<_}
 use native.Mathlib.Decide.{decLt}
 use native.Mathlib.Omega.{arith}
 use lib.Dec.{eqb}
-use lib.ListN.{length, take, drop, length-take, length-drop}
+use lib.ListN.{length, take, drop, length-take}
 use Rattle.wire.specs.Pick.{pick, same}
-use Rattle.wire.proofs.Picks.{either, same-eq, pick-true, pick-false}
+use Rattle.wire.proofs.Picks.{either, same-eq, pick-true, pick-false, pick-case}
 use Rattle.model.specs.Answers.{Reply, accepted, refused, andThen, refusalNumber}
 use Rattle.model.specs.Steps.{Bytes}
 use Rattle.model.specs.declared.Refusal.{Refusal}
+use Rattle.model.proofs.Replies.{and-then-ok, and-then-no, refused-one}
 use Rattle.block.specs.declared.Addr.{Addr}
 use Rattle.dir_entry.specs.declared.DirEntry.{DirEntry}
 use Rattle.dir_entry.specs.declared.Kind.the-variants.{Dir, File, Device}
 use Rattle.dir_entry.specs.declared.Slot.the-variants.{Entry}
 use Rattle.dir_entry.specs.Entry.{isDir, placeAt, entryAt, slotAt}
-use Rattle.dir_entry.proofs.Slots.{pick-case, slot-stands}
+use Rattle.dir_entry.proofs.Slots.{slot-stands}
 use Rattle.read_dir.specs.declared.Found.{Found}
 use Rattle.read_dir.specs.declared.Found.the-variants as found
 use Rattle.read_dir.specs.declared.Place.{Place}
@@ -29,6 +30,7 @@ use Rattle.path.specs.Path.{slash, split, lastName, dirPart, steps}
 use Rattle.path.specs.Post.{between, PieceIs, FirstIs, PartsIs}
 use Rattle.path.specs.declared.Parts.{Parts}
 use Rattle.path.proofs.Laws.{steps-is-root, steps-from}
+use Rattle.path.proofs.Ends.{name-long}
 use Rattle.dir.specs.Resolve.{onFound, onName, Held, held, lookupIn, resolve, openDir, entryOf}
 use Rattle.dir.specs.Post.{openedSays}
 use Rattle.dir.specs.declared.Opened.{Opened}
@@ -86,14 +88,6 @@ pub find-at : (a : ℕ) (x : List ℕ) (w : Walk) (f : Found) (e : DirEntry) (p 
 find-at a x w f e p q g = found-at x w f (λ y. accepted (held a y)) q e p g
 
 -- ---- name after name
-
-pub and-then-ok : {A B : Type 0} {r : Reply A} (a : A) (f : A → Reply B) → r ≡ accepted a → andThen r f ≡ f a
-unfolding andThen
-and-then-ok a f e = rw e
-
-pub and-then-no : {A B : Type 0} {r : Reply A} (k : ℕ) (f : A → Reply B) → r ≡ refused k → andThen r f ≡ refused k
-unfolding andThen
-and-then-no k f e = rw e
 
 pub and-then-pick : {A B : Type 0} (b : Bool) (x y : Reply A) (f : A → Reply B) → andThen (pick b x y) f ≡ pick b (andThen x f) (andThen y f)
 unfolding pick
@@ -165,19 +159,16 @@ module _ (D n : ℕ) (I : List ℕ) (full : List ℕ) (end : ℕ) (b : Bool) (t 
 -- ---- the entry at a path
 
 module _ (D n : ℕ) (I : List ℕ) (full : List ℕ) (len : ℕ) (ps : Parts) (inside : len ≤ length full) (p : PartsIs full len ps) where
-  name-long : length (lastName (take len full)) ≡ ps .to - ps .from
-  name-long = ap length (sym (p .name)) ∙ simp (length-take, length-drop) (omega (arith, p .from-in, p .to-in))
-
   pub entry-empty : ps .from ≡ ps .to → refused 5 ≡ entryOf 512 D n I (take len full)
   unfolding entryOf
-  entry-empty e = name-empty (lastName (take len full)) _ (omega (arith, name-long))
+  entry-empty e = name-empty (lastName (take len full)) _ (omega (arith, name-long full len ps inside p))
 
   module _ (o : Opened) (some : ps .from ≡ ps .to → ⊥) (q : openedSays o ≡ openDir 512 D n I (take (ps .dir) full)) where
     opens : andThen (openedSays o) (λ a. lookupIn 512 D n I a (lastName (take len full)) (λ e. accepted (held a e))) ≡ entryOf 512 D n I (take len full)
     unfolding entryOf
     opens =
         ap (λ (y : Reply ℕ). andThen y (λ a. lookupIn 512 D n I a (lastName (take len full)) (λ e. accepted (held a e)))) (q ∙ ap (openDir 512 D n I) (p .dir))
-        ∙ sym (name-some (lastName (take len full)) _ (λ z. some (omega (arith, name-long, p .from-in))))
+        ∙ sym (name-some (lastName (take len full)) _ (λ z. some (omega (arith, name-long full len ps inside p, p .from-in))))
 
     pub entry-in : (a : Addr) (r : Reply Held) → o ≡ opened.At a
         → r ≡ lookupIn 512 D n I (a .0) (between full (ps .from) (ps .to)) (λ e. accepted (held (a .0) e)) → r ≡ entryOf 512 D n I (take len full)
@@ -253,20 +244,17 @@ abbrev Refuses : {A : Type 0} → Reply A → Type 0
 Refuses r = (k : ℕ) → r ≡ refused k → OnTheWay k
 
 module _ {A : Type 0} where
-  same-number : (j k : ℕ) → _≡_ {A = Reply A} (refused j) (refused k) → k ≡ j
-  same-number j k e = cc
-
   some-accepted : (a : A) → Refuses (accepted a)
   some-accepted a k e = let z : _≡_ {A = ℕ} 0 1 = cc in absurd (omega arith)
 
   not-found : Refuses {A = A} (refused 5)
-  not-found k e = inl (same-number 5 k e)
+  not-found k e = inl (sym (refused-one 5 k e))
 
   not-dir : Refuses {A = A} (refused 6)
-  not-dir k e = inr (inl (same-number 6 k e))
+  not-dir k e = inr (inl (sym (refused-one 6 k e)))
 
   on-damage : Refuses {A = A} (refused 17)
-  on-damage k e = inr (inr (same-number 17 k e))
+  on-damage k e = inr (inr (sym (refused-one 17 k e)))
 
   found-refuses : (f : Found) (g : DirEntry → Reply A) → ((e : DirEntry) → Refuses (g e)) → Refuses (onFound f g)
   found-refuses (found.At e p) g h = h e
@@ -292,7 +280,7 @@ module _ (B D n : ℕ) (I : List ℕ) where
   then-refuses : (r : Reply ℕ) (g : ℕ → Reply Held) → Refuses r → ((a : ℕ) → Refuses (g a)) → Refuses (andThen r g)
   unfolding andThen
   then-refuses (accepted a) g p h = h a
-  then-refuses (refused j) g p h = λ k e. p k (ap refused (sym (same-number j k e)))
+  then-refuses (refused j) g p h = λ k e. p k (ap refused (refused-one j k e))
 
   pub entry-refused : (l : List ℕ) (k : ℕ) → entryOf B D n I l ≡ refused k → OnTheWay k
   unfolding entryOf

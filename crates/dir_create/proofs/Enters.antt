@@ -18,15 +18,15 @@ use Rattle.model.specs.Calls.{entryRoom, toCreate, entryBlock, dirBlock}
 use Rattle.model.proofs.Areas.{size-large}
 use Rattle.model.proofs.Cuts.{upTo, dir-split, entries-split, bytes-split}
 use Rattle.model.proofs.Full.{length-entries}
-use Rattle.bitmap_block.specs.Bitmap.{clears}
+use Rattle.bitmap_block.specs.Bitmap.{clears, fresh}
+use Rattle.bitmap_block.proofs.Steps.{fresh-index}
 use Rattle.dir_entry.specs.declared.Kind.{Kind}
 use Rattle.dir_entry.specs.Entry.{headBytes}
 use Rattle.dir_entry.proofs.Heads.{length-head}
 use Rattle.read_dir.specs.Finds.{placed}
 use Rattle.dir_create.specs.declared.Spot.{Spot}
-use Rattle.dir_create.specs.Create.{spotOn, fresh, grown, opened, placeIn, newHead, entered, insertedAt}
-use Rattle.dir_create.proofs.Steps.{fresh-index}
-use Rattle.dir_create.proofs.Gaps.{Gap, Full, gap, block-more, block-linked, block-new}
+use Rattle.dir_create.specs.Create.{spotOn, grown, opened, placeIn, newHead, entered, insertedAt}
+use Rattle.dir_create.proofs.Gaps.{Gap, Full, gap, block-more, block-linked, new-block}
 use Rattle.dir_create.proofs.Stages.{zeroPiece, stored, Stage, stage-taken, stage-stored, stage-move}
 
 -- A new entry at block x: the bytes of its fixed part and its name, and one block of zeros.
@@ -189,7 +189,7 @@ module _ (g : Geo) (I : List ℕ) (d : ℕ) (t : Tree d) (us : List Piece) (vol 
       one-is : stored (zeroPiece C w) (4 + 0) text ≡ one
       unfolding entriesBytes
       one-is =
-          let m : zeros C ≡ bytes 4 0 ++ padded (C - 4) [] = block-new C (omega (arith, size-large g)) in
+          let m : zeros C ≡ bytes 4 0 ++ padded (C - 4) [] = new-block C (omega (arith, size-large g)) in
           let f : splice (zeros C) (4 + 0) text ≡ bytes 4 0 ++ padded (C - 4) (entriesBytes v (e ∷ []))
           = ap (λ (l : List ℕ). splice l (4 + 0) text) m ∙ block-more (C - 4) 0 [] text
           ∙ ap (λ (l : List ℕ). bytes 4 0 ++ padded (C - 4) l) (sym (new .bytes-are) ∙ sym (append-nil (entryBytes v e))) in

@@ -4,19 +4,19 @@ use mathlib.Core.Path.{_≡_, refl, sym, ap, _∙_}
 use mathlib.Core.Bool.{true, false}
 use mathlib.Core.Logic.{_⊎_, inl, inr}
 use mathlib.Core.List.{List, [], _∷_, _++_, append-assoc}
-use Prim.Native.Nat.{ℕ, zero, suc, _+_, _-_, _≤_}
-use native.Mathlib.Nat.{add-assoc}
+use Prim.Native.Nat.{ℕ, _+_, _-_, _≤_}
 use native.Mathlib.Omega.{arith}
 use lib.Dec.{leb}
-use lib.ListN.{length, take, drop, length-append}
-use lib.Seq.{take-append-seam, take-append-add, drop-append-add, drop-at}
+use lib.ListN.{length, length-append}
+use lib.Seq.{take-append-seam, drop-append-add, drop-at}
 use borrow.Author.Tests.{leb-true}
 use Rattle.wire.specs.Be.{bytes, splice, zeros}
-use Rattle.wire.proofs.Laws.{length-bytes}
+use Rattle.wire.proofs.Laws.{length-bytes, drop-zeros, splice-past}
 use Rattle.wire.proofs.Picks.{either, pick-true, pick-false}
 use Rattle.model.specs.Tree.{Name, Entry, Block, any, weight, used, fill, insert}
 use Rattle.model.specs.Render.{padded}
 use Rattle.model.specs.Calls.{hasRoom}
+use Rattle.model.proofs.Full.{padded-none, zero-block}
 use Rattle.read_dir.specs.Finds.{placed}
 use Rattle.dir_create.specs.declared.Spot.the-variants.{In, After}
 use Rattle.dir_create.specs.Create.{spotOn}
@@ -111,21 +111,6 @@ module _ {X : Type 0} (cap : ℕ) (n : Name) where
 
 -- ---- the bytes of a block
 
-drop-zeros : (k m : ℕ) → drop k (zeros m) ≡ zeros (m - k)
-drop-zeros zero m = let e : m ≡ m - 0 = omega arith in ap zeros e
-drop-zeros (suc k) zero = let e : _≡_ {A = ℕ} 0 (0 - suc k) = omega arith in ap zeros e
-drop-zeros (suc k) (suc m) = let e : m - k ≡ suc m - suc k = omega arith in drop-zeros k m ∙ ap zeros e
-
-pub zeros-add : (k m : ℕ) → zeros (k + m) ≡ zeros k ++ zeros m
-zeros-add zero m = let e : 0 + m ≡ m = omega arith in ap zeros e
-zeros-add (suc k) m = let e : suc k + m ≡ suc (k + m) = omega arith in ap zeros e ∙ ap (λ (l : List ℕ). 0 ∷ l) (zeros-add k m)
-
--- a store past the first part
-splice-past : (a m x : List ℕ) (k : ℕ) → splice (a ++ m) (length a + k) x ≡ a ++ splice m k x
-unfolding splice
-splice-past a m x k =
-    rw (take-append-add a m k, add-assoc (length a) k (length x), drop-append-add a m (k + length x), append-assoc a (take k m) (x ++ drop (k + length x) m))
-
 -- a store where the zeros begin
 splice-end : (l x : List ℕ) (k : ℕ) → splice (l ++ zeros k) (length l) x ≡ l ++ (x ++ zeros (k - length x))
 unfolding splice
@@ -138,7 +123,7 @@ block-more c z l x =
     let e : 4 + length l ≡ length (bytes 4 z) + length l = omega (arith, length-bytes 4 z) in
     let f : c - length l - length x ≡ c - length (l ++ x) = omega (arith, length-append l x) in
     ap (λ (k : ℕ). splice (bytes 4 z ++ (l ++ zeros (c - length l))) k x) e
-    ∙ splice-past (bytes 4 z) (l ++ zeros (c - length l)) x (length l)
+    ∙ splice-past (bytes 4 z) (l ++ zeros (c - length l)) (length l) x
     ∙ ap (λ (y : List ℕ). bytes 4 z ++ y) (splice-end l x (c - length l) ∙ sym (append-assoc l x (zeros (c - length l - length x))) ∙ ap (λ (k : ℕ). (l ++ x) ++ zeros k) f)
 
 -- A block with another next address.
@@ -149,13 +134,5 @@ block-linked z w m =
     ap (λ (y : List ℕ). bytes 4 w ++ y) (drop-at (bytes 4 z) m (0 + length (bytes 4 w)) e)
 
 -- A new block is one that ends its chain and has no entry.
-pub block-new : (B : ℕ) → 4 ≤ B → zeros B ≡ bytes 4 0 ++ padded (B - 4) []
-unfolding padded bytes
-block-new B h =
-    let e : B ≡ 4 + (B - 4) = omega arith in
-    let f : B - 4 ≡ B - 4 - 0 = omega arith in
-    ap zeros e ∙ zeros-add 4 (B - 4) ∙ ap (λ (k : ℕ). zeros 4 ++ zeros k) f
-
-pub block-cell : (B : ℕ) → 4 ≤ B → zeros B ≡ bytes 4 0 ++ zeros (B - 4)
-unfolding bytes
-block-cell B h = let e : B ≡ 4 + (B - 4) = omega arith in ap zeros e ∙ zeros-add 4 (B - 4)
+pub new-block : (B : ℕ) → 4 ≤ B → zeros B ≡ bytes 4 0 ++ padded (B - 4) []
+new-block B h = zero-block B h ∙ ap (λ (l : List ℕ). bytes 4 0 ++ l) (sym (padded-none (B - 4)))

@@ -1,49 +1,44 @@
 -- The stores of a create are the tree's edit: the theorem on the definitions of specs/, for files and for directories.
 use mathlib.Core.Path.{_≡_, refl, sym, ap, _∙_, subst}
-use mathlib.Core.Bool.{true, false}
 use mathlib.Core.Logic.{_⊎_, inl, inr, _↔_}
 use mathlib.Core.Option.{some}
 use mathlib.Core.List.{List, [], _∷_, _++_}
 use Prim.Native.Nat.{ℕ, zero, suc, _+_, _-_, _^_, _≤_, _<_}
 use native.Mathlib.Omega.{arith}
-use lib.Dec.{leb}
 use lib.ListN.{length, length-replicate}
 use Rattle.wire.specs.Be.{bytes, zeros}
-use Rattle.wire.proofs.Picks.{either, pick-true, pick-false}
-use Rattle.model.specs.Tree.{Name, file, sub, Entry, Block, Below, Tree, weight, used, sum, Packed, Absent, fill, insert, Edit, edit, Some, find, blank}
+use Rattle.block.proofs.Laws.{kept-less}
+use Rattle.model.specs.Tree.{Name, file, sub, Entry, Block, Below, Tree, weight, used, sum, Packed, Absent, insert, Edit, edit, Some, find, blank}
 use Rattle.model.specs.Render.{Piece, View, cellsAt, blocksAt, padded, addressOf, sizeOf, entriesBytes, cellPieces, nodePieces, entryPieces, dirPieces, view, render, ats, count, blocks}
 use Rattle.model.specs.Geometry.{Geo, blockSize, dataAt}
 use Rattle.model.specs.Volume.{GoodName, GoodFile, GoodBelow, GoodTree, Volume}
 use Rattle.model.specs.Calls.{freeBlocks, entryRoom, toCreate, entryBlock, dirBlock, fileEntry, created, dirAdded, createdDir, emptyCell, Makes, CreatesFile, CreatesDir}
 use Rattle.model.proofs.Areas.{size-large}
 use Rattle.model.proofs.Contents.{blocks-some, blocks-least}
-use Rattle.model.proofs.Counts.{tally}
+use Rattle.model.proofs.Counts.{count-none}
 use Rattle.model.proofs.Cuts.{upTo, dir-split}
-use Rattle.model.proofs.Full.{good-find, whole-tree}
+use Rattle.model.proofs.Full.{good-find, whole-tree, zero-block}
 use Rattle.model.proofs.Good.{good-insert}
 use Rattle.model.proofs.Levels.{good-dir-added}
-use Rattle.model.proofs.Paths.{sub-in}
+use Rattle.model.proofs.Inserts.{insert-at}
 use Rattle.super_block.specs.declared.SuperBlock.{SuperBlock}
 use Rattle.super_block.specs.Super.{geoOf, Fit}
 use Rattle.bitmap_block.specs.Bitmap.{clears, Room}
-use Rattle.bitmap_block.proofs.Steps.{volume-clears, volume-room}
+use Rattle.bitmap_block.proofs.Steps.{volume-clears, volume-room, aside-data, aside-other}
 use Rattle.dir_entry.specs.declared.Kind.{Kind}
 use Rattle.dir_entry.specs.declared.Kind.the-variants.{Dir, File}
-use Rattle.read_dir.specs.declared.Summed.{Summed}
+use Rattle.dir_entry.specs.Shown.{headOf}
+use Rattle.dir_entry.proofs.Shown.{entry-bytes}
 use Rattle.read_dir.specs.declared.Summed.the-variants as summed
-use Rattle.read_dir.specs.Walk.{walk}
-use Rattle.read_dir.specs.Finds.{sumFrom}
-use Rattle.tree_walk.specs.Shown.{headOf}
 use Rattle.tree_walk.proofs.Parts.{Stored, Part, laid-part, part-find, stored-right, stored-in}
-use Rattle.tree_walk.proofs.Walks.{entry-bytes}
 use Rattle.own_entry.specs.declared.Own.{Own}
 use Rattle.own_entry.specs.Own.{OwnOf}
+use Rattle.own_entry.proofs.Renews.{Made, sub-blocks, sum-makes}
 use Rattle.dir_create.specs.declared.Spot.{Spot}
-use Rattle.dir_create.specs.Create.{spotFor, spotOn, needed, SpotIn, entered, opened, placeIn, resized, recounted, inserted, insertedAt}
-use Rattle.dir_create.proofs.Gaps.{Gap, Full, gap, block-new, block-cell}
-use Rattle.dir_create.proofs.Stages.{Stage, stage-start, stage-sound, stage-once, stage-commit}
+use Rattle.dir_create.specs.Create.{spotFor, spotOn, needed, SpotIn, entered, opened, placeIn, inserted, insertedAt}
+use Rattle.dir_create.proofs.Gaps.{Gap, Full, gap, new-block}
+use Rattle.dir_create.proofs.Stages.{Stage, stage-start, stage-commit, kept-block}
 use Rattle.dir_create.proofs.Enters.{NewEntry, Entered, insert-entered}
-use Rattle.dir_create.proofs.Owned.{part-sum, renewed-makes}
 use Rattle.dir_create.proofs.Spotted.{spot-is, spot-needs}
 
 -- ---- the new entries
@@ -52,7 +47,7 @@ use Rattle.dir_create.proofs.Spotted.{spot-is, spot-needs}
 file-new : {X : Type 0} (g : Geo) (v : View X) (n : Name) (now x : ℕ) → NewEntry g v File n now x (fileEntry n now 0 (emptyCell g x ∷ []))
 unfolding fileEntry headOf addressOf sizeOf cellsAt nodePieces cellPieces
 file-new g v n now x =
-    let z : zeros (blockSize g) ≡ bytes 4 0 ++ zeros (blockSize g - 4) = block-cell (blockSize g) (omega (arith, size-large g)) in
+    let z : zeros (blockSize g) ≡ bytes 4 0 ++ zeros (blockSize g - 4) = zero-block (blockSize g) (omega (arith, size-large g)) in
     record {
       named = refl;
       bytes-are = entry-bytes v (fileEntry n now 0 (emptyCell g x ∷ []));
@@ -63,23 +58,12 @@ file-new g v n now x =
 dir-new : (g : Geo) (e : ℕ) (n : Name) (now x : ℕ) → NewEntry g (view (blockSize g) (suc e)) Dir n now x (record { name = n; time = now; node = sub (blank e x) })
 unfolding headOf addressOf sizeOf nodePieces view dirPieces blank blocksAt entriesBytes entryPieces sum used
 dir-new g e n now x =
-    let z : zeros (blockSize g) ≡ bytes 4 0 ++ padded (blockSize g - 4) [] = block-new (blockSize g) (omega (arith, size-large g)) in
+    let z : zeros (blockSize g) ≡ bytes 4 0 ++ padded (blockSize g - 4) [] = new-block (blockSize g) (omega (arith, size-large g)) in
     record {
       named = refl;
       bytes-are = entry-bytes (view (blockSize g) (suc e)) (record { name = n; time = now; node = sub (blank e x) });
       block = ap (λ (l : List ℕ). let q : List Piece = record { at = x; full = l } ∷ [] in q) (sym z);
     }
-
--- ---- the directory's first block stays
-
-insert-at : {X : Type 0} (cap w : ℕ) (e : Entry X) (bs : List (Block X)) → Packed bs → blocksAt (insert cap w e bs) ≡ blocksAt bs
-unfolding insert blocksAt
-insert-at cap w e [] p = absurd p
-insert-at {X} cap w e (b ∷ bs) p = go (either (leb (used (b .entries) + weight e) cap))
-  where
-    go : (leb (used (b .entries) + weight e) cap ≡ true) ⊎ (leb (used (b .entries) + weight e) cap ≡ false) → blocksAt (insert cap w e (b ∷ bs)) ≡ b .at
-    go (inl c) = ap blocksAt (pick-true (fill (λ es. es ++ (e ∷ [])) b ∷ bs) (b ∷ insert cap w e bs) c)
-    go (inr c) = ap blocksAt (pick-false (fill (λ es. es ++ (e ∷ [])) b ∷ bs) (b ∷ insert cap w e bs) c)
 
 -- ---- any new entry
 
@@ -98,8 +82,7 @@ module _ (g : Geo) (I : List ℕ) (d : ℕ) (t : Tree d) (v : Volume g I d t) (p
   held = part-find g I d p t s (laid-part g I d t _ (v .laid)) h
 
   inner : (i : ℕ) → count i (ats (render B (s .0) (s .1))) ≤ count i (blocks B d t)
-  unfolding tally
-  inner i = sub-in B i d p t s h
+  inner = sub-blocks B d p t s h
 
   start : Stage g I d t (render B (s .0) (s .1)) I (render B (s .0) (s .1)) free
   start = stage-start g I d t (render B (s .0) (s .1)) v inner (whole-tree B (omega (arith, size-large g)) (s .0) (s .1) (held .good)) (held .stored .shown)
@@ -133,28 +116,24 @@ module _ (g : Geo) (I : List ℕ) (d : ℕ) (t : Tree d) (v : Volume g I d t) (p
       same-first : blocksAt became ≡ blocksAt (s .1)
       same-first = ap blocksAt becomes ∙ insert-at (entryRoom g) (dirBlock free) e (s .1) (held .good .packed)
 
-      -- what is read of the directory then
-      part-then : Part g stored (s .0) became
-      part-then = record {
-        sound = stage-sound g I d t (render B (s .0) (s .1)) v inner stored (render B (s .0) became) (enters .left) last-stage;
-        stored = record {
-          shown = last-stage .shown;
-          once = stage-once g I d t (render B (s .0) (s .1)) v inner stored (render B (s .0) became) (enters .left) last-stage;
-          range = last-stage .inside;
-        };
-        good = good;
-      }
-
-      new-sum : sumFrom 0 (walk B (dataAt g) (g .n) stored (blocksAt (s .1))) ≡ summed.Total (sum became)
-      new-sum = ap (λ (a : ℕ). sumFrom 0 (walk B (dataAt g) (g .n) stored a)) (sym same-first) ∙ part-sum g stored (s .0) became part-then
+      -- All is stored but the own entry, and nothing is left over.
+      all-made : Made g I stored d t (s .0) (s .1) became []
+      unfolding ats
+      all-made =
+          let c = stage-commit g I d t (render B (s .0) (s .1)) (s .0) (s .1) became refl stored (enters .left) last-stage same-first good in
+          record {
+            commit = c;
+            others = λ b l z. kept-block B _ I stored (last-stage .kept) b (λ j. (aside-data g (length I) (v .laid .sound) b j (v .laid .range b l .0), omega (arith, l, z, c .fresh b)));
+            remains = tt;
+            whole = tt;
+            over = λ i. omega (arith, count-none i);
+            frame = kept-less (λ b j q. (aside-other g b j (q .0) (q .1), omega (arith, q .2))) (last-stage .kept);
+          }
 
       -- The stores of a create make the edited tree.
       pub inserted-makes : (own : Own) → OwnOf B d p t own → Makes g d (edit d p (λ _. now) f t) [] I (inserted g I (blocksAt (s .1)) spot own k n now)
-      unfolding inserted recounted
-      inserted-makes own w =
-          subst (λ (m : Summed). Makes g d (edit d p (λ _. now) f t) [] I (resized g stored own now m)) (sym new-sum)
-          (renewed-makes g I d t v s now clock f stored
-          (stage-commit g I d t (render B (s .0) (s .1)) (s .0) (s .1) became refl stored (enters .left) last-stage same-first good) (last-stage .kept) p h own w)
+      unfolding inserted
+      inserted-makes own w = sum-makes g I stored d t p now f s [] own v h all-made w clock
 
 -- ---- files and directories
 

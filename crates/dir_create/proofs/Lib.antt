@@ -4,5 +4,4 @@ pub mod Stages
 pub mod Gaps
 pub mod Spotted
 pub mod Enters
-pub mod Owned
 pub mod Inserted

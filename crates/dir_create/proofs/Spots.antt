@@ -2,9 +2,8 @@
 use mathlib.Core.Path.{_≡_, refl, sym, ap, _∙_}
 use mathlib.Core.Bool.{true}
 use mathlib.Core.List.{List}
-use Prim.Native.Nat.{ℕ, zero, suc, _+_, _-_, _*_, _≤_, _<_}
+use Prim.Native.Nat.{ℕ, zero, suc, _+_, _-_, _≤_, _<_}
 use native.Mathlib.Omega.{arith}
-use lib.ListN.{length}
 use borrow.Author.Tests.{le-leb, lt-leb, lt-ltb, le-ltb, eq-eqb, ne-eqb}
 use Rattle.wire.proofs.Picks.{pick-true, pick-false}
 use Rattle.block.specs.declared.Addr.{Addr}
@@ -16,8 +15,6 @@ use Rattle.dir_entry.specs.Entry.{header, slotAt}
 use Rattle.dir_entry.proofs.Slots.{stop-offset, slot-stands}
 use Rattle.read_dir.specs.Walk.{inArea}
 use Rattle.read_dir.specs.Finds as finds
-use Rattle.super_block.specs.declared.SuperBlock.{SuperBlock}
-use Rattle.super_block.specs.Super.{Fit}
 use Rattle.super_block.proofs.Fits.{placed}
 use Rattle.dir_create.specs.declared.Spot.{Spot}
 use Rattle.dir_create.specs.declared.Spot.the-variants.{In, After, Damaged}
@@ -99,15 +96,6 @@ module _ (B D n : ℕ) (I : List ℕ) (len : ℕ) where
         pub spot-next : (next B I a ≡ 0 → ⊥) → spotFrom B D n I len (suc k) a ≡ spotFrom B D n I len k (next B I a)
         unfolding spotFrom
         spot-next e = pick-true _ _ inside ∙ pick-false _ _ (lt-leb _ _ r) ∙ pick-false _ _ (ne-eqb _ 0 e)
-
-pub area-inside : (s : SuperBlock) (I : List ℕ) → Fit s I → s .area .0 ≤ s .blocks
-area-inside s I f = omega (arith, placed f .some-data)
-
-pub block-inside : (s : SuperBlock) (I : List ℕ) (a : ℕ) → Fit s I → a < s .blocks → 512 * a + 512 ≤ length I
-block-inside s I a f h = omega (arith, placed f .inside)
-
-pub same-inside : (s : SuperBlock) (I : List ℕ) (a b : ℕ) → Fit s I → b ≡ a → a < s .blocks → 512 * b + 512 ≤ length I
-same-inside s I a b f e h = omega (arith, placed f .inside)
 
 -- the loop at block b, where `left` blocks may be read
 module _ (D n : ℕ) (I : List ℕ) (len left : ℕ) (b : Addr) (whole : Spot) (inv : spotFrom 512 D n I len left (b .0) ≡ whole) where

@@ -16,18 +16,17 @@ use Rattle.model.specs.Geometry.{Geo, blockSize, dataAt, mapBits, superBytes, u
 use Rattle.model.specs.Volume.{All, GoodTree, Volume}
 use Rattle.model.specs.Calls.{freeBlocks}
 use Rattle.model.specs.Render.{blocksAt}
-use Rattle.model.proofs.Areas.{area, few}
+use Rattle.model.proofs.Areas.{area, few, block-inside}
 use Rattle.model.proofs.Commit.{Commit}
 use Rattle.model.proofs.Counts.{count-same, count-other, count-cons, count-append, ats-append, length-ats}
 use Rattle.model.proofs.Demand.{whole-super}
 use Rattle.model.proofs.Frame.{SameBlock, shows-append, shows-left, shows-right, shows-frame}
-use Rattle.model.proofs.Full.{Whole, all-append}
+use Rattle.model.proofs.Full.{Whole}
 use Rattle.model.proofs.OneVolume.{used-is, used-set}
 use Rattle.model.proofs.Owns.{shows-kept}
+use Rattle.model.proofs.Lists.{all-append, all-left, all-right}
 use Rattle.bitmap_block.specs.Bitmap.{mark, clears, taken}
 use Rattle.bitmap_block.proofs.Steps.{mark-is, Aside, aside-data, sound-kept, used-kept, mark-kept, clears-kept, index-in, taken-kept, used-taken, top-taken, mark-taken, mark-taken-other, cell-taken, first-in, first-clear, clears-taken, volume-clears, volume-room}
-use Rattle.dir_create.specs.Create.{fresh}
-use Rattle.dir_create.proofs.Steps.{block-in}
 
 -- a block of zeros
 abbrev pub zeroPiece : ℕ → ℕ → Piece
@@ -36,14 +35,6 @@ zeroPiece B a = record { at = a; full = zeros B }
 -- a piece with vs stored at offset o
 abbrev pub stored : Piece → ℕ → List ℕ → Piece
 stored x o vs = record { at = x .at; full = splice (x .full) o vs }
-
-pub all-left : {A : Type 0} (P : A → Type 0) (xs ys : List A) → All P (xs ++ ys) → All P xs
-all-left P [] ys a = tt
-all-left P (x ∷ xs) ys a = (a .0, all-left P xs ys (a .1))
-
-pub all-right : {A : Type 0} (P : A → Type 0) (xs ys : List A) → All P (xs ++ ys) → All P ys
-all-right P [] ys a = a
-all-right P (x ∷ xs) ys a = all-right P xs ys (a .1)
 
 -- a block that is kept
 pub kept-block : (B : ℕ) (P : ℕ → ℕ → Type 0) (I J : List ℕ) → Kept B P I J → (b : ℕ) → ((o : ℕ) → P b o) → SameBlock B I J b
@@ -202,7 +193,7 @@ module _ (g : Geo) (I : List ℕ) (d : ℕ) (t : Tree d) (us : List Piece) where
       in-area = s .inside (y .at) among
 
       block-there : blockSize g * y .at + blockSize g ≤ length J
-      block-there = block-in g (length J) sound-of (y .at) (in-area .0) (in-area .1)
+      block-there = block-inside g (length J) sound-of (y .at) (in-area .1)
 
       y-whole : length (y .full) ≡ blockSize g
       y-whole = all-right (Whole (blockSize g)) ws (y ∷ cs) (s .whole) .0

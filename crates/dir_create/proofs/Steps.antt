@@ -1,7 +1,7 @@
 -- The steps of a create, over all numbers that are sound for the image: a block taken, a block linked, an entry stored. And what the code
 -- of each step needs and gives.
 use mathlib.Core.Path.{_≡_, refl, sym, ap, _∙_, subst}
-use mathlib.Core.List.{List, [], _∷_, _++_}
+use mathlib.Core.List.{List, _++_}
 use Prim.Native.Nat.{ℕ, _+_, _-_, _*_, _^_, _≤_, _<_}
 use native.Mathlib.Omega.{arith}
 use lib.ListN.{length, getD, take, drop, length-append}
@@ -13,72 +13,46 @@ use Rattle.block.specs.Block.{linked, Off, Kept}
 use Rattle.block.proofs.Laws.{linked-kept}
 use Rattle.model.specs.Tree.{Name}
 use Rattle.model.specs.Geometry.{Geo, blockSize, dataAt, Sound}
-use Rattle.model.proofs.Areas.{area, few, size-large}
-use Rattle.model.proofs.Free.{clear-lowest}
+use Rattle.model.proofs.Areas.{area, few, size-large, block-inside}
 use Rattle.super_block.specs.declared.SuperBlock.{SuperBlock}
 use Rattle.super_block.specs.Super.{geoOf, Fit}
 use Rattle.super_block.proofs.Fits.{placed, fit-long}
-use Rattle.bitmap_block.specs.Bitmap.{mark, clears, taken, Room}
+use Rattle.bitmap_block.specs.Bitmap.{clears, taken, Room, fresh}
 use Rattle.bitmap_block.proofs.Laws.{found-in}
-use Rattle.bitmap_block.proofs.Steps.{Aside, sound-kept, used-kept, clears-kept, data-in, taken-kept, clears-first, first-in, room-taken}
+use Rattle.bitmap_block.proofs.Steps.{Aside, sound-kept, used-kept, clears-kept, taken-kept, room-taken, fresh-low, fresh-index, fresh-first, fresh-data, fresh-high}
 use Rattle.dir_entry.specs.declared.Kind.{Kind}
 use Rattle.dir_entry.specs.declared.DirEntry.{DirEntry}
 use Rattle.dir_entry.specs.Entry.{headBytes, placeAt}
 use Rattle.dir_entry.proofs.Heads.{length-head, splice-then}
 use Rattle.read_dir.specs.declared.Place.{Place}
-use Rattle.read_dir.specs.declared.Summed.{Summed}
 use Rattle.read_dir.specs.declared.Summed.the-variants as summed
-use Rattle.read_dir.specs.Walk.{walk}
 use Rattle.read_dir.specs.Finds as finds
 use Rattle.own_entry.specs.declared.Own.{Own}
 use Rattle.own_entry.specs.declared.Own.the-variants.{Root, At}
-use Rattle.own_entry.specs.Own.{OwnIn, ownRenewed}
+use Rattle.own_entry.specs.Own.{OwnIn, sumRenewed}
 use Rattle.dir_create.specs.declared.Spot.{Spot}
 use Rattle.dir_create.specs.declared.Spot.the-variants.{In, After, Damaged}
-use Rattle.dir_create.specs.Create.{needed, SpotIn, fresh, grown, opened, placeIn, newHead, entered, resized, recounted, inserted, insertedAt}
+use Rattle.dir_create.specs.Create.{needed, SpotIn, grown, opened, placeIn, newHead, entered, inserted, insertedAt}
 
 -- ---- a block taken
 
-module _ (g : Geo) (I : List ℕ) (h : 1 ≤ length (clears g I)) where
-  -- the lowest clear block is in the data area
-  pub fresh-from : dataAt g ≤ fresh g I
-  unfolding clears fresh
-  fresh-from = go (clears g I) refl h
-    where
-      go : (c : List ℕ) → clears g I ≡ c → 1 ≤ length c → dataAt g ≤ getD c 0 0
-      go [] e k = absurd (omega arith)
-      go (a ∷ c) e k = clear-lowest (λ b. mark g I (b - dataAt g)) _ _ a c e .from
+module _ (g : Geo) (I : List ℕ) (h : 1 ≤ length (clears g I)) (s : Sound g (length I)) where
+  -- every byte but the used count, the bitmap and the new block's is as it was
+  pub grown-kept : Kept (blockSize g) (λ b o. Aside g b o × (b ≡ fresh g I → ⊥)) I (grown g I)
+  unfolding grown
+  grown-kept =
+      let k = taken-kept g I s (fresh g I - dataAt g) (fresh-data g I h s) in
+      record { size = k .size; at = λ b o p q. k .at b o (p .0, λ e. p .1 (e ∙ fresh-index g I h)) q }
 
-  pub fresh-index : dataAt g + (fresh g I - dataAt g) ≡ fresh g I
-  fresh-index = omega (arith, fresh-from)
+  pub length-grown : length (grown g I) ≡ length I
+  length-grown = grown-kept .size
 
-  pub clears-fresh : clears g I ≡ (dataAt g + (fresh g I - dataAt g)) ∷ drop 1 (clears g I)
-  unfolding fresh
-  clears-fresh = clears-first g I (fresh g I - dataAt g) h (unfold fresh in fresh-index)
+  pub sound-grown : Sound g (length (grown g I))
+  sound-grown = sound-kept g I s _ (grown g I) grown-kept
 
-  module _ (s : Sound g (length I)) where
-    pub fresh-data : dataAt g + (fresh g I - dataAt g) < g .n
-    fresh-data = first-in g I s (fresh g I - dataAt g) (drop 1 (clears g I)) clears-fresh
-
-    pub fresh-below : fresh g I < g .n
-    fresh-below = omega (arith, fresh-data, fresh-index)
-
-    -- every byte but the used count, the bitmap and the new block's is as it was
-    pub grown-kept : Kept (blockSize g) (λ b o. Aside g b o × (b ≡ fresh g I → ⊥)) I (grown g I)
-    unfolding grown
-    grown-kept =
-        let k = taken-kept g I s (fresh g I - dataAt g) fresh-data in
-        record { size = k .size; at = λ b o p q. k .at b o (p .0, λ e. p .1 (e ∙ fresh-index)) q }
-
-    pub length-grown : length (grown g I) ≡ length I
-    length-grown = grown-kept .size
-
-    pub sound-grown : Sound g (length (grown g I))
-    sound-grown = sound-kept g I s _ (grown g I) grown-kept
-
-    pub room-grown : (k : ℕ) → Room g I (k + 1) → Room g (grown g I) k
-    unfolding grown
-    room-grown k r = room-taken g I s (fresh g I - dataAt g) (drop 1 (clears g I)) clears-fresh k r
+  pub room-grown : (k : ℕ) → Room g I (k + 1) → Room g (grown g I) k
+  unfolding grown
+  room-grown k r = room-taken g I s (fresh g I - dataAt g) (drop 1 (clears g I)) (fresh-first g I h) k r
 
 -- a store in a data block leaves the room
 pub room-kept : (g : Geo) (I : List ℕ) → Sound g (length I) → (P : ℕ → ℕ → Type 0) (J : List ℕ) → Kept (blockSize g) P I J → ((b o : ℕ) → b < dataAt g → P b o) → (k : ℕ) → Room g I k → Room g J k
@@ -91,18 +65,12 @@ room-kept g I s P J c f k r =
 
 -- ---- the place of the entry
 
--- a block of the data is in the image
-pub block-in : (g : Geo) (len : ℕ) → Sound g len → (a : ℕ) → dataAt g ≤ a → a < g .n → blockSize g * a + blockSize g ≤ len
-block-in g len s a l h =
-    let e : dataAt g + (a - dataAt g) ≡ a = omega arith in
-    subst (λ (z : ℕ). blockSize g * z + blockSize g ≤ len) e (data-in g len s (a - dataAt g) (omega arith))
-
 module _ (g : Geo) (I : List ℕ) (s : Sound g (length I)) (len : ℕ) where
   -- where a new block is linked, the image has its length, and room for one less
   linked-in : (a : ℕ) → dataAt g ≤ a → a < g .n → Room g I 2 → Kept (blockSize g) (Off a 0 4) (grown g I) (linked (blockSize g) (grown g I) a (fresh g I))
   linked-in a l h r =
       linked-kept (blockSize g) (grown g I) a (omega (arith, size-large g))
-      (block-in g (length (grown g I)) (sound-grown g I (omega (arith, r .clear)) s) a l h) (fresh g I)
+      (block-inside g (length (grown g I)) (sound-grown g I (omega (arith, r .clear)) s) a h) (fresh g I)
 
   pub opened-long : (t : Spot) → SpotIn (blockSize g) (dataAt g) (g .n) len t → Room g I (needed t) → length (opened g I t) ≡ length I
   opened-long (In p) q r = refl
@@ -118,7 +86,7 @@ module _ (g : Geo) (I : List ℕ) (s : Sound g (length I)) (len : ℕ) where
 
   pub place-data : (t : Spot) → SpotIn (blockSize g) (dataAt g) (g .n) len t → Room g I (needed t) → (dataAt g ≤ placeIn g I t .block .0) × (placeIn g I t .block .0 < g .n)
   place-data (In p) q r = (q .0, q .1)
-  place-data (After a) q r = let h : 1 ≤ length (clears g I) = omega (arith, r .clear) in (fresh-from g I h, fresh-below g I h s)
+  place-data (After a) q r = let h : 1 ≤ length (clears g I) = omega (arith, r .clear) in (fresh-low g I h, fresh-high g I h s)
   place-data Damaged q r = absurd q
 
   pub place-room : (t : Spot) → SpotIn (blockSize g) (dataAt g) (g .n) len t → len ≤ 255 → placeIn g I t .offset + 18 + len ≤ blockSize g - 5
@@ -237,26 +205,13 @@ enter-image s I J L p k a name time e j f d l =
     l ∙ (λ i. splice (j i) (placeAt 512 (p .block .0) (p .offset)) (headBytes (d i) ++ name))
     ∙ (λ i. splice (grown (geoOf s) I) (placeAt 512 (p .block .0) (p .offset)) (headBytes (newHead k (f i) time (length name)) ++ name))
 
--- recount
-module _ {s : SuperBlock} {I : List ℕ} (f : Fit s I) (dir : ℕ) (own : Own) (time : ℕ) (m : Summed) (e : m ≡ finds.sumFrom 0 (walk 512 (s .area .0) (s .blocks) I dir)) where
-  recount-by : m ≡ finds.sumFrom 0 (walk 512 (dataAt (geoOf s)) (s .blocks) I dir)
-  recount-by = e ∙ ap (λ (z : ℕ). finds.sumFrom 0 (walk 512 z (s .blocks) I dir)) (f .area)
-
-  pub recount-total : {J : List ℕ} (z : ℕ) → m ≡ summed.Total z → J ≡ ownRenewed 512 I own z time → J ≡ recounted (geoOf s) I dir own time
-  unfolding recounted
-  recount-total z d j = j ∙ ap (resized (geoOf s) I own time) (sym d ∙ recount-by)
-
-  pub recount-damaged : {J : List ℕ} → m ≡ summed.Damaged → J ≡ I → J ≡ recounted (geoOf s) I dir own time
-  unfolding recounted
-  recount-damaged d j = j ∙ ap (resized (geoOf s) I own time) (sym d ∙ recount-by)
-
 -- insert
 pub insert-image : (s : SuperBlock) (I J L M : List ℕ) (dir : ℕ) (t : Spot) (own : Own) (k : Kind) (name : Name) (time : ℕ) (p : Place)
-    → J ≡ opened (geoOf s) I t → p ≡ placeIn (geoOf s) I t → L ≡ entered (geoOf s) J p k name time → M ≡ recounted (geoOf s) L dir own time
+    → J ≡ opened (geoOf s) I t → p ≡ placeIn (geoOf s) I t → L ≡ entered (geoOf s) J p k name time → M ≡ sumRenewed (geoOf s) L dir own time
     → M ≡ inserted (geoOf s) I dir t own k name time
 unfolding inserted
 insert-image s I J L M dir t own k name time p j e l m =
-    m ∙ ap (λ (z : List ℕ). recounted (geoOf s) z dir own time) (l ∙ (λ i. entered (geoOf s) (j i) (e i) k name time))
+    m ∙ ap (λ (z : List ℕ). sumRenewed (geoOf s) z dir own time) (l ∙ (λ i. entered (geoOf s) (j i) (e i) k name time))
 
 pub insert-block : (s : SuperBlock) (I J : List ℕ) (t : Spot) (a : ℕ) → J ≡ opened (geoOf s) I t → a ≡ fresh (geoOf s) J → a ≡ insertedAt (geoOf s) I t
 unfolding insertedAt

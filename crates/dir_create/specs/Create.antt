@@ -2,26 +2,25 @@
 use mathlib.Core.List.{List, [], _∷_, _++_}
 use Prim.Native.Nat.{ℕ, zero, suc, _+_, _-_, _≤_, _<_}
 use lib.Dec.{leb, eqb}
-use lib.ListN.{length, getD}
+use lib.ListN.{length}
 use Rattle.wire.specs.Be.{splice}
 use Rattle.wire.specs.Pick.{pick}
 use Rattle.block.specs.Block.{next, linked}
 use Rattle.model.specs.Tree.{Name, Block, used}
 use Rattle.model.specs.Geometry.{Geo, blockSize, dataAt}
 use Rattle.model.specs.Calls.{hasRoom}
-use Rattle.bitmap_block.specs.Bitmap.{clears, taken}
+use Rattle.bitmap_block.specs.Bitmap.{taken, fresh}
 use Rattle.dir_entry.specs.declared.Kind.{Kind}
 use Rattle.dir_entry.specs.declared.DirEntry.{DirEntry}
 use Rattle.dir_entry.specs.declared.Slot.{Slot}
 use Rattle.dir_entry.specs.declared.Slot.the-variants.{Entry, Stop}
 use Rattle.dir_entry.specs.Entry.{header, headBytes, placeAt, slotAt}
 use Rattle.read_dir.specs.declared.Place.{Place}
-use Rattle.read_dir.specs.declared.Summed.{Summed}
 use Rattle.read_dir.specs.declared.Summed.the-variants as summed
-use Rattle.read_dir.specs.Walk.{inArea, walk}
-use Rattle.read_dir.specs.Finds.{placed, sumFrom}
+use Rattle.read_dir.specs.Walk.{inArea}
+use Rattle.read_dir.specs.Finds.{placed}
 use Rattle.own_entry.specs.declared.Own.{Own}
-use Rattle.own_entry.specs.Own.{ownRenewed}
+use Rattle.own_entry.specs.Own.{sumRenewed}
 use Rattle.dir_create.specs.declared.Spot.{Spot}
 use Rattle.dir_create.specs.declared.Spot.the-variants.{In, After, Damaged}
 
@@ -79,40 +78,29 @@ abbrev pub newHead : Kind → ℕ → ℕ → ℕ → DirEntry
 newHead k a time len = record { kind = k; addr = record { 0 = a }; size = 0; time = time; len = len }
 
 module _ (g : Geo) where
-  -- 01, "A new block is the lowest clear index within reach": its address, and the image with it taken.
-  unfoldable pub fresh : List ℕ → ℕ
-  fresh I = getD (clears g I) 0 0
-
+  -- 01, "A new block is the lowest clear index within reach": the image with it taken.
   unfoldable pub grown : List ℕ → List ℕ
-  grown I = taken g I (fresh I - dataAt g)
+  grown I = taken g I (fresh g I - dataAt g)
 
   -- "else a new block is linked at the end": the image where the entry has a place, and that place.
   abbrev pub opened : List ℕ → Spot → List ℕ
   opened I (In p) = I
-  opened I (After a) = linked (blockSize g) (grown I) (a .0) (fresh I)
+  opened I (After a) = linked (blockSize g) (grown I) (a .0) (fresh g I)
   opened I Damaged = I
 
   abbrev pub placeIn : List ℕ → Spot → Place
   placeIn I (In p) = p
-  placeIn I (After a) = placed (fresh I) 0
+  placeIn I (After a) = placed (fresh g I) 0
   placeIn I Damaged = placed 0 0
 
   -- "Then one block for the entry": the image with the block taken, and the entry at its place.
   unfoldable pub entered : List ℕ → Place → Kind → Name → ℕ → List ℕ
   entered I p k name time =
-      splice (grown I) (placeAt (blockSize g) (p .block .0) (p .offset)) (headBytes (newHead k (fresh I) time (length name)) ++ name)
+      splice (grown I) (placeAt (blockSize g) (p .block .0) (p .offset)) (headBytes (newHead k (fresh g I) time (length name)) ++ name)
 
-  -- "The holding directory's own entry, if it has one, gets the new sum and the time."
-  abbrev pub resized : List ℕ → Own → ℕ → Summed → List ℕ
-  resized I own time (summed.Total z) = ownRenewed (blockSize g) I own z time
-  resized I own time summed.Damaged = I
-
-  unfoldable pub recounted : List ℕ → ℕ → Own → ℕ → List ℕ
-  recounted I dir own time = resized I own time (sumFrom 0 (walk (blockSize g) (dataAt g) (g .n) I dir))
-
-  -- The image after a create in the directory whose first block is dir, and the block of the entry.
+  -- The image after a create in the directory whose first block is dir, whose own entry "gets the new sum and the time", and the block of the entry.
   unfoldable pub inserted : List ℕ → ℕ → Spot → Own → Kind → Name → ℕ → List ℕ
-  inserted I dir spot own k name time = recounted (entered (opened I spot) (placeIn I spot) k name time) dir own time
+  inserted I dir spot own k name time = sumRenewed g (entered (opened I spot) (placeIn I spot) k name time) dir own time
 
   unfoldable pub insertedAt : List ℕ → Spot → ℕ
-  insertedAt I spot = fresh (opened I spot)
+  insertedAt I spot = fresh g (opened I spot)

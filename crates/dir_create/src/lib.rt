@@ -9,7 +9,6 @@ use dir_entry::Kind;
 use dir_entry::Slot;
 use own_entry::Own;
 use read_dir::Place;
-use read_dir::Summed;
 use super_block::SuperBlock;
 ghost use mathlib.Core.Path.{_≡_};
 ghost use mathlib.Core.List.{_++_};
@@ -18,10 +17,10 @@ ghost use lib.ListN.{length};
 ghost use Rattle.wire.specs.Be.{splice};
 ghost use Rattle.block.specs.Block.{blockBytes, linked};
 ghost use Rattle.super_block.specs.Super.{geoOf, Fit};
-ghost use Rattle.bitmap_block.specs.Bitmap.{Room};
+ghost use Rattle.bitmap_block.specs.Bitmap.{fresh, Room};
 ghost use Rattle.dir_entry.specs.Entry.{header, headBytes, placeAt};
 ghost use Rattle.own_entry.specs.Own.{OwnIn};
-ghost use Rattle.dir_create.specs.Create.{usedAt, spotFor, needed, SpotIn, fresh, grown, opened, placeIn, entered, recounted, inserted, insertedAt};
+ghost use Rattle.dir_create.specs.Create.{usedAt, spotFor, needed, SpotIn, grown, opened, placeIn, entered, inserted, insertedAt};
 
 // Where a new entry goes: at a place of the directory, or into a new block after its last one.
 pub enum Spot {
@@ -169,18 +168,6 @@ fn enter(img: &mut [u8], s: SuperBlock, p: Place, kind: Kind, name: &[u8], time:
     a
 }
 
-// The new sum of a directory, and the time, go into its own entry.
-fn recount(img: &mut [u8], s: SuperBlock, dir: Addr, own: Own, time: u64)
-    requires { ⌜ Fit s (now img) ⌝ }
-    requires { ⌜ OwnIn (now img) own ⌝ }
-    ensures { λ _. ⌜ now (img .exit) ≡ recounted (geoOf s) (now (img .entry)) (dir .0) own time ⌝ }
-{
-    match read_dir::sum(img, s, dir) {
-        Summed::Total(z) => own_entry::renew(img, own, z, time),
-        Summed::Damaged => {}
-    }
-}
-
 // The stores of a create: the entry goes to its spot, and the directory's own entry is renewed. Answers the entry's block.
 pub fn insert(
     img: &mut [u8],
@@ -201,6 +188,6 @@ pub fn insert(
 {
     let p = open_place(img, s, spot, name.len());
     let a = enter(img, s, p, kind, name, time);
-    recount(img, s, dir, own, time);
+    own_entry::renew_sum(img, s, dir, own, time);
     a
 }

@@ -19,9 +19,9 @@ use Rattle.model.proofs.Areas.{area, few}
 use Rattle.model.proofs.Counts.{count-same, count-other, count-none, count-cons}
 use Rattle.model.proofs.Frame.{SameBlock, shows-frame}
 use Rattle.model.proofs.Full.{Whole}
+use Rattle.model.proofs.Entries.{next-shown}
 use Rattle.bitmap_block.specs.Bitmap.{mark, freed}
 use Rattle.bitmap_block.proofs.Steps.{Aside, aside-data, sound-kept, freed-kept, used-freed, top-freed, mark-freed, mark-freed-other}
-use Rattle.tree_walk.proofs.Parts.{next-shown}
 use Rattle.tree_walk.proofs.Walks.{in-area}
 use Rattle.dir_delete.specs.Delete.{released, chainFreed}
 

@@ -17,26 +17,15 @@ use Rattle.bitmap_block.specs.Bitmap.{freed}
 use Rattle.dir_entry.specs.declared.DirEntry.{DirEntry}
 use Rattle.dir_entry.specs.Entry.{placeAt}
 use Rattle.read_dir.specs.declared.Place.{Place}
-use Rattle.read_dir.specs.declared.Summed.{Summed}
-use Rattle.read_dir.specs.declared.Summed.the-variants.{Total, Damaged}
-use Rattle.read_dir.specs.Walk.{walk}
-use Rattle.read_dir.specs.Finds.{sumFrom}
 use Rattle.own_entry.specs.declared.Own.{Own}
 use Rattle.own_entry.specs.declared.Own.the-variants.{Root, At}
-use Rattle.own_entry.specs.Own.{OwnIn, ownRenewed}
-use Rattle.dir_delete.specs.Delete.{released, chainFreed, beforeFrom, unlinked, lessBare, ownSummed, sumRenewed, entryGone, removed}
+use Rattle.own_entry.specs.Own.{OwnIn, sumRenewed}
+use Rattle.dir_delete.specs.Delete.{released, chainFreed, beforeFrom, unlinked, lessBare, entryGone, removed}
 
 -- ---- what calls ask
 
 pub still-fit : (s : SuperBlock) (I J : List ℕ) → Fit s I → length J ≡ length I → Fit s J
 still-fit s I J f e = fit-long e f
-
-pub area-inside : (s : SuperBlock) (I : List ℕ) → Fit s I → s .area .0 ≤ s .blocks
-area-inside s I f = omega (arith, placed f .some-data)
-
--- a block of the volume is in the image, and in any image as long
-pub block-inside : (s : SuperBlock) (I J : List ℕ) (a b : ℕ) → Fit s I → length J ≡ length I → a ≡ b → b < s .blocks → 512 * a + 512 ≤ length J
-block-inside s I J a b f e q h = omega (arith, placed f .inside)
 
 pub own-still : (I J L : List ℕ) (o : Own) → OwnIn I o → length J ≡ length I → length L ≡ length J → OwnIn L o
 own-still I J L Root h e f = tt
@@ -146,19 +135,6 @@ module _ (s : SuperBlock) (I : List ℕ) (dir b : ℕ) where
     pub bare-gone : r ≡ true → (J : List ℕ) → J ≡ unlinked (geoOf s) I dir b → J ≡ lessBare (geoOf s) I dir b
     unfolding lessBare
     bare-gone e J h = h ∙ sym (pick-false _ _ (ne-eqb b dir n) ∙ pick-true _ _ (tested ∙ e))
-
--- ---- the sum into the own entry
-
-pub sum-told : (s : SuperBlock) (I J : List ℕ) (dir : ℕ) (own : Own) (time z : ℕ) (r : Summed) → Fit s I → r ≡ sumFrom 0 (walk 512 (s .area .0) (s .blocks) I dir)
-    → r ≡ Total z → J ≡ ownRenewed 512 I own z time → J ≡ sumRenewed (geoOf s) I dir own time
-unfolding sumRenewed
-sum-told s I J dir own time z r f e q h =
-    h ∙ ap (ownSummed 512 I own time) (sym q ∙ e ∙ ap (λ (d : ℕ). sumFrom 0 (walk 512 d (s .blocks) I dir)) (f .area))
-
-pub sum-damaged : (s : SuperBlock) (I : List ℕ) (dir : ℕ) (own : Own) (time : ℕ) (r : Summed) → Fit s I → r ≡ sumFrom 0 (walk 512 (s .area .0) (s .blocks) I dir)
-    → r ≡ Damaged → I ≡ sumRenewed (geoOf s) I dir own time
-unfolding sumRenewed
-sum-damaged s I dir own time r f e q = ap (ownSummed 512 I own time) (sym q ∙ e ∙ ap (λ (d : ℕ). sumFrom 0 (walk 512 d (s .blocks) I dir)) (f .area))
 
 -- ---- the whole
 

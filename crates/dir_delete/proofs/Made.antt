@@ -1,67 +1,43 @@
 -- After the blocks of an entry are given back: bits, count and directory are what a commit asks for, and what else stays.
-use mathlib.Core.Path.{_≡_, sym, ap, _∙_, subst}
+use mathlib.Core.Path.{_≡_, sym, _∙_, subst}
 use mathlib.Core.Option.{some}
-use mathlib.Core.List.{List, [], _∷_, _++_}
+use mathlib.Core.List.{List, [], _∷_}
 use Prim.Native.Nat.{ℕ, zero, suc, _+_, _-_, _*_, _≤_, _<_}
 use native.Mathlib.Omega.{arith}
 use native.Mathlib.Decide.{decLt}
 use lib.ListN.{length}
-use Rattle.wire.specs.Be.{bytes}
 use Rattle.bits.specs.Bit.{bit}
 use Rattle.block.specs.Block.{cell, Kept}
 use Rattle.block.proofs.Laws.{kept-trans, kept-less}
 use Rattle.model.specs.Tree.{Name, Tree, Some, find}
-use Rattle.model.specs.Render.{Piece, blocksAt, padded, render, ats, count, blocks, Shows, ShowsAll}
+use Rattle.model.specs.Render.{Piece, blocksAt, render, ats, count, blocks, Shows}
 use Rattle.model.specs.Geometry.{Geo, blockSize, mapAt, dataAt, mapBits, superBytes, usedCount, Sound}
 use Rattle.model.specs.Volume.{All, GoodTree, Volume}
 use Rattle.model.proofs.Areas.{area, few, size-large, volume-laid}
-use Rattle.model.proofs.Commit.{Commit}
-use Rattle.model.proofs.Counts.{tally, length-ats}
-use Rattle.model.proofs.Cuts.{Cut, own-cut}
+use Rattle.model.proofs.Commit.{cut-shorter}
+use Rattle.model.proofs.Cuts.{own-cut}
 use Rattle.model.proofs.Demand.{whole-super}
 use Rattle.model.proofs.Frame.{SameBlock, shows-frame}
 use Rattle.model.proofs.Full.{Whole, whole-tree}
 use Rattle.model.proofs.OneVolume.{used-in, used-is}
 use Rattle.model.proofs.Owns.{shows-kept}
-use Rattle.model.proofs.Paths.{sub-in}
 use Rattle.bitmap_block.specs.Bitmap.{mark}
 use Rattle.bitmap_block.proofs.Steps.{Aside, aside-data, aside-other, mark-is, sound-kept, used-kept, mark-kept}
+use Rattle.own_entry.proofs.Renews.{Made, sub-blocks}
 use Rattle.dir_delete.proofs.Frees.{allReleased, Within, Given, all-kept, all-given}
 use Rattle.dir_delete.proofs.Stay.{Without}
 
--- What is so of J, in which all is stored but the directory's own entry.
-pub record Made (g : Geo) (I J : List ℕ) (d : ℕ) (t : Tree d) (e : ℕ) (s u : Tree e) (left : List Piece) : Type 0 where
-  pub commit : Commit g I J d t e s u
-  pub others : (b : ℕ) → 1 ≤ count b (blocks (blockSize g) d t) → count b (blocks (blockSize g) e s) ≡ 0 → SameBlock (blockSize g) I J b
-  pub remains : ShowsAll (blockSize g) J left
-  pub whole : All (Whole (blockSize g)) left
-  pub over : (i : ℕ) → count i (ats left) ≤ count i (blocks (blockSize g) e s)
-  pub frame : Kept (blockSize g) (λ b o. (b ≡ g .K → ⊥) × (mapAt g ≤ b → b < dataAt g → ⊥) × (count b (blocks (blockSize g) e u) + count b (ats left) ≡ 0)) I J
-
 -- A directory at a path reaches no more blocks than the tree.
-cut-part : (B : ℕ) (xs ys us vs : List Piece) (q : ℕ) (E E′ : List ℕ) → Cut B xs ys us vs q E E′ → length (ats us) ≤ length (ats xs)
-unfolding ats
-cut-part B xs ys us vs q E E′ c =
-    let x : Piece = record { at = c .at; full = bytes 4 (c .next) ++ padded (B - 4) (c .low ++ (E ++ c .high)) } in
-    omega (
-      arith,
-      ap (λ (l : List Piece). length (ats l)) (c .old),
-      length-ats (c .before) (x ∷ (c .between ++ (us ++ c .after))),
-      length-ats (c .between) (us ++ c .after),
-      length-ats us (c .after),
-    )
-
-pub sub-long : (B d : ℕ) (p : List Name) (t : Tree d) (s : Some) → find d p t ≡ some s → length (blocks B (s .0) (s .1)) ≤ length (blocks B d t)
+sub-long : (B d : ℕ) (p : List Name) (t : Tree d) (s : Some) → find d p t ≡ some s → length (blocks B (s .0) (s .1)) ≤ length (blocks B d t)
 unfolding find
 sub-long B zero [] t s f = let k : (zero, t) ≡ s = cc in subst (λ (z : Some). length (blocks B (z .0) (z .1)) ≤ length (blocks B zero t)) k (omega arith)
 sub-long B (suc d) [] t s f = let k : (suc d, t) ≡ s = cc in subst (λ (z : Some). length (blocks B (z .0) (z .1)) ≤ length (blocks B (suc d) t)) k (omega arith)
-sub-long B d (n ∷ p) t s f = cut-part B _ _ _ _ _ _ _ (own-cut B d n p (λ k. k) (λ e x. x) t s f .cut)
+sub-long B d (n ∷ p) t s f = cut-shorter B _ _ _ _ _ _ _ (own-cut B d n p (λ k. k) (λ e x. x) t s f .cut)
 
 module _ (g : Geo) (I : List ℕ) (d : ℕ) (t : Tree d) (v : Volume g I d t) (p : List Name) (s : Some) (f : find d p t ≡ some s) where
-  -- a directory's blocks are among the tree's
-  pub fewer : (i : ℕ) → count i (blocks (blockSize g) (s .0) (s .1)) ≤ count i (blocks (blockSize g) d t)
-  unfolding tally
-  fewer i = sub-in (blockSize g) i d p t s f
+  -- its blocks are among the tree's
+  fewer : (i : ℕ) → count i (blocks (blockSize g) (s .0) (s .1)) ≤ count i (blocks (blockSize g) d t)
+  fewer = sub-blocks (blockSize g) d p t s f
 
   module _ (u : Tree (s .0)) (left : List Piece) (gone W : List ℕ) (w : Without g I W (s .0) (s .1) u left gone) where
     -- only blocks of the data were stored to

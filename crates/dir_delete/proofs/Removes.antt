@@ -4,46 +4,42 @@ use mathlib.Core.Bool.{true, false}
 use mathlib.Core.Logic.{_⊎_, inl, inr}
 use mathlib.Core.Option.{some}
 use mathlib.Core.List.{List, [], _∷_, _++_}
-use Prim.Native.Nat.{ℕ, _+_, _-_, _^_, _≤_, _<_}
-use native.Mathlib.Nat.{add-zero, zero-add, add-assoc}
+use Prim.Native.Nat.{ℕ, _-_, _^_, _≤_, _<_}
 use native.Mathlib.Decide.{decLt}
 use native.Mathlib.Omega.{arith}
 use lib.ListN.{length}
 use Rattle.wire.proofs.Picks.{either, pick-true, pick-false}
 use Rattle.block.specs.Block.{cell}
-use Rattle.model.specs.Tree.{Name, Entry, Block, Below, Tree, holds, lookup, weight, used, sum, fill, lessFirst, called, deleteLater, delete, edit, Some, find, Bare}
+use Rattle.model.specs.Tree.{Name, Entry, Block, Below, Tree, holds, lookup, fill, lessFirst, called, deleteLater, delete, edit, Some, find, Bare}
 use Rattle.model.specs.Render.{Piece, View, blocksAt, nodePieces, view, render, ats, count}
 use Rattle.model.specs.Geometry.{Geo, blockSize, dataAt, Sound}
 use Rattle.model.specs.Volume.{All, GoodEntry, GoodBelow, Volume}
 use Rattle.model.specs.Calls.{deleted, leftover, Makes, Deletes}
 use Rattle.model.proofs.Areas.{size-large}
-use Rattle.model.proofs.Commit.{Commit}
 use Rattle.model.proofs.Counts.{count-same, count-none, count-cons}
 use Rattle.model.proofs.Cuts.{Cut, cut-here}
 use Rattle.model.proofs.Frame.{SameBlock, shows-frame}
 use Rattle.model.proofs.Full.{Whole, whole-tree, good-lookup}
 use Rattle.model.proofs.Good.{good-delete}
 use Rattle.model.proofs.Makes.{whole-leftover}
+use Rattle.model.proofs.Lists.{all-left, all-right}
 use Rattle.dir_entry.specs.declared.DirEntry.{DirEntry}
-use Rattle.dir_entry.specs.Entry.{header}
+use Rattle.dir_entry.specs.Shown.{headOf}
 use Rattle.read_dir.specs.declared.Place.{Place}
 use Rattle.read_dir.specs.declared.Summed.the-variants as summed
-use Rattle.read_dir.specs.Walk.{Walk, walk}
 use Rattle.read_dir.specs.Cursor.{Lies}
-use Rattle.read_dir.specs.Finds.{sumFrom}
-use Rattle.tree_walk.specs.Shown.{headOf, itemsOf, walkOf, spotOf}
+use Rattle.tree_walk.specs.Shown.{spotOf}
 use Rattle.tree_walk.proofs.Parts.{Stored, Part, laid-part, part-find, stored-lookup, stored-few, blocks-in}
-use Rattle.tree_walk.proofs.Walks.{head-weight, part-walk}
 use Rattle.own_entry.specs.declared.Own.{Own}
-use Rattle.own_entry.specs.Own.{ownRenewed, OwnOf}
-use Rattle.dir_delete.specs.Delete.{released, chainFreed, entryGone, ownSummed, sumRenewed, removed}
+use Rattle.own_entry.specs.Own.{OwnOf, sumRenewed}
+use Rattle.own_entry.proofs.Renews.{Made, sub-blocks, sum-makes}
+use Rattle.dir_delete.specs.Delete.{released, chainFreed, entryGone, removed}
 use Rattle.dir_delete.proofs.Frees.{allReleased, chain-released, released-kept, released-block}
 use Rattle.dir_delete.proofs.Sites.{Stays, Goes, delete-site}
 use Rattle.dir_delete.proofs.Stay.{Without, stayed, stays-without, stays-is, stays-lies}
 use Rattle.dir_delete.proofs.Unlinks.{unlinkedFrom, over-at, goes-without, goes-is, goes-lies}
 use Rattle.dir_delete.proofs.Nodes.{node-chained}
-use Rattle.dir_delete.proofs.Made.{Made, made, fewer}
-use Rattle.dir_delete.proofs.Renews.{renewed-makes}
+use Rattle.dir_delete.proofs.Made.{made}
 
 -- ---- the directory without the entry begins where it did
 
@@ -56,31 +52,12 @@ delete-at n (b ∷ bs) = go (either (holds n b))
     go (inl c) = ap blocksAt (pick-true (fill (lessFirst (called n)) b ∷ bs) (b ∷ deleteLater n bs) c)
     go (inr c) = ap blocksAt (pick-false (fill (lessFirst (called n)) b ∷ bs) (b ∷ deleteLater n bs) c)
 
--- ---- the sum that is read is the tree's
-
-module _ {X : Type 0} (v : View X) where
-  items-sum : (a : ℕ) (es : List (Entry X)) (o s : ℕ) (w : Walk) → sumFrom s (itemsOf v a o es w) ≡ sumFrom (s + used es) w
-  unfolding itemsOf sumFrom used
-  items-sum a [] o s w = ap (λ (j : ℕ). sumFrom j w) (sym (add-zero s))
-  items-sum a (e ∷ es) o s w =
-      let k : s + (header + headOf v e .len) + used es ≡ s + (weight e + used es) = omega (arith, head-weight v s e) in
-      items-sum a es (o + weight e) (s + (header + headOf v e .len)) w ∙ ap (λ (j : ℕ). sumFrom j w) k
-
-  walk-sum : (bs : List (Block X)) (s : ℕ) → sumFrom s (walkOf v bs) ≡ summed.Total (s + sum bs)
-  unfolding walkOf sumFrom sum
-  walk-sum [] s = ap summed.Total (sym (add-zero s))
-  walk-sum (b ∷ bs) s = items-sum (b .at) (b .entries) 0 s (walkOf v bs) ∙ walk-sum bs (s + used (b .entries)) ∙ ap summed.Total (add-assoc s (used (b .entries)) (sum bs))
-
 -- ---- the pieces of an entry that a name gives are whole blocks
 
-all-in : {A : Type 0} (P : A → Type 0) (a : List A) (x : A) (b us c : List A) → All P (a ++ (x ∷ (b ++ (us ++ c)))) → All P us
-all-in P (y ∷ a) x b us c h = all-in P a x b us c (h .1)
-all-in P [] x (y ∷ b) us c h = all-in P [] x b us c (h .0, h .1 .1)
-all-in P [] x [] (y ∷ us) c h = (h .1 .0, all-in P [] x [] us c (h .0, h .1 .1))
-all-in P [] x [] [] c h = tt
-
-cut-whole : (P : Piece → Type 0) (B : ℕ) (xs ys us vs : List Piece) (q : ℕ) (E E′ : List ℕ) → Cut B xs ys us vs q E E′ → All P xs → All P us
-cut-whole P B xs ys us vs q E E′ c h = all-in P (c .before) _ (c .between) us (c .after) (subst (All P) (c .old) h)
+-- what has all pieces of a cut has those that it replaces
+cut-all : (P : Piece → Type 0) (B : ℕ) (xs ys us vs : List Piece) (q : ℕ) (E E′ : List ℕ) → Cut B xs ys us vs q E E′ → All P xs → All P us
+cut-all P B xs ys us vs q E E′ c h =
+    all-left P us (c .after) (all-right P (c .between) (us ++ c .after) (all-right P (c .before) (_ ∷ (c .between ++ (us ++ c .after))) (subst (All P) (c .old) h) .1))
 
 -- ---- all but the own entry
 
@@ -105,7 +82,7 @@ module _ (g : Geo) (I : List ℕ) (d : ℕ) (t : Tree d) (v : Volume g I d t) (p
   whole : All (Whole (blockSize g)) node
   unfolding render node
   whole =
-      cut-whole (Whole (blockSize g)) _ _ _ _ _ _ _ _ (cut-here (blockSize g) shows n (λ x. x) (s .1) e l)
+      cut-all (Whole (blockSize g)) _ _ _ _ _ _ _ _ (cut-here (blockSize g) shows n (λ x. x) (s .1) e l)
       (whole-tree (blockSize g) (omega (arith, size-large g)) (s .0) (s .1) (part .good))
 
   -- the entry's chain freed in an image that has its blocks as they were
@@ -158,7 +135,7 @@ module _ (g : Geo) (I : List ℕ) (d : ℕ) (t : Tree d) (v : Volume g I d t) (p
       let W : List ℕ = unlinkedFrom g I (s .0) (s .1) part n e st in
       let w : Without g I W (s .0) (s .1) (delete n (s .1)) (leftover B n (s .1)) (st .at ∷ N) = goes-without g I (s .0) (s .1) part n e st in
       let k : Sound g (length W) = subst (Sound g) (sym (w .kept .size)) (v .laid .sound) in
-      let i : (dataAt g ≤ st .at) × (st .at < g .n) = v .laid .range (st .at) (omega (arith, w .counts (st .at), count-same (st .at) (st .at) N refl, fewer g I d t v p s f (st .at))) in
+      let i : (dataAt g ≤ st .at) × (st .at < g .n) = v .laid .range (st .at) (omega (arith, w .counts (st .at), count-same (st .at) (st .at) N refl, sub-blocks (blockSize g) d p t s f (st .at))) in
       let m : Made g I (allReleased g W (st .at ∷ N)) d t (s .0) (s .1) (delete n (s .1)) (leftover B n (s .1))
       = made g I d t v p s f (delete n (s .1)) (leftover B n (s .1)) (st .at ∷ N) W w (delete-at n (s .1)) (good-delete n B (GoodBelow B (s .0)) (s .1) (part .good))
       (whole-leftover B (omega (arith, size-large g)) n (s .1)) in (
@@ -197,32 +174,16 @@ module _ (g : Geo) (I : List ℕ) (d : ℕ) (t : Tree d) (v : Volume g I d t) (p
   -- ---- with the own entry
 
   module _ (now : ℕ) (own : Own) (o : OwnOf (blockSize g) d p t own) (small : now < 2 ^ 64) where
-    -- the sum of the directory as it is now
-    sum-after : (J : List ℕ) → Before J → sumFrom 0 (walk (blockSize g) (dataAt g) (g .n) J (blocksAt (s .1))) ≡ summed.Total (sum (delete n (s .1)))
-    sum-after J b =
-        let c : Commit g I J d t (s .0) (s .1) (delete n (s .1)) = b .as-made .commit in
-        let q : Part g J (s .0) (delete n (s .1)) = record {
-          sound = subst (Sound g) (sym (c .long)) (v .laid .sound);
-          stored = record { shown = c .shown; once = λ i. omega (arith, c .fresh i, fewer g I d t v p s f i); range = c .inside };
-          good = c .good;
-        } in
-        ap (λ (a : ℕ). sumFrom 0 (walk (blockSize g) (dataAt g) (g .n) J a)) (sym (delete-at n (s .1)))
-        ∙ ap (sumFrom 0) (part-walk g J (s .0) (delete n (s .1)) q)
-        ∙ walk-sum shows (delete n (s .1)) 0
-        ∙ ap summed.Total (zero-add (sum (delete n (s .1))))
-
     pub removes : Deletes g d p n now t I (removed g I (blocksAt (s .1)) (headOf shows e) (spotOf n (s .1)) own now)
-    unfolding removed sumRenewed deleted
+    unfolding removed deleted
     removes =
         let J : List ℕ = before .0 in
         let b : Before J = before .1 in
-        let k : removed g I (blocksAt (s .1)) (headOf shows e) (spotOf n (s .1)) own now ≡ ownRenewed (blockSize g) J own (sum (delete n (s .1))) now
-        = ap (λ (K : List ℕ). sumRenewed g K (blocksAt (s .1)) own now) (b .is) ∙ ap (ownSummed (blockSize g) J own now) (sum-after J b) in
         record {
           occupied = record { dir = s; there = f; entry = e; held = l };
           bare = bare;
-          makes = subst (Makes g d (edit d p (λ _. now) (λ e bs. delete n bs) t) (leftover (blockSize g) n (s .1)) I) (sym k)
-              (renewed-makes g I J d t p now (λ e bs. delete n bs) s (leftover (blockSize g) n (s .1)) own v f (b .as-made) o small);
+          makes = subst (λ (K : List ℕ). Makes g d (edit d p (λ _. now) (λ e bs. delete n bs) t) (leftover (blockSize g) n (s .1)) I (sumRenewed g K (blocksAt (s .1)) own now)) (sym (b .is))
+              (sum-makes g I J d t p now (λ e bs. delete n bs) s (leftover (blockSize g) n (s .1)) own v f (b .as-made) o small);
         }
 
 -- ---- what a caller cites

@@ -13,6 +13,7 @@ use Rattle.model.specs.Render.{blocksAt, offset}
 use Rattle.model.specs.Calls.{bareLeft, leftoverLater, leftover}
 use Rattle.model.proofs.Lists.{not-some, first-here, first-there, lessFirst-here, lessFirst-there}
 use Rattle.model.proofs.Others.{lookup-here, lookup-there}
+use Rattle.model.proofs.Dirs.{not-bare}
 use Rattle.read_dir.specs.Finds.{placed}
 use Rattle.tree_walk.specs.Shown.{spotOf}
 
@@ -145,11 +146,6 @@ module _ {X : Type 0} (B : ℕ) (n : Name) (e : Entry X) where
   unfolding unlessBare
   no-block a ys = refl
 
-  some-block : (a : ℕ) (es : List (Entry X)) (ys : List (Block X)) → 1 ≤ length es → unlessBare a es ys ≡ record { at = a; entries = es } ∷ ys
-  unfolding unlessBare
-  some-block a [] ys h = absurd (omega arith)
-  some-block a (x ∷ es) ys h = refl
-
   none-over : (a z : ℕ) (es : List (Entry X)) → 1 ≤ length es → bareLeft B a z es ≡ []
   unfolding bareLeft
   none-over a z [] h = absurd (omega arith)
@@ -187,7 +183,7 @@ module _ {X : Type 0} (B : ℕ) (n : Name) (e : Entry X) where
             later = s .later;
             is = ap (λ (y : List (Block X)). b ∷ y) (s .is);
             spot = pick-false _ _ c ∙ s .spot;
-            gone = pick-false _ _ c ∙ ap (λ (y : List (Block X)). b ∷ y) (s .gone ∙ ap (λ (y : List (Block X)). s .earlier ++ y) (some-block (s .at) (s .left ++ s .right) (s .later) (omega (arith, ap length q))));
+            gone = pick-false _ _ c ∙ ap (λ (y : List (Block X)). b ∷ y) (s .gone ∙ ap (λ (y : List (Block X)). s .earlier ++ y) (not-bare (s .at) (s .left ++ s .right) (s .later) (omega (arith, ap length q))));
             over = pick-false _ _ c ∙ s .over ∙ none-over (s .at) (blocksAt (s .later)) (s .left ++ s .right) (omega (arith, ap length q));
             why = inr (omega (arith, ap length q));
           })

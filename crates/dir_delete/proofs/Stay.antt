@@ -1,5 +1,5 @@
 -- A block that stays: after the entry's bytes are cut out the image shows the directory without the entry.
-use mathlib.Core.Path.{_≡_, refl, sym, ap, _∙_, subst}
+use mathlib.Core.Path.{_≡_, sym, ap, _∙_, subst}
 use mathlib.Core.Bool.{true, false}
 use mathlib.Core.Logic.{_⊎_, inl, inr}
 use mathlib.Core.List.{List, [], _∷_, _++_, append-assoc}
@@ -20,19 +20,21 @@ use Rattle.model.specs.Render.{Piece, View, blocksAt, padded, entryBytes, entri
 use Rattle.model.specs.Geometry.{Geo, blockSize, dataAt}
 use Rattle.model.specs.Volume.{All, GoodEntry, GoodBlock, GoodBelow}
 use Rattle.model.proofs.Alike.{length-entry}
-use Rattle.model.proofs.Areas.{size-large}
-use Rattle.model.proofs.Commit.{shows-two}
-use Rattle.model.proofs.Counts.{count-same, count-other, count-none, count-append, ats-append, length-ats}
-use Rattle.model.proofs.Cuts.{Cut, dir-split, entries-split, bytes-split, upTo}
+use Rattle.model.proofs.Areas.{size-large, block-inside}
+use Rattle.model.proofs.Commit.{shows-two, cut-length}
+use Rattle.model.proofs.Counts.{count-same, count-none, count-is}
+use Rattle.model.proofs.Cuts.{Cut, dir-split, entries-split, bytes-split, upTo, bytes-both, pieces-both}
 use Rattle.model.proofs.Entries.{block-reads}
-use Rattle.model.proofs.Frame.{shows-right, cut-count, cut-shows}
+use Rattle.model.proofs.Frame.{shows-right, cut-count, cut-shows, cut-old, cut-new}
 use Rattle.model.proofs.Full.{whole-tree, length-entries}
 use Rattle.model.proofs.Good.{good-delete}
+use Rattle.model.proofs.Lists.{all-mid}
 use Rattle.dir_entry.specs.Entry.{header}
+use Rattle.dir_entry.specs.Shown.{headOf}
+use Rattle.dir_entry.proofs.Shown.{head-weight}
 use Rattle.read_dir.specs.Cursor.{Lies}
-use Rattle.tree_walk.specs.Shown.{headOf, spotOf}
-use Rattle.tree_walk.proofs.Parts.{Part, block-inside}
-use Rattle.tree_walk.proofs.Walks.{head-weight}
+use Rattle.tree_walk.specs.Shown.{spotOf}
+use Rattle.tree_walk.proofs.Parts.{Part}
 use Rattle.dir_delete.specs.Delete.{cutOut, lessBare, entryGone}
 use Rattle.dir_delete.proofs.Moved.{cut-kept, cut-shown}
 use Rattle.dir_delete.proofs.Sites.{Stays}
@@ -52,23 +54,9 @@ pub record Without (g : Geo) (I W : List ℕ) (d : ℕ) (s u : Tree d) (left : L
   pub counts : (i : ℕ) → count i (blocks (blockSize g) d s) ≡ count i (blocks (blockSize g) d u) + count i gone
   pub long : length (blocks (blockSize g) d s) ≡ length (blocks (blockSize g) d u) + length gone
 
--- ---- lists
-
-pub all-mid : {A : Type 0} (P : A → Type 0) (xs : List A) (y : A) (ys : List A) → All P (xs ++ (y ∷ ys)) → P y
-all-mid P [] y ys a = a .0
-all-mid P (x ∷ xs) y ys a = all-mid P xs y ys (a .1)
+-- ---- pieces
 
 module _ {X : Type 0} (B : ℕ) (v : View X) where
-  pub bytes-both : (l r : List (Entry X)) → entriesBytes v (l ++ r) ≡ entriesBytes v l ++ entriesBytes v r
-  unfolding entriesBytes
-  bytes-both [] r = refl
-  bytes-both (x ∷ l) r = rw (bytes-both l r, append-assoc)
-
-  pub pieces-both : (l r : List (Entry X)) → entryPieces v (l ++ r) ≡ entryPieces v l ++ entryPieces v r
-  unfolding entryPieces
-  pieces-both [] r = refl
-  pieces-both (x ∷ l) r = rw (pieces-both l r, append-assoc)
-
   -- A directory's pieces, by those of one of its blocks.
   pub dir-block : (xs : List (Block X)) (a : ℕ) (es : List (Entry X)) (ys : List (Block X))
       → dirPieces B v (xs ++ (record { at = a; entries = es } ∷ ys))
@@ -90,48 +78,13 @@ module _ {X : Type 0} (B : ℕ) (v : View X) where
     old = ap (dirPieces B v) (s .is) ∙ dir-block (s .front) (s .at) (s .left ++ (e ∷ s .right)) (s .later)
         ∙ rw (bytes-split B v (s .left) e (s .right), entries-split B v (s .left) e (s .right)) (simp append-assoc);
     new = ap (dirPieces B v) (s .gone) ∙ dir-block (s .front) (s .at) (s .left ++ s .right) (s .later)
-        ∙ rw (bytes-both (s .left) (s .right), pieces-both (s .left) (s .right)) (simp append-assoc);
+        ∙ rw (bytes-both B v (s .left) (s .right), pieces-both B v (s .left) (s .right)) (simp append-assoc);
     stands = ap (λ (z : ℕ). B * s .at + 4 + z) (sym (length-entries v (s .left)));
   }
-
--- how many pieces a cut has, before and after
-cut-many : (B : ℕ) (xs ys us : List Piece) (q : ℕ) (E E′ : List ℕ) (c : Cut B xs ys us [] q E E′) → length (ats xs) ≡ length (ats ys) + length (ats us)
-unfolding ats
-cut-many B xs ys us q E E′ c =
-    let x : Piece = record { at = c .at; full = bytes 4 (c .next) ++ padded (B - 4) (c .low ++ (E ++ c .high)) } in
-    let y : Piece = record { at = c .at; full = bytes 4 (c .next) ++ padded (B - 4) (c .low ++ (E′ ++ c .high)) } in
-    omega (
-      arith,
-      ap (λ (l : List Piece). length (ats l)) (c .old),
-      ap (λ (l : List Piece). length (ats l)) (c .new),
-      length-ats (c .before) (x ∷ (c .between ++ (us ++ c .after))),
-      length-ats (c .before) (y ∷ (c .between ++ c .after)),
-      length-ats (c .between) (us ++ c .after),
-      length-ats us (c .after),
-      length-ats (c .between) (c .after),
-    )
-
--- the block of a cut is among the pieces, before and after
-pub cut-old : (B : ℕ) (xs ys us vs : List Piece) (q : ℕ) (E E′ : List ℕ) (c : Cut B xs ys us vs q E E′) → 1 ≤ count (c .at) (ats xs)
-unfolding ats
-cut-old B xs ys us vs q E E′ c =
-    rw (c .old, ats-append, count-append) (omega (arith, count-same (c .at) (c .at) (ats (c .between ++ (us ++ c .after))) refl))
-
-pub cut-new : (B : ℕ) (xs ys us vs : List Piece) (q : ℕ) (E E′ : List ℕ) (c : Cut B xs ys us vs q E E′) → 1 ≤ count (c .at) (ats ys)
-unfolding ats
-cut-new B xs ys us vs q E E′ c =
-    rw (c .new, ats-append, count-append) (omega (arith, count-same (c .at) (c .at) (ats (c .between ++ (vs ++ c .after))) refl))
 
 -- one block was stored to
 pub one-only : (b a : ℕ) → count b (a ∷ []) ≡ 0 → b ≡ a → ⊥
 one-only b a h e = omega (arith, count-same b a [] e)
-
-pub only-one : (b a : ℕ) → 1 ≤ count b (a ∷ []) → b ≡ a
-only-one b a h = go (ℕ-discrete b a)
-  where
-    go : Dec (b ≡ a) → b ≡ a
-    go (yes e) = e
-    go (no e) = absurd (omega (arith, count-other b a [] e, count-none b))
 
 -- an entry's name has a byte, so a block with one is not all zero
 pub named : {X : Type 0} (B : ℕ) (S : X → Type 0) (v : View X) (J : List ℕ) (k c : ℕ) (es : List (Entry X)) → 1 ≤ length es → All (GoodEntry B S) es
@@ -178,7 +131,7 @@ module _ (g : Geo) (I : List ℕ) (d : ℕ) (s : Tree d) (part : Part g I d s) (
 
   in-image : blockSize g * st .at + blockSize g ≤ length I
   unfolding render
-  in-image = block-inside g I (part .sound) (st .at) (part .stored .range (st .at) among .1)
+  in-image = block-inside g (length I) (part .sound) (st .at) (part .stored .range (st .at) among .1)
 
   -- the image without the entry's bytes
   pub stayed : List ℕ
@@ -202,14 +155,14 @@ module _ (g : Geo) (I : List ℕ) (d : ℕ) (s : Tree d) (part : Part g I d s) (
       record {
         touched = st .at ∷ [];
         kept = kept-less (λ b o h q x y. one-only b (st .at) h q) stayed-kept;
-        among = λ i h. subst (λ (j : ℕ). 1 ≤ count j (ats (dirPieces B shows s))) (sym (only-one i (st .at) h)) among;
-        seen = λ i h. subst (λ (j : ℕ). 1 ≤ count j (ats (dirPieces B shows (delete n s))) + count j []) (sym (only-one i (st .at) h)) (omega (arith, cut-new _ _ _ _ _ _ _ _ out));
+        among = λ i h. subst (λ (j : ℕ). 1 ≤ count j (ats (dirPieces B shows s))) (sym (count-is i (st .at) h)) among;
+        seen = λ i h. subst (λ (j : ℕ). 1 ≤ count j (ats (dirPieces B shows (delete n s))) + count j []) (sym (count-is i (st .at) h)) (omega (arith, cut-new _ _ _ _ _ _ _ _ out));
         shown = cut-shows B _ _ _ _ _ _ _ out I stayed (whole-tree B (omega (arith, size-large g)) d s (part .good)) (part .stored .once) (part .stored .shown)
             (λ b h k q i l. stayed-kept .at b i (λ x _ _. q x) l) stayed-block tt;
         remains = tt;
         over = λ i. omega (arith, count-none i);
         counts = λ i. omega (arith, cut-count B _ _ _ _ _ _ _ out i, count-none i);
-        long = cut-many B _ _ _ _ _ _ out;
+        long = omega (arith, cut-length B _ _ _ _ _ _ _ out);
       }
 
   -- it is not all zero, where it keeps an entry

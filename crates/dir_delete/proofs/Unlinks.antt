@@ -19,23 +19,26 @@ use Rattle.model.specs.Geometry.{Geo, blockSize, dataAt, Sound}
 use Rattle.model.specs.Volume.{All, GoodBlock, GoodBelow}
 use Rattle.model.specs.Calls.{bareLeft, leftover}
 use Rattle.model.proofs.Alike.{length-entry}
-use Rattle.model.proofs.Areas.{few, size-large}
+use Rattle.model.proofs.Areas.{few, size-large, block-inside}
 use Rattle.model.proofs.Commit.{shows-both, shows-two, shows-stored, shows-after}
 use Rattle.model.proofs.Counts.{count-same, count-cons, count-append, ats-append, length-ats}
 use Rattle.model.proofs.Cuts.{upTo}
-use Rattle.model.proofs.Entries.{block-ends}
+use Rattle.model.proofs.Entries.{block-ends, next-shown}
 use Rattle.model.proofs.Frame.{SameBlock, shows-append, shows-left, shows-right, shows-frame}
-use Rattle.model.proofs.Full.{Whole, whole-tree}
+use Rattle.model.proofs.Full.{Whole, whole-tree, padded-none}
 use Rattle.model.proofs.Owns.{shows-kept}
+use Rattle.model.proofs.Sums.{chain-long}
+use Rattle.model.proofs.Lists.{all-left, all-right, all-mid}
 use Rattle.dir_entry.specs.Entry.{header}
+use Rattle.dir_entry.specs.Shown.{headOf}
+use Rattle.dir_entry.proofs.Shown.{head-weight}
 use Rattle.read_dir.specs.Cursor.{Lies}
-use Rattle.tree_walk.specs.Shown.{headOf, spotOf}
-use Rattle.tree_walk.proofs.Parts.{Stored, Part, stored-right, stored-tail, stored-in, stored-few, chain-long, block-inside, next-shown}
-use Rattle.tree_walk.proofs.Walks.{head-weight}
+use Rattle.tree_walk.specs.Shown.{spotOf}
+use Rattle.tree_walk.proofs.Parts.{Stored, Part, stored-few, block-data, chain-after, block-next, stored-right, next-small, stored-tail}
 use Rattle.dir_delete.specs.Delete.{cutOut, released, beforeFrom, unlinked, lessBare, entryGone}
 use Rattle.dir_delete.proofs.Moved.{cut-kept, cut-next, cut-shown}
 use Rattle.dir_delete.proofs.Sites.{Goes}
-use Rattle.dir_delete.proofs.Stay.{Without, all-mid, dir-block, one-only}
+use Rattle.dir_delete.proofs.Stay.{Without, dir-block, one-only}
 
 -- The block before is found by the next addresses alone.
 before-ext : (B n : ℕ) (I J : List ℕ) → ((a : ℕ) → next B J a ≡ next B I a) → (k a b : ℕ) → beforeFrom B n J k a b ≡ beforeFrom B n I k a b
@@ -49,36 +52,19 @@ module _ (g : Geo) (I : List ℕ) (sound : Sound g (length I)) (d : ℕ) where
   abbrev shows : View (Below d)
   shows = view (blockSize g) d
 
-  pieces : Tree d → List Piece
+  abbrev pieces : Tree d → List Piece
   pieces bs = dirPieces (blockSize g) shows bs
-
-  below : (b : Block (Below d)) (bs : Tree d) → Stored g I (pieces (b ∷ bs)) → Stored g I (pieces bs)
-  unfolding dirPieces pieces
-  below b bs s = stored-right g I (entryPieces shows (b .entries)) (dirPieces (blockSize g) shows bs) (stored-tail g I _ _ s)
-
-  head-in : (b : Block (Below d)) (bs : Tree d) → Stored g I (pieces (b ∷ bs)) → (dataAt g ≤ b .at) × (b .at < g .n)
-  unfolding dirPieces pieces
-  head-in b bs s = stored-in g I _ _ s
-
-  at-small : (bs : Tree d) → Stored g I (pieces bs) → blocksAt bs < 2 ^ 32
-  unfolding blocksAt
-  at-small [] s = omega arith
-  at-small (c ∷ bs) s = omega (arith, head-in c bs s .1, few g (length I) sound)
-
-  next-is : (b : Block (Below d)) (bs : Tree d) → Stored g I (pieces (b ∷ bs)) → next (blockSize g) I (b .at) ≡ blocksAt bs
-  unfolding dirPieces pieces
-  next-is b bs s = next-shown (blockSize g) I (b .at) (blocksAt bs) _ (at-small bs (below b bs s)) (s .shown .0)
 
   -- a block is among the pieces
   dir-among : (xs : Tree d) (b : Block (Below d)) (ys : Tree d) → 1 ≤ count (b .at) (ats (pieces (xs ++ (b ∷ ys))))
-  unfolding ats pieces
+  unfolding ats
   dir-among xs b ys =
       rw (dir-block (blockSize g) shows xs (b .at) (b .entries) ys, ats-append, count-append)
       (omega (arith, count-same (b .at) (b .at) (ats (entryPieces shows (b .entries) ++ dirPieces (blockSize g) shows ys)) refl))
 
   -- and not at the head, where it comes later
   first-other : (b : Block (Below d)) (bs : Tree d) (a : ℕ) → Stored g I (pieces (b ∷ bs)) → 1 ≤ count a (ats (pieces bs)) → b .at ≡ a → ⊥
-  unfolding dirPieces ats pieces
+  unfolding dirPieces ats
   first-other b bs a s h e =
       let E : List Piece = entryPieces shows (b .entries) in
       let T : List Piece = dirPieces (blockSize g) shows bs in
@@ -94,35 +80,23 @@ module _ (g : Geo) (I : List ℕ) (sound : Sound g (length I)) (d : ℕ) where
 
     head-below : (front : Tree d) → Stored g I (pieces (front ++ (last ∷ (blk ∷ later)))) → blocksAt (front ++ (last ∷ (blk ∷ later))) < g .n
     unfolding blocksAt
-    head-below [] s = head-in last (blk ∷ later) s .1
-    head-below (c ∷ front) s = head-in c (front ++ (last ∷ (blk ∷ later))) s .1
+    head-below [] s = block-data g I shows last (blk ∷ later) s .1
+    head-below (c ∷ front) s = block-data g I shows c (front ++ (last ∷ (blk ∷ later))) s .1
 
     -- The walk from the first block finds the one before blk.
     before-is : (front : Tree d) (k : ℕ) → length front < k → Stored g I (pieces (front ++ (last ∷ (blk ∷ later))))
         → beforeFrom (blockSize g) (g .n) I k (blocksAt (front ++ (last ∷ (blk ∷ later)))) (blk .at) ≡ last .at
     unfolding beforeFrom blocksAt
     before-is [] zero h s = absurd (omega arith)
-    before-is [] (suc k) h s = pick-true _ _ (eq-eqb (next (blockSize g) I (last .at)) (blk .at) (next-is last (blk ∷ later) s))
+    before-is [] (suc k) h s = pick-true _ _ (eq-eqb (next (blockSize g) I (last .at)) (blk .at) (block-next g I shows sound last (blk ∷ later) s))
     before-is (x ∷ front) zero h s = absurd (omega arith)
     before-is (x ∷ front) (suc k) h s =
-        let y : next (blockSize g) I (x .at) ≡ blocksAt (front ++ (last ∷ (blk ∷ later))) = next-is x (front ++ (last ∷ (blk ∷ later))) s in
-        let t = below x (front ++ (last ∷ (blk ∷ later))) s in
+        let y : next (blockSize g) I (x .at) ≡ blocksAt (front ++ (last ∷ (blk ∷ later))) = block-next g I shows sound x (front ++ (last ∷ (blk ∷ later))) s in
+        let t = chain-after g I shows x (front ++ (last ∷ (blk ∷ later))) s in
         pick-false _ _ (ne-eqb (next (blockSize g) I (x .at)) (blk .at) (λ e. head-other front t (sym y ∙ e)))
         ∙ pick-false _ _ (lt-leb (g .n) (next (blockSize g) I (x .at)) (omega (arith, y, head-below front t)))
         ∙ ap (λ (z : ℕ). beforeFrom (blockSize g) (g .n) I k z (blk .at)) y
         ∙ before-is front k (omega arith) t
-
-all-left : {A : Type 0} (P : A → Type 0) (xs ys : List A) → All P (xs ++ ys) → All P xs
-all-left P [] ys a = tt
-all-left P (x ∷ xs) ys a = (a .0, all-left P xs ys (a .1))
-
-all-right : {A : Type 0} (P : A → Type 0) (xs ys : List A) → All P (xs ++ ys) → All P ys
-all-right P [] ys a = a
-all-right P (x ∷ xs) ys a = all-right P xs ys (a .1)
-
-no-entries : (c : ℕ) → padded c [] ≡ zeros c
-unfolding padded
-no-entries c = let e : c - 0 ≡ c = omega arith in ap (λ (k : ℕ). zeros k) e
 
 -- ---- the block goes
 
@@ -224,7 +198,7 @@ module _ (g : Geo) (I : List ℕ) (d : ℕ) (s : Tree d) (part : Part g I d s) (
   apart q = omega (arith, part .stored .once (st .at), count-old (st .at), count-same (st .at) (st .at) [] refl, count-same (st .at) (st .last .at) [] (sym q))
 
   at-inside : blockSize g * st .at + blockSize g ≤ length I
-  at-inside = block-inside g I (part .sound) (st .at) (at-in .1)
+  at-inside = block-inside g (length I) (part .sound) (st .at) (at-in .1)
 
   -- the entry fits its block
   held : GoodBlock (blockSize g) (GoodBelow (blockSize g) d) blk
@@ -254,8 +228,8 @@ module _ (g : Geo) (I : List ℕ) (d : ℕ) (s : Tree d) (part : Part g I d s) (
       stored-right g I node rest (stored-tail g I _ _ (stored-right g I own _ (stored-tail g I _ _ (stored-right g I front _ (subst (Stored g I) old (part .stored))))))
 
   to-small : to < 2 ^ 32
-  unfolding pieces rest
-  to-small = at-small g I (part .sound) d (st .later) stored-rest
+  unfolding rest
+  to-small = next-small g I (view (blockSize g) d) (part .sound) (st .later) stored-rest
 
   -- ---- the entry's bytes cut out
 
@@ -291,7 +265,7 @@ module _ (g : Geo) (I : List ℕ) (d : ℕ) (s : Tree d) (part : Part g I d s) (
   unlinkedFrom = linked (blockSize g) bare (st .last .at) to
 
   last-inside : blockSize g * st .last .at + blockSize g ≤ length bare
-  last-inside = omega (arith, block-inside g I (part .sound) (st .last .at) (last-in .1), bare-kept .size)
+  last-inside = omega (arith, block-inside g (length I) (part .sound) (st .last .at) (last-in .1), bare-kept .size)
 
   link-kept : Kept (blockSize g) (Off (st .last .at) 0 4) bare unlinkedFrom
   unfolding unlinkedFrom
@@ -330,7 +304,7 @@ module _ (g : Geo) (I : List ℕ) (d : ℕ) (s : Tree d) (part : Part g I d s) (
   at-new : Shows unlinkedFrom (blockSize g * st .at) (bytes 4 to ++ zeros (blockSize g - 4))
   at-new =
       let B : ℕ = blockSize g in
-      let a : Shows bare (B * st .at) (bytes 4 to ++ zeros (B - 4)) = subst (λ (l : List ℕ). Shows bare (B * st .at) (bytes 4 to ++ l)) (no-entries (B - 4)) bare-shown in
+      let a : Shows bare (B * st .at) (bytes 4 to ++ zeros (B - 4)) = subst (λ (l : List ℕ). Shows bare (B * st .at) (bytes 4 to ++ l)) (padded-none (B - 4)) bare-shown in
       let full : length (bytes 4 to ++ zeros (B - 4)) ≤ B = omega (arith, length-append (bytes 4 to) (zeros (B - 4)), length-bytes 4 to, length-replicate {A = ℕ} (B - 4) 0, size-large g) in
       shows-kept B _ bare unlinkedFrom (st .at) (bytes 4 to ++ zeros (B - 4)) link-kept (λ o l q x y. apart (sym q)) full a
 

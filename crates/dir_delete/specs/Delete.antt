@@ -11,12 +11,9 @@ use Rattle.bitmap_block.specs.Bitmap.{freed}
 use Rattle.dir_entry.specs.declared.DirEntry.{DirEntry}
 use Rattle.dir_entry.specs.Entry.{header, placeAt}
 use Rattle.read_dir.specs.declared.Place.{Place}
-use Rattle.read_dir.specs.declared.Summed.{Summed}
-use Rattle.read_dir.specs.declared.Summed.the-variants.{Total, Damaged}
-use Rattle.read_dir.specs.Walk.{inArea, walk}
-use Rattle.read_dir.specs.Finds.{sumFrom}
+use Rattle.read_dir.specs.Walk.{inArea}
 use Rattle.own_entry.specs.declared.Own.{Own}
-use Rattle.own_entry.specs.Own.{ownRenewed}
+use Rattle.own_entry.specs.Own.{sumRenewed}
 
 -- ---- the entry's bytes
 
@@ -56,22 +53,12 @@ unlinked g I dir b =
 unfoldable pub lessBare : Geo → List ℕ → ℕ → ℕ → List ℕ
 lessBare g I dir b = pick (eqb b dir) I (pick (zeroFrom I (blockSize g * b + 4) (blockSize g - 4)) (unlinked g I dir b) I)
 
--- ---- the directory's own entry
-
--- "sum and time as for create": the sum of the directory as it is now. (A volume's directory has one.)
-abbrev pub ownSummed : ℕ → List ℕ → Own → ℕ → Summed → List ℕ
-ownSummed B I own time (Total z) = ownRenewed B I own z time
-ownSummed B I own time Damaged = I
-
-unfoldable pub sumRenewed : Geo → List ℕ → ℕ → Own → ℕ → List ℕ
-sumRenewed g I dir own time = ownSummed (blockSize g) I own time (sumFrom 0 (walk (blockSize g) (dataAt g) (g .n) I dir))
-
 -- ---- the whole
 
 -- The image without the entry's bytes, and without its block where that is empty now.
 unfoldable pub entryGone : Geo → List ℕ → ℕ → DirEntry → Place → List ℕ
 entryGone g I dir e p = lessBare g (cutOut (blockSize g) I (p .block .0) (p .offset) (header + e .len)) dir (p .block .0)
 
--- 01, "Delete": the entry e at p of the directory that begins at block dir, whose own entry stands at `own`.
+-- 01, "Delete": the entry e at p of the directory that begins at block dir, whose own entry stands at `own`; "sum and time as for create".
 unfoldable pub removed : Geo → List ℕ → ℕ → DirEntry → Place → Own → ℕ → List ℕ
 removed g I dir e p own time = sumRenewed g (chainFreed g (entryGone g I dir e p) (g .n - dataAt g) (e .addr .0)) dir own time

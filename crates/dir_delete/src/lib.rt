@@ -6,7 +6,6 @@ use block::LinkedBlock;
 use dir_entry::DirEntry;
 use own_entry::Own;
 use read_dir::Place;
-use read_dir::Summed;
 use super_block::SuperBlock;
 ghost use mathlib.Core.Path.{_≡_};
 ghost use Prim.Native.Nat.{_+_, _-_, _*_, _≤_, _<_};
@@ -15,7 +14,7 @@ ghost use Rattle.block.specs.Block.{blockBytes};
 ghost use Rattle.super_block.specs.Super.{geoOf, Fit};
 ghost use Rattle.dir_entry.specs.Entry.{header};
 ghost use Rattle.own_entry.specs.Own.{OwnIn};
-ghost use Rattle.dir_delete.specs.Delete.{cutOut, released, chainFreed, beforeFrom, unlinked, lessBare, sumRenewed, entryGone, removed};
+ghost use Rattle.dir_delete.specs.Delete.{cutOut, released, chainFreed, beforeFrom, unlinked, lessBare, entryGone, removed};
 
 // The w bytes at a place go: those after them in the block move down, and the block's end is zeroed.
 fn cut_out(img: &mut [u8], p: Place, w: usize)
@@ -135,18 +134,6 @@ fn take_out(img: &mut [u8], s: SuperBlock, dir: Addr, e: DirEntry, p: Place)
     drop_bare(img, s, dir, b);
 }
 
-// The sum of a directory and the time go into its own entry.
-fn renew_sum(img: &mut [u8], s: SuperBlock, dir: Addr, own: Own, time: u64)
-    requires { ⌜ Fit s (now img) ⌝ }
-    requires { ⌜ OwnIn (now img) own ⌝ }
-    ensures { λ _. ⌜ now (img .exit) ≡ sumRenewed (geoOf s) (now (img .entry)) (dir .0) own time ⌝ }
-{
-    match read_dir::sum(img, s, dir) {
-        Summed::Total(z) => own_entry::renew(img, own, z, time),
-        Summed::Damaged => {}
-    }
-}
-
 // Deletes the entry e, which stands at p in the directory that begins at block dir; that directory's own entry is
 // at `own`.
 pub fn remove(img: &mut [u8], s: SuperBlock, dir: Addr, e: DirEntry, p: Place, own: Own, time: u64)
@@ -161,5 +148,5 @@ pub fn remove(img: &mut [u8], s: SuperBlock, dir: Addr, e: DirEntry, p: Place, o
     let a = e.addr;
     take_out(img, s, dir, e, p);
     free_chain(img, s, a);
-    renew_sum(img, s, dir, own, time);
+    own_entry::renew_sum(img, s, dir, own, time);
 }

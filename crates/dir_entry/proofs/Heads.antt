@@ -1,7 +1,7 @@
 -- The bytes of an entry's fixed part: stored, then read; read, then stored.
 use mathlib.Core.Path.{_≡_, refl, sym, ap, _∙_, subst}
 use mathlib.Core.List.{List, [], _∷_, _++_, append-assoc}
-use Prim.Native.Nat.{ℕ, zero, suc, _+_, _-_, _*_, _/_, _%_, _^_, _≤_, _<_}
+use Prim.Native.Nat.{ℕ, zero, suc, _+_, _-_, _^_, _≤_, _<_}
 use native.Mathlib.Nat.{add-zero}
 use native.Mathlib.Decide.{decLt}
 use native.Mathlib.Omega.{arith}
@@ -13,7 +13,7 @@ use Rattle.wire.proofs.Laws.{length-bytes, length-splice, splice-append, splice
 use Rattle.model.specs.Render.{Shows}
 use Rattle.model.specs.Steps.{Bytes}
 use Rattle.model.proofs.Commit.{shows-both, shows-one, shows-two, shows-stored}
-use Rattle.model.proofs.Entries.{be-shown}
+use Rattle.model.proofs.Entries.{be-shown, bytes-shown}
 use Rattle.dir_entry.specs.declared.Kind.{Kind}
 use Rattle.dir_entry.specs.declared.Kind.the-variants.{Dir, File, Device}
 use Rattle.dir_entry.specs.declared.DirEntry.{DirEntry}
@@ -139,21 +139,6 @@ name-shown I at x h s =
     rw (getD-take (length x) (drop (at + 18) I) i 0 m, getD-drop (at + 18) I i 0) (s i m))
 
 -- ---- read, then stored
-
--- the bytes of a number that is read
-pub bytes-shown : (n : ℕ) (I : List ℕ) (at : ℕ) → Bytes I → Shows I at (bytes n (be n I at))
-unfolding be bytes
-bytes-shown zero I at b = λ i h. absurd (omega arith)
-bytes-shown (suc n) I at b =
-    let v : ℕ = be n I at * 256 + getD I (at + n) 0 in
-    let q : v / 256 ≡ be n I at = omega (arith, b (at + n)) in
-    let r : v % 256 ≡ getD I (at + n) 0 = omega (arith, b (at + n)) in
-    let l : length (bytes n (v / 256)) ≡ n = length-bytes n (v / 256) in
-    shows-both I at (bytes n (v / 256)) ((v % 256) ∷ [])
-    (subst (λ (x : ℕ). Shows I at (bytes n x)) (sym q) (bytes-shown n I at b))
-    (λ i h.
-    let z : i ≡ 0 = omega arith in
-    rw (z, l, add-zero) (sym r))
 
 -- Where the kind byte is at most 2, the image shows the bytes of the fixed part that is read,
 pub head-shown : (I : List ℕ) (at : ℕ) → Bytes I → getD I at 0 ≤ 2 → Shows I at (headBytes (entryAt I at))

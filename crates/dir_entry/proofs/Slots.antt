@@ -1,6 +1,5 @@
 -- What stands at an offset of a block: the ways out of `slotAt`, what an entry there tells, and the slot past a store.
 use mathlib.Core.Path.{_≡_, refl, sym, ap, _∙_, subst}
-use mathlib.Core.Bool.{Bool, true, false}
 use mathlib.Core.List.{List}
 use Prim.Native.Nat.{ℕ, _+_, _-_, _*_, _≤_, _<_}
 use native.Mathlib.Nat.{add-zero, add-assoc}
@@ -13,6 +12,7 @@ use borrow.Author.Tests.{ltb-false, leb-false, eqb-false, lt-ltb, le-ltb, le-leb
 use Rattle.wire.specs.Be.{be}
 use Rattle.wire.specs.Pick.{pick}
 use Rattle.wire.proofs.Laws.{be-ext}
+use Rattle.wire.proofs.Picks.{pick-case}
 use Rattle.block.specs.Block.{cell, Kept}
 use Rattle.dir_entry.specs.declared.DirEntry.{DirEntry}
 use Rattle.dir_entry.specs.declared.Slot.{Slot}
@@ -70,11 +70,6 @@ pub record Stands (B : ℕ) (I : List ℕ) (a o : ℕ) (e : DirEntry) : Type 0 w
 abbrev StandsIn : ℕ → List ℕ → ℕ → ℕ → Slot → Type 0
 StandsIn B I a o (Entry e) = Stands B I a o e
 StandsIn B I a o Stop = Unit {0}
-
-pub pick-case : {A : Type 0} (P : A → Type 0) (t : Bool) (x y : A) → (t ≡ true → P x) → (t ≡ false → P y) → P (pick t x y)
-unfolding pick
-pick-case P true x y f g = f refl
-pick-case P false x y f g = g refl
 
 module _ (B : ℕ) (I : List ℕ) (a o : ℕ) where
   stands : o < B - 22 → getD I (placeAt B a o) 0 ≤ 2 → (getD I (placeAt B a o + 17) 0 ≡ 0 → ⊥) → o + 18 + getD I (placeAt B a o + 17) 0 ≤ B - 5

@@ -1,41 +1,31 @@
 -- What is asked of a directory's walk is answered as the tree says: an entry by its name, the sum, the entries in order.
-use mathlib.Core.Path.{_≡_, refl, sym, ap, _∙_, subst}
+use mathlib.Core.Path.{_≡_, refl, sym, ap, _∙_}
 use mathlib.Core.Bool.{true, false}
 use mathlib.Core.Logic.{_⊎_, inl, inr}
 use mathlib.Core.Option.{some}
 use mathlib.Core.List.{List, [], _∷_, _++_, map, map-append}
-use Prim.Native.Nat.{ℕ, zero, suc, _+_, _-_, _*_}
+use Prim.Native.Nat.{ℕ, zero, suc, _+_}
 use native.Mathlib.Nat.{add-zero, zero-add, add-assoc}
 use native.Mathlib.Omega.{arith}
 use lib.ListN.{drop}
-use Rattle.wire.specs.Pick.{same}
-use Rattle.wire.proofs.Picks.{either, not-both, pick-true, pick-false, same-eq}
-use Rattle.model.specs.Tree.{Name, Entry, Block, Below, Tree, any, first, then, entriesOf, called, holds, Absent, lookup, weight, used, sum, Some, find}
-use Rattle.model.specs.Render.{View, blocksAt, view, offset, placeOf}
+use Rattle.wire.proofs.Picks.{either, not-both, pick-true, pick-false, same-swap}
+use Rattle.model.specs.Tree.{Name, Entry, Block, Below, Tree, any, first, then, entriesOf, called, holds, Absent, lookup, weight, sum, Some, find}
+use Rattle.model.specs.Render.{View, blocksAt, view, offset}
 use Rattle.model.specs.Geometry.{Geo, blockSize, dataAt}
 use Rattle.model.specs.Volume.{Laid}
 use Rattle.model.proofs.Lists.{not-some, any-there, first-here, first-there, none-head, none-tail}
 use Rattle.model.proofs.Others.{lookup-here, lookup-there}
 use Rattle.dir_entry.specs.declared.DirEntry.{DirEntry}
-use Rattle.dir_entry.specs.Entry.{header, placeAt}
+use Rattle.dir_entry.specs.Shown.{headOf}
 use Rattle.read_dir.specs.declared.Place.{Place}
 use Rattle.read_dir.specs.declared.Found.the-variants as found
 use Rattle.read_dir.specs.declared.Summed.the-variants as summed
 use Rattle.read_dir.specs.Walk.{Walk, item, finished, damaged, walk}
 use Rattle.read_dir.specs.Finds.{placed, findIn, sumFrom, skip}
-use Rattle.tree_walk.specs.Shown.{headOf, itemsOf, walkOf, spotOf, itemsIn}
-use Rattle.tree_walk.proofs.Walks.{walk-is, head-weight}
+use Rattle.tree_walk.specs.Shown.{itemsOf, walkOf, spotOf, itemsIn}
+use Rattle.tree_walk.proofs.Walks.{walk-is, walk-sum}
 
 -- ---- an entry by its name
-
--- two lists are the same in either order
-pub same-swap : (l m : List ℕ) → same l m ≡ same m l
-same-swap l m = go (either (same l m)) (either (same m l))
-  where
-    go : (same l m ≡ true) ⊎ (same l m ≡ false) → (same m l ≡ true) ⊎ (same m l ≡ false) → same l m ≡ same m l
-    go (inl a) b = let e : l ≡ m = same-eq l m a in subst (λ (x : List ℕ). same l x ≡ same x l) e refl
-    go (inr a) (inl b) = let e : m ≡ l = same-eq m l b in subst (λ (x : List ℕ). same x m ≡ same m x) e refl
-    go (inr a) (inr b) = a ∙ sym b
 
 module _ {X : Type 0} (n : Name) where
   -- a name is there, or it is not
@@ -113,36 +103,6 @@ module _ {X : Type 0} (n : Name) where
     unfolding walkOf findIn
     walk-misses [] h = refl
     walk-misses (b ∷ bs) h = items-there v (b .at) (b .entries) 0 (walkOf v bs) (unfold holds in none-head (holds n) b bs h) ∙ walk-misses bs (none-tail (holds n) b bs h)
-
--- The byte of the image where the entry stands.
-pub spot-place : {X : Type 0} (B : ℕ) (n : Name) (bs : List (Block X)) (e : Entry X) → lookup n bs ≡ some e → placeAt B (spotOf n bs .block .0) (spotOf n bs .offset) ≡ placeOf B n bs
-unfolding lookup first then spotOf placeOf
-spot-place B n [] e l = absurd (not-some refl l)
-spot-place {X} B n (b ∷ bs) e l = go (either (holds n b)) (spot-place B n bs e)
-  where
-    place : Place → ℕ
-    place q = placeAt B (q .block .0) (q .offset)
-
-    go : (holds n b ≡ true) ⊎ (holds n b ≡ false) → (lookup n bs ≡ some e → place (spotOf n bs) ≡ placeOf B n bs) → place (spotOf n (b ∷ bs)) ≡ placeOf B n (b ∷ bs)
-    go (inl c) r = ap place (pick-true (placed (b .at) (offset n (b .entries))) (spotOf n bs) c) ∙ sym (pick-true (B * b .at + 4 + offset n (b .entries)) (placeOf B n bs) c)
-    go (inr c) r =
-        ap place (pick-false (placed (b .at) (offset n (b .entries))) (spotOf n bs) c) ∙ r (sym (lookup-there n b bs c) ∙ l)
-        ∙ sym (pick-false (B * b .at + 4 + offset n (b .entries)) (placeOf B n bs) c)
-
--- ---- the sum
-
-module _ {X : Type 0} (v : View X) where
-  items-sum : (a : ℕ) (es : List (Entry X)) (o s : ℕ) (w : Walk) → sumFrom s (itemsOf v a o es w) ≡ sumFrom (s + used es) w
-  unfolding itemsOf sumFrom used
-  items-sum a [] o s w = ap (λ (j : ℕ). sumFrom j w) (sym (add-zero s))
-  items-sum a (e ∷ es) o s w =
-      let k : s + (header + headOf v e .len) + used es ≡ s + (weight e + used es) = omega (arith, head-weight v s e) in
-      items-sum a es (o + weight e) (s + (header + headOf v e .len)) w ∙ ap (λ (j : ℕ). sumFrom j w) k
-
-  pub walk-sum : (bs : List (Block X)) (s : ℕ) → sumFrom s (walkOf v bs) ≡ summed.Total (s + sum bs)
-  unfolding walkOf sumFrom sum
-  walk-sum [] s = ap summed.Total (sym (add-zero s))
-  walk-sum (b ∷ bs) s = items-sum (b .at) (b .entries) 0 s (walkOf v bs) ∙ walk-sum bs (s + used (b .entries)) ∙ ap summed.Total (add-assoc s (used (b .entries)) (sum bs))
 
 -- ---- the entries in order
 

@@ -15,7 +15,9 @@ use Rattle.model.specs.Render.{View, blocksAt, addressOf, view, ownTime}
 use Rattle.model.specs.Geometry.{Geo, blockSize, dataAt}
 use Rattle.model.specs.Volume.{Laid}
 use Rattle.model.proofs.Lists.{not-some, then-some}
+use Rattle.model.proofs.Replies.{not-accepted, accepted-one, then-accepted}
 use Rattle.dir_entry.specs.Entry.{isDir}
+use Rattle.dir_entry.specs.Shown.{kindIs, headOf}
 use Rattle.read_dir.specs.declared.Found.{Found}
 use Rattle.read_dir.specs.declared.Place.{Place}
 use Rattle.read_dir.specs.Walk.{walk}
@@ -27,38 +29,25 @@ use Rattle.dir.specs.Resolve.{onFound, onName, resolve}
 use Rattle.dir.specs.Hold.{Hold, rootHold, placeOrLost, holdFrom, ownOf}
 use Rattle.dir.proofs.Laws.{ofEntry, entered, resolve-step}
 use Rattle.dir.proofs.HoldLaws.{under, hold-none, hold-step}
-use Rattle.tree_walk.specs.Shown.{kindIs, headOf, spotOf}
+use Rattle.tree_walk.specs.Shown.{spotOf}
 use Rattle.tree_walk.proofs.Parts.{Part, laid-part, part-sub}
-use Rattle.tree_walk.proofs.Walks.{part-walk}
+use Rattle.tree_walk.proofs.Walks.{part-walk, spot-place}
 use Rattle.dir_tree.specs.Held.{Under, Above, HeldAt}
-use Rattle.dir_tree.proofs.Finds.{lookup-or, walk-finds, walk-misses, find-is, spot-place}
+use Rattle.dir_tree.proofs.Finds.{lookup-or, walk-finds, walk-misses, find-is}
 use Rattle.dir_tree.proofs.Resolves.{unresolved-is}
-
--- ---- answers
-
-never : {A : Type 0} (k : ℕ) (a : A) → refused k ≡ accepted a → ⊥
-never k a e = let z : _≡_ {A = ℕ} 0 1 = cc in omega arith
-
-same-value : {A : Type 0} (a b : A) → accepted a ≡ accepted b → a ≡ b
-same-value a b e = cc
-
-then-accepted : {A B : Type 0} (r : Reply A) (f : A → Reply B) (b : B) → andThen r f ≡ accepted b → (a : A) × (r ≡ accepted a) × (f a ≡ accepted b)
-unfolding andThen
-then-accepted (accepted a) f b e = (a, refl, e)
-then-accepted (refused k) f b e = absurd (never k b e)
 
 -- ---- one name
 
 -- an entry that is entered is a subdirectory's
 enters-node : {X : Type 0} (v : View X) (x : Node X) (a : ℕ) → pick (isDir (kindIs x)) (accepted (addressOf v x)) (refused 6) ≡ accepted a → (y : X) × (x ≡ sub y) × (v .from y ≡ a)
 unfolding pick addressOf
-enters-node v (file z cs) a e = absurd (never 6 a e)
-enters-node v (device z cs) a e = absurd (never 6 a e)
-enters-node v (sub y) a e = (y, refl, same-value (v .from y) a e)
+enters-node v (file z cs) a e = absurd (not-accepted 6 a e)
+enters-node v (device z cs) a e = absurd (not-accepted 6 a e)
+enters-node v (sub y) a e = (y, refl, accepted-one (v .from y) a e)
 
 enters-entry : {X : Type 0} (v : View X) (n : Name) (x : Entry X) (a : ℕ) → onName n (ofEntry (headOf v x)) ≡ accepted a → (y : X) × (x .node ≡ sub y) × (v .from y ≡ a)
 unfolding headOf
-enters-entry v [] x a e = absurd (never 5 a e)
+enters-entry v [] x a e = absurd (not-accepted 5 a e)
 enters-entry v (c ∷ n) x a e = enters-node v (x .node) a e
 
 module _ (g : Geo) (I : List ℕ) where
@@ -84,7 +73,7 @@ module _ (g : Geo) (I : List ℕ) where
       go (inl r) =
           let s = enters-entry (view (blockSize g) d) n (r .0) b (sym (entered-finds d t n (r .0) a (r .1)) ∙ q) in
           (r .0, s .0, r .1, s .1, s .2)
-      go (inr r) = absurd (never 5 b (sym (entered-misses d t n a r) ∙ q))
+      go (inr r) = absurd (not-accepted 5 b (sym (entered-misses d t n a r) ∙ q))
 
 -- ---- name after name
 
@@ -159,8 +148,8 @@ module _ (g : Geo) (I : List ℕ) where
   -- from any directory that the image holds
   led : (d : ℕ) (p : List Name) (t : Tree d) (h r : Hold) → Part g I d t → h .dir ≡ blocksAt t → holdFrom (blockSize g) (dataAt g) (g .n) I p h ≡ accepted r → Led (blockSize g) d p t h r
   unfolding find view
-  led zero [] t h r a s q = led-none (blockSize g) zero t h r refl s (same-value h r (sym (hold-none (blockSize g) (dataAt g) (g .n) I h) ∙ q))
-  led (suc d) [] t h r a s q = led-none (blockSize g) (suc d) t h r refl s (same-value h r (sym (hold-none (blockSize g) (dataAt g) (g .n) I h) ∙ q))
+  led zero [] t h r a s q = led-none (blockSize g) zero t h r refl s (accepted-one h r (sym (hold-none (blockSize g) (dataAt g) (g .n) I h) ∙ q))
+  led (suc d) [] t h r a s q = led-none (blockSize g) (suc d) t h r refl s (accepted-one h r (sym (hold-none (blockSize g) (dataAt g) (g .n) I h) ∙ q))
   led zero (n ∷ p) t h r a s q =
       let w = then-accepted _ _ r (sym (hold-step (blockSize g) (dataAt g) (g .n) I n p h) ∙ q) in
       let z = enters g I zero t n (w .0) a (ap (λ (b : ℕ). inside-of g I b n) (sym s) ∙ w .1) in

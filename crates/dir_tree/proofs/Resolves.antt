@@ -3,7 +3,7 @@ use mathlib.Core.Path.{_≡_, refl, sym, ap, _∙_, subst}
 use mathlib.Core.Logic.{_⊎_, inl, inr}
 use mathlib.Core.Option.{Option, none, some}
 use mathlib.Core.List.{List, [], _∷_}
-use Prim.Native.Nat.{ℕ, zero, suc, _≤_}
+use Prim.Native.Nat.{ℕ, zero, suc}
 use native.Mathlib.Omega.{arith}
 use lib.ListN.{length}
 use Rattle.wire.specs.Pick.{pick}
@@ -18,11 +18,12 @@ use Rattle.model.proofs.Lists.{not-some, first-none, first-passes}
 use Rattle.model.proofs.Reached.{lookup-entries}
 use Rattle.dir_entry.specs.declared.DirEntry.{DirEntry}
 use Rattle.dir_entry.specs.Entry.{isDir}
+use Rattle.dir_entry.specs.Shown.{kindIs, headOf}
 use Rattle.read_dir.specs.declared.Found.{Found}
 use Rattle.read_dir.specs.Finds.{findIn}
 use Rattle.path.specs.Path.{lastName, dirPart, steps}
 use Rattle.dir.specs.Resolve.{onFound, onName, Held, lookupIn, resolve, entryOf}
-use Rattle.tree_walk.specs.Shown.{kindIs, headOf}
+use Rattle.dir.proofs.Laws.{name-some}
 use Rattle.tree_walk.proofs.Parts.{Part, laid-part, part-sub}
 use Rattle.tree_walk.proofs.Walks.{part-walk}
 use Rattle.dir_tree.specs.Shown.{onNode, onEntry, wayTo}
@@ -181,10 +182,6 @@ module _ (g : Geo) (I : List ℕ) (d : ℕ) (t : Tree d) (u : ℕ) (p : List Nam
 
 -- ---- the entry at a full path
 
-name-some : {A : Type 0} (n : Name) (r : Reply A) → 1 ≤ length n → onName n r ≡ r
-name-some [] r h = absurd (omega arith)
-name-some (c ∷ n) r h = refl
-
 name-either : {A : Type 0} (n : Name) (r : Reply A) → r ≡ refused 5 → onName n r ≡ refused 5
 name-either [] r e = refl
 name-either (c ∷ n) r e = e
@@ -201,7 +198,7 @@ module _ (g : Geo) (I : List ℕ) (d : ℕ) (t : Tree d) (u : ℕ) (q : List ℕ
   entry-is s e f k =
       let m = good-lookup (blockSize g) (GoodBelow (blockSize g) (s .0)) (lastName q) (s .1) e (good-find (blockSize g) d (steps (dirPart q)) t s (l .good) f) k .good-name .some-bytes in
       let j : length (lastName q) ≡ length (e .name) = ap length (lookup-name (lastName q) (s .1) e k) in
-      name-some (lastName q) _ (omega arith)
+      name-some (lastName q) _ (λ z. omega arith)
       ∙ ap (λ (r : Reply ℕ). andThen r last-in) (resolve-is g I d t u (steps (dirPart q)) l s f)
       ∙ ap (λ (r : Found). onFound r (λ x. accepted (record { dir = blocksAt (s .1); entry = x }))) (find-is g I d t u (steps (dirPart q)) s l f (lastName q) e k)
 

@@ -1,17 +1,17 @@
 -- Where a write goes, as the code finds it: one law for each answer.
-use mathlib.Core.Path.{_≡_, refl, sym, ap, _∙_}
+use mathlib.Core.Path.{_≡_, sym, ap, _∙_}
 use mathlib.Core.Bool.{Bool, true, false, not}
 use mathlib.Core.List.{List}
-use Prim.Native.Nat.{ℕ, zero, suc, _+_, _-_, _≤_, _<_}
+use Prim.Native.Nat.{ℕ, _+_, _-_, _≤_, _<_}
 use native.Mathlib.Omega.{arith}
 use lib.Dec.{ltb}
 use lib.ListN.{length}
 use borrow.Author.Tests.{lt-ltb, le-ltb, ltb-false, eq-eqb, ne-eqb}
 use Rattle.wire.proofs.Picks.{pick-true, pick-false}
-use Rattle.model.specs.Answers.{Reply, accepted, refused, given, when}
+use Rattle.model.specs.Answers.{Reply, accepted, refused}
 use Rattle.model.specs.Geometry.{Geo, blockSize, dataAt}
 use Rattle.model.specs.Volume.{fileLimit, blocksFor, maxDepth}
-use Rattle.model.proofs.Opens.{when-true, when-false}
+use Rattle.model.proofs.Replies.{given-yes, given-no}
 use Rattle.super_block.specs.declared.SuperBlock.{SuperBlock}
 use Rattle.super_block.specs.Super.{geoOf, Fit}
 use Rattle.bitmap_block.specs.Bitmap.{clears}
@@ -31,20 +31,6 @@ use Rattle.file.specs.declared.Handle.{Handle}
 use Rattle.file.specs.File.{staleFields, current}
 use Rattle.file.specs.Writing.{Target, currentIn, onCurrent, tooLong, blocksToAdd, unreached, noRoom, targetOf}
 use Rattle.file.specs.Written.{fitsAt}
-
--- ---- the first refusal
-
-given-some : {A : Type 0} (k : ℕ) (r : Reply A) → 1 ≤ k → given k r ≡ refused k
-unfolding given
-given-some zero r h = absurd (omega arith)
-given-some (suc k) r h = refl
-
-pub given-yes : {A : Type 0} (k : ℕ) {b : Bool} (r : Reply A) → 1 ≤ k → b ≡ true → given (when k b) r ≡ refused k
-given-yes k r h e = ap (λ (x : ℕ). given x r) (when-true k e) ∙ given-some k r h
-
-pub given-no : {A : Type 0} (k : ℕ) {b : Bool} (r : Reply A) → b ≡ false → given (when k b) r ≡ r
-unfolding given
-given-no k r e = ap (λ (x : ℕ). given x r) (when-false k e)
 
 -- ---- the limit and the room
 

@@ -14,17 +14,13 @@ use Rattle.wire.proofs.Picks.{either, not-both, pick-true, pick-false}
 use Rattle.block.specs.Block.{next}
 use Rattle.model.specs.Tree.{then}
 use Rattle.model.specs.Volume.{All}
-use Rattle.model.proofs.Lists.{not-some, then-some}
+use Rattle.model.proofs.Lists.{not-some, then-some, then-none}
 use Rattle.read_dir.specs.Walk.{inArea}
 use Rattle.read_dir.proofs.Unroll.{area-in, area-true}
 use Rattle.file.specs.File.{chain, chainRead, dataOf, missing}
 use Rattle.file.specs.Post.{after}
 
 -- ---- options
-
-then-none : {A C : Type 0} {o : Option A} (f : A → Option C) → o ≡ none → then o f ≡ none
-unfolding then
-then-none {A} {C} f e = ap (λ (o : Option A). then o f) e
 
 some-same : {A : Type 0} {x y : A} → some x ≡ some y → x ≡ y
 some-same e = cc

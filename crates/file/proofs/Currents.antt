@@ -11,7 +11,7 @@ use native.Mathlib.Omega.{arith}
 use lib.Dec.{eqb}
 use borrow.Author.Tests.{eqb-true, eq-eqb}
 use Rattle.wire.specs.Pick.{same}
-use Rattle.wire.proofs.Picks.{either, not-both, pick-true, pick-false, same-eq, same-refl}
+use Rattle.wire.proofs.Picks.{either, not-both, pick-true, pick-false, same-eq, same-refl, and-both, both-and, same-swap}
 use Rattle.model.specs.Tree.{Name, Cell, Node, file, device, sub, Entry, Block, any, first, then, entriesOf, called, holds, lookup, weight}
 use Rattle.model.specs.Render.{View, cellsAt, addressOf, sizeOf, offset}
 use Rattle.model.specs.Volume.{named, namedIn}
@@ -20,26 +20,16 @@ use Rattle.model.proofs.Lists.{not-some, any-there, first-here, first-there, no
 use Rattle.model.proofs.Others.{lookup-here, lookup-there}
 use Rattle.model.proofs.Reached.{lookup-entries, named-entries}
 use Rattle.dir_entry.specs.Entry.{isFile}
+use Rattle.dir_entry.specs.Shown.{kindIs, headOf}
 use Rattle.read_dir.specs.declared.Found.the-variants as found
 use Rattle.read_dir.specs.Walk.{Walk}
 use Rattle.read_dir.specs.Finds.{placed}
-use Rattle.tree_walk.specs.Shown.{kindIs, headOf, itemsOf, walkOf, spotOf}
+use Rattle.tree_walk.specs.Shown.{itemsOf, walkOf, spotOf}
 use Rattle.file.specs.declared.Handle.{Handle}
 use Rattle.file.specs.File.{nameOf, current}
 use Rattle.file.specs.Writing.{currentIn}
 
 -- ---- tests
-
-and-true : (a b : Bool) → (a && b) ≡ true → (a ≡ true) × (b ≡ true)
-and-true true b e = (refl, e)
-and-true false b e = absurd (not-both e refl)
-
-both-true : {a b : Bool} → a ≡ true → b ≡ true → (a && b) ≡ true
-both-true {a} {b} p q = rw p q
-
--- two lists are the same in either order
-same-swap : (l m : List ℕ) → same l m ≡ true → same m l ≡ true
-same-swap l m e = ap (λ (x : List ℕ). same m x) (same-eq l m e) ∙ same-refl m
 
 -- a list has none where both of its parts have none
 any-parts : {A : Type 0} (q : A → Bool) (l m : List A) → any q (l ++ m) ≡ false → (any q l ≡ false) × (any q m ≡ false)
@@ -56,13 +46,13 @@ module _ {X : Type 0} (v : View X) (h : Handle) where
   abbrev pub own : Entry X → Bool
   own e = current h (headOf v e) (e .name)
 
-  own-called : (e : Entry X) → own e ≡ true → called (nameOf h) e ≡ true
+  pub own-called : (e : Entry X) → own e ≡ true → called (nameOf h) e ≡ true
   unfolding current called
   own-called e c =
-      let a = and-true (isFile (headOf v e .kind) && same (e .name) (nameOf h)) (eqb (headOf v e .addr .0) (h .addr .0) && eqb (headOf v e .size) (h .size)) c in
-      same-swap (e .name) (nameOf h) (and-true (isFile (headOf v e .kind)) (same (e .name) (nameOf h)) (a .0) .1)
+      let a = and-both (isFile (headOf v e .kind) && same (e .name) (nameOf h)) (eqb (headOf v e .addr .0) (h .addr .0) && eqb (headOf v e .size) (h .size)) c in
+      same-swap (nameOf h) (e .name) ∙ and-both (isFile (headOf v e .kind)) (same (e .name) (nameOf h)) (a .0) .1
 
-  not-own : (e : Entry X) → called (nameOf h) e ≡ false → own e ≡ false
+  pub not-own : (e : Entry X) → called (nameOf h) e ≡ false → own e ≡ false
   not-own e c = go (either (own e))
     where
       go : (own e ≡ true) ⊎ (own e ≡ false) → own e ≡ false
@@ -74,11 +64,11 @@ module _ {X : Type 0} (v : View X) (h : Handle) where
   none-own [] e = refl
   none-own (x ∷ es) e = any-there own x es (not-own x (none-head (called (nameOf h)) x es e)) ∙ none-own es (none-tail (called (nameOf h)) x es e)
 
-  own-node : (m : Name) (x : Node X) → ((isFile (kindIs x) && same m (nameOf h)) && (eqb (addressOf v x) (h .addr .0) && eqb (sizeOf v x) (h .size))) ≡ true
+  pub own-node : (m : Name) (x : Node X) → ((isFile (kindIs x) && same m (nameOf h)) && (eqb (addressOf v x) (h .addr .0) && eqb (sizeOf v x) (h .size))) ≡ true
       → (cs : List Cell) × (x ≡ file (h .size) cs) × (cellsAt cs ≡ h .addr .0)
   unfolding addressOf sizeOf
   own-node m (file z cs) c =
-      let a = and-true (eqb (cellsAt cs) (h .addr .0)) (eqb z (h .size)) (and-true (true && same m (nameOf h)) (eqb (cellsAt cs) (h .addr .0) && eqb z (h .size)) c .1) in
+      let a = and-both (eqb (cellsAt cs) (h .addr .0)) (eqb z (h .size)) (and-both (true && same m (nameOf h)) (eqb (cellsAt cs) (h .addr .0) && eqb z (h .size)) c .1) in
       (cs, ap (λ (y : ℕ). file y cs) (eqb-true z (h .size) (a .1)), eqb-true (cellsAt cs) (h .addr .0) (a .0))
   own-node m (device z cs) c = absurd (not-both c refl)
   own-node m (sub x) c = absurd (not-both c refl)
@@ -94,7 +84,7 @@ module _ {X : Type 0} (v : View X) (h : Handle) where
   -- and that such an entry is.
   pub file-own : (k : ℕ) (cs : List Cell) → cellsAt cs ≡ h .addr .0 → own (fileEntry (nameOf h) k (h .size) cs) ≡ true
   unfolding current headOf fileEntry addressOf sizeOf
-  file-own k cs a = both-true (both-true refl (same-refl (nameOf h))) (both-true (eq-eqb (cellsAt cs) (h .addr .0) a) (eq-eqb (h .size) (h .size) refl))
+  file-own k cs a = both-and (both-and refl (same-refl (nameOf h))) (both-and (eq-eqb (cellsAt cs) (h .addr .0) a) (eq-eqb (h .size) (h .size) refl))
 
   -- ---- a directory whose entry of that name is the handle's
 

@@ -21,10 +21,6 @@ use Rattle.file.specs.declared.Walked.{Walked}
 use Rattle.file.specs.declared.Walked.the-variants as walked
 use Rattle.file.proofs.Chains.{missing-none, missing-some, chain-none, chain-read, chain-over, after-none, after-out, after-in, after-split, after-lost, Split, data-append, data-length}
 
--- a block that code has tested is in the image
-pub block-inside : (s : SuperBlock) (I : List ℕ) (m b : ℕ) → Fit s I → m ≡ b → b < s .blocks → 512 * m + 512 ≤ length I
-block-inside s I m b f e h = omega (arith, placed f .inside)
-
 -- ---- block by block: b is the block, and left are to be passed
 
 module _ (D n : ℕ) (I : List ℕ) (a k b left : ℕ) (inv : after 512 D n I left b ≡ after 512 D n I k a) where

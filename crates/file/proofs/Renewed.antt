@@ -93,8 +93,9 @@ module _ (g : Geo) (I J : List ℕ) (t : Tree maxDepth) (v : Volume g I maxDepth
   held : lookup (nameOf h) (w .occupied .dir .1) ≡ some (fileEntry (nameOf h) (w .time) (w .size) (w .cells))
   held = w .occupied .held ∙ ap some (w .is-file)
 
-  good : GoodFile (blockSize g) (w .size) (w .cells)
-  good = good-file g I maxDepth t v p (nameOf h) dir (w .occupied .there) (w .time) (w .size) (w .cells) held
+  -- the file before the write
+  pub was-good : GoodFile (blockSize g) (w .size) (w .cells)
+  was-good = good-file g I maxDepth t v p (nameOf h) dir (w .occupied .there) (w .time) (w .size) (w .cells) held
 
   abbrev renew : Entry (Below (w .occupied .dir .0)) → Entry (Below (w .occupied .dir .0))
   renew x = refiled now (h .position + length buf) es (x .name) (x .time) (x .node)
@@ -105,19 +106,21 @@ module _ (g : Geo) (I J : List ℕ) (t : Tree maxDepth) (v : Volume g I maxDepth
   abbrev u : Tree maxDepth
   u = rewritten maxDepth p (nameOf h) now (h .position + length buf) es t
 
-  there : find maxDepth p u ≡ some dir′
+  -- the directory in the new tree: it is at its path, and begins where it did
+  pub there-after : find maxDepth p u ≡ some dir′
   unfolding rewritten
-  there = find-edit maxDepth p (λ k. k) (λ e bs. change (nameOf h) (λ x. refiled now (h .position + length buf) es (x .name) (x .time) (x .node)) bs) t dir (w .occupied .there)
+  there-after = find-edit maxDepth p (λ k. k) (λ e bs. change (nameOf h) (λ x. refiled now (h .position + length buf) es (x .name) (x .time) (x .node)) bs) t dir (w .occupied .there)
 
   same-dir : s .dir ≡ w .occupied .dir
   same-dir = let a : some (s .dir) ≡ some (w .occupied .dir) = sym (s .there) ∙ w .occupied .there in cc
 
-  dir-at : DirAt maxDepth (h .dir .0) p u
-  dir-at = record { dir = dir′; there = there; starts = change-at (nameOf h) renew (dir .1) ∙ sym (ap (λ (x : Some). blocksAt (x .1)) same-dir) ∙ s .starts }
+  pub starts-after : blocksAt (dir′ .1) ≡ h .dir .0
+  starts-after = change-at (nameOf h) renew (dir .1) ∙ sym (ap (λ (x : Some). blocksAt (x .1)) same-dir) ∙ s .starts
 
-  held′ : lookup (nameOf h) (change (nameOf h) renew (w .occupied .dir .1)) ≡ some (fileEntry (nameOf h) now (h .position + length buf) es)
+  -- and the file there, which begins where it did too
+  pub held-after : lookup (nameOf h) (change (nameOf h) renew (w .occupied .dir .1)) ≡ some (fileEntry (nameOf h) now (h .position + length buf) es)
   unfolding fileEntry refiled
-  held′ = lookup-change (nameOf h) renew (λ x. refiled-name now (h .position + length buf) es (x .name) (x .time) (x .node)) (dir .1) (fileEntry (nameOf h) (w .time) (w .size) (w .cells)) held
+  held-after = lookup-change (nameOf h) renew (λ x. refiled-name now (h .position + length buf) es (x .name) (x .time) (x .node)) (dir .1) (fileEntry (nameOf h) (w .time) (w .size) (w .cells)) held
 
   -- the handle's path is the only one to its directory
   same-path : p ≡ q .path
@@ -132,19 +135,16 @@ module _ (g : Geo) (I J : List ℕ) (t : Tree maxDepth) (v : Volume g I maxDepth
       ∙ file-from (nameOf h) (find maxDepth (q .path) t) (q .there .dir) (q .file .time) (h .size) (q .file .cells) (q .there .there) (q .file .held)
       ∙ q .file .starts
 
-  file-in : FileIn (grownHandle h (length buf)) dir′
-  file-in =
-      record {
-        time = now;
-        cells = es;
-        held = held′;
-        starts = first-kept (blockSize g) (w .size) (h .position) (freeBlocks g maxDepth t) buf (w .cells) (omega (arith, size-large g)) good (w .position) (w .room) ∙ from-is;
-      }
+  pub from-after : cellsAt es ≡ h .addr .0
+  from-after = first-kept (blockSize g) (w .size) (h .position) (freeBlocks g maxDepth t) buf (w .cells) (omega (arith, size-large g)) was-good (w .position) (w .room) ∙ from-is
 
   -- The handle is on the file of the new tree.
   pub renewed-on : OnFile maxDepth (rewritten maxDepth p (nameOf h) now (h .position + length buf) (rewrite (blockSize g) (freeBlocks g maxDepth t) (h .position) buf (w .cells)) t) (grownHandle h (length buf))
-  unfolding dir-at
-  renewed-on = record { path = p; there = dir-at; file = file-in }
+  renewed-on = record {
+    path = p;
+    there = record { dir = dir′; there = there-after; starts = starts-after };
+    file = record { time = now; cells = es; held = held-after; starts = from-after };
+  }
 
 -- ---- the theorem
 

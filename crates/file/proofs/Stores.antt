@@ -1,16 +1,16 @@
 -- What the code of a write knows before its stores, and where it ends.
-use mathlib.Core.Path.{_≡_, sym, ap, _∙_, subst}
+use mathlib.Core.Path.{_≡_, sym, ap, _∙_}
 use mathlib.Core.List.{List}
 use Prim.Native.Nat.{ℕ, _+_, _≤_, _<_}
 use native.Mathlib.Omega.{arith}
 use lib.ListN.{length}
 use Rattle.model.specs.Answers.{accepted, refused, refusalNumber, andThen}
 use Rattle.model.specs.declared.Refusal.{Refusal}
-use Rattle.model.specs.Geometry.{Geo, geo, countAt}
-use Rattle.model.specs.Volume.{Volume, WellFormed, maxDepth}
-use Rattle.model.proofs.OneVolume.{well-formed-geo}
+use Rattle.model.specs.Geometry.{countAt}
+use Rattle.model.specs.Volume.{WellFormed}
 use Rattle.super_block.specs.declared.SuperBlock.{SuperBlock}
 use Rattle.super_block.specs.Super.{geoOf}
+use Rattle.super_block.proofs.Fits.{well-volume}
 use Rattle.dir_entry.specs.declared.DirEntry.{DirEntry}
 use Rattle.read_dir.specs.declared.Place.{Place}
 use Rattle.file_write.specs.Write.{wrote, CanWrite}
@@ -21,10 +21,6 @@ use Rattle.file.specs.declared.Aimed.the-variants as aimed
 use Rattle.file.specs.Writing.{targetOf, imageAt, writtenImage, grownHandle, handleAfter, countOf}
 use Rattle.file.specs.Written.{aimedSays, WriteIs}
 use Rattle.file.proofs.Targets.{accepted-can}
-
--- The volume of a checked image, by the struct's own numbers.
-pub well-volume : (s : SuperBlock) (I : List ℕ) (w : WellFormed (s .addr .0) I) → s .blocks ≡ countAt (s .addr .0) I → Volume (geoOf s) I maxDepth (w .tree)
-well-volume s I w b = subst (λ (g : Geo). Volume g I maxDepth (w .tree)) (well-formed-geo (s .addr .0) I w ∙ ap (geo (s .addr .0)) (sym b)) (w .volume)
 
 module _ (s : SuperBlock) (I : List ℕ) (h : Handle) (buf : List ℕ) (r : Aimed) (er : aimedSays r ≡ targetOf (geoOf s) I h (length buf)) where
   -- ---- before the stores

@@ -22,11 +22,12 @@ use Rattle.model.proofs.Lists.{not-some}
 use Rattle.model.proofs.Reached.{path-found, path-is}
 use Rattle.bitmap_block.proofs.Steps.{volume-clears}
 use Rattle.dir_entry.specs.declared.DirEntry.{DirEntry}
+use Rattle.dir_entry.specs.Shown.{headOf}
 use Rattle.read_dir.specs.declared.Place.{Place}
 use Rattle.read_dir.specs.declared.Found.{Found}
 use Rattle.read_dir.specs.declared.Found.the-variants as found
 use Rattle.read_dir.specs.Walk.{walk}
-use Rattle.tree_walk.specs.Shown.{headOf, walkOf, spotOf}
+use Rattle.tree_walk.specs.Shown.{walkOf, spotOf}
 use Rattle.tree_walk.proofs.Walks.{walk-is}
 use Rattle.reached.specs.Reach.{hasPath}
 use Rattle.reached.proofs.OnTree.{reach-is}

@@ -29,7 +29,7 @@ ghost use Rattle.file.specs.Writing.{currentIn, tooLong, unreached, noRo
 ghost use Rattle.file.specs.Written.{aimedSays, fitsAt, WriteIs};
 
 // The bytes of the largest file.
-pub const FILE_LIMIT: u32 = 2_147_483_647;
+pub const FILE_LIMIT: u32 = model::FILE_LIMIT;
 
 // The same, as ends of buffers are counted.
 const END_LIMIT: usize = FILE_LIMIT as usize;
@@ -428,8 +428,8 @@ impl Handle {
         requires { ⌜ self .position + len ≤ 2147483647 ⌝ }
         ensures { λ r. ⌜ r ≡ noRoom (geoOf s) (now (img .entry)) self len ⌝ }
     {
-        let old = file_write::blocks_for(self.size);
-        let new = file_write::blocks_for(self.position + len);
+        let old = model::blocks_for(self.size);
+        let new = model::blocks_for(self.position + len);
         if new <= old {
             return false;
         }

@@ -3,9 +3,9 @@ use mathlib.Core.Path.{_≡_, refl, sym, ap, _∙_, subst}
 use mathlib.Core.List.{List, [], _∷_, _++_}
 use Prim.Native.Nat.{ℕ, zero, suc, _+_, _-_, _*_, _≤_, _<_}
 use native.Mathlib.Omega.{arith}
-use lib.ListN.{length, getD, length-append, length-replicate}
-use Rattle.wire.specs.Be.{bytes, splice, zeros}
-use Rattle.wire.proofs.Laws.{length-bytes, getD-zeros}
+use lib.ListN.{length, length-append, length-replicate}
+use Rattle.wire.specs.Be.{bytes, splice}
+use Rattle.wire.proofs.Laws.{length-bytes}
 use Rattle.block.specs.Block.{linked}
 use Rattle.model.specs.Tree.{Cell}
 use Rattle.model.specs.Render.{cellsAt, cellPieces, count, Shows, ShowsAll}
@@ -34,8 +34,9 @@ pub count-no-cell : (i : ℕ) → count i (places []) ≡ 0
 unfolding places
 count-no-cell i = count-none i
 
-pub count-one : (a : ℕ) → count a (a ∷ []) ≡ 1
-count-one a = count-same a a [] refl ∙ ap suc (count-none a)
+-- the last of a chain
+pub count-last : (i : ℕ) (xs : List Cell) (c : Cell) → count i (places (xs ++ (c ∷ []))) ≡ count i (places xs) + count i (c .at ∷ [])
+count-last i xs c = count-places i xs (c ∷ []) ∙ omega (arith, count-cell i c [], count-no-cell i)
 
 -- ---- a list cut in two
 
@@ -52,14 +53,6 @@ front-of zero (c ∷ cs) h = record { front = []; cell = c; back = cs; is = refl
 front-of (suc k) (c ∷ cs) h =
     let r = front-of k cs (omega arith) in
     record { front = c ∷ r .front; cell = r .cell; back = r .back; is = ap (λ (l : List Cell). c ∷ l) (r .is); long = ap suc (r .long) }
-
-pub all-front : {A : Type 0} (P : A → Type 0) (xs ys : List A) → All P (xs ++ ys) → All P xs
-all-front P [] ys a = tt
-all-front P (x ∷ xs) ys a = (a .0, all-front P xs ys (a .1))
-
-pub all-back : {A : Type 0} (P : A → Type 0) (xs ys : List A) → All P (xs ++ ys) → All P ys
-all-back P [] ys a = a
-all-back P (x ∷ xs) ys a = all-back P xs ys (a .1)
 
 -- ---- what an image shows
 
@@ -111,15 +104,6 @@ pub places-empties : (g : Geo) (ws : List ℕ) → places (empties g ws) ≡ ws
 unfolding places empties
 places-empties g [] = refl
 places-empties g (w ∷ ws) = ap (λ (l : List ℕ). w ∷ l) (places-empties g ws)
-
--- a new block's bytes are zero
-pub empty-zero : (k i : ℕ) → getD (bytes 4 0 ++ zeros k) i 0 ≡ 0
-unfolding bytes
-empty-zero k zero = refl
-empty-zero k (suc zero) = refl
-empty-zero k (suc (suc zero)) = refl
-empty-zero k (suc (suc (suc zero))) = refl
-empty-zero k (suc (suc (suc (suc i)))) = getD-zeros k i
 
 pub empty-good : (g : Geo) (w : ℕ) → GoodCell (blockSize g) (emptyCell g w)
 empty-good g w = record { whole = length-replicate {A = ℕ} (blockSize g - 4) 0 }

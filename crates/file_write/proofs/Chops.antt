@@ -6,9 +6,9 @@ use native.Mathlib.Nat.{mul-zero, mul-suc}
 use native.Mathlib.Decide.{decLt}
 use native.Mathlib.Omega.{arith}
 use lib.ListN.{length, take, drop, length-append, length-take, length-drop, take-append-drop, drop-of-length-le}
-use lib.Seq.{length-take-le, take-all, take-at, drop-at, take-append-le, drop-append-le, take-append-add, drop-append-add, take-add}
+use lib.Seq.{length-take-le, take-all, take-at, drop-at, take-append-le, drop-append-le, drop-append-add, take-add}
 use Rattle.wire.specs.Be.{splice}
-use Rattle.wire.proofs.Laws.{length-splice, splice-nil}
+use Rattle.wire.proofs.Laws.{length-splice, splice-nil, splice-past}
 use Rattle.model.specs.Tree.{Cell}
 use Rattle.model.specs.Render.{cellsAt}
 use Rattle.model.specs.Volume.{All}
@@ -23,14 +23,6 @@ splice-one A S o vs h =
     (λ i. take-append-le o A S (let q : o ≤ length A = omega arith in q) i ++ (vs ++ drop-append-le (o + length vs) A S h i))
     ∙ ap (λ (l : List ℕ). take o A ++ l) (sym (append-assoc vs (drop (o + length vs) A) S))
     ∙ sym (append-assoc (take o A) (vs ++ drop (o + length vs) A) S)
-
--- it begins after the first
-pub splice-past : (A S : List ℕ) (c : ℕ) (vs : List ℕ) → splice (A ++ S) (length A + c) vs ≡ A ++ splice S c vs
-unfolding splice
-splice-past A S c vs =
-    (λ i. take-append-add A S c i ++ (vs ++ drop ((let q : length A + c + length vs ≡ length A + (c + length vs) = omega arith in q) i) (A ++ S)))
-    ∙ ap (λ (l : List ℕ). (A ++ take c S) ++ (vs ++ l)) (drop-append-add A S (c + length vs))
-    ∙ append-assoc A (take c S) (vs ++ drop (c + length vs) S)
 
 -- it goes from the first into the second
 splice-over : (A S : List ℕ) (o : ℕ) (us vs : List ℕ) → o + length us ≡ length A → splice (A ++ S) o (us ++ vs) ≡ splice A o us ++ splice S 0 vs

@@ -14,30 +14,31 @@ use Rattle.model.specs.Geometry.{Geo, blockSize, dataAt, mapBits, superBytes, u
 use Rattle.model.specs.Volume.{GoodCell}
 use Rattle.model.specs.Calls.{places, emptyCell}
 use Rattle.model.proofs.Areas.{size-large}
-use Rattle.model.proofs.Counts.{count-same, count-other, count-cons, count-none}
+use Rattle.model.proofs.Counts.{count-same, count-other, count-cons, count-none, count-self}
 use Rattle.model.proofs.Frame.{SameBlock}
-use Rattle.model.proofs.Full.{all-append}
-use Rattle.bitmap_block.specs.Bitmap.{mark, clears, Room}
-use Rattle.bitmap_block.proofs.Steps.{index-in, Aside, aside-data}
-use Rattle.file_write.specs.Write.{fresh, grown, extended, Held}
-use Rattle.file_write.proofs.Cells.{count-places, count-cell, count-no-cell, count-one, all-front, all-back, block-long, tail-shows, back-shows, empties, empty-zero, empty-good}
-use Rattle.file_write.proofs.Grows.{fresh-low, fresh-head, fresh-high, fresh-clear, grown-kept, grown-sound, grown-used, grown-clears, grown-room, grown-mark, grown-top, grown-zero, grown-links}
+use Rattle.model.proofs.Full.{zero-byte}
+use Rattle.model.proofs.Lists.{all-left, all-right, all-append}
+use Rattle.bitmap_block.specs.Bitmap.{mark, clears, Room, fresh}
+use Rattle.bitmap_block.proofs.Steps.{index-in, Aside, aside-data, fresh-low, fresh-head, fresh-high, fresh-clear}
+use Rattle.file_write.specs.Write.{grown, extended, Held}
+use Rattle.file_write.proofs.Cells.{count-places, count-cell, count-no-cell, block-long, tail-shows, back-shows, empties, empty-good, count-last}
+use Rattle.file_write.proofs.Grows.{grown-kept, grown-sound, grown-used, grown-clears, grown-room, grown-mark, grown-top, grown-zero, grown-links}
 
 -- ---- one block
 
 module _ (g : Geo) (I : List ℕ) (s : Sound g (length I)) (xs : List Cell) (c : Cell) (h : Held g I (xs ++ (c ∷ []))) (room : 1 ≤ length (clears g I)) where
   all : (i : ℕ) → count i (places (xs ++ (c ∷ []))) ≡ count i (places xs) + count i (c .at ∷ [])
-  all i = count-places i xs (c ∷ []) ∙ omega (arith, count-cell i c [], count-no-cell i)
+  all i = count-last i xs c
 
   pub last-in : (dataAt g ≤ c .at) × (c .at < g .n)
-  last-in = h .range (c .at) (omega (arith, all (c .at), count-one (c .at)))
+  last-in = h .range (c .at) (omega (arith, all (c .at), count-self (c .at)))
 
   -- the new block is none of the chain's, since theirs are marked
   pub fresh-new : count (fresh g I) (places (xs ++ (c ∷ []))) ≡ 0
   fresh-new = go (decLt 0 (count (fresh g I) (places (xs ++ (c ∷ [])))))
     where
       go : Dec (0 < count (fresh g I) (places (xs ++ (c ∷ [])))) → count (fresh g I) (places (xs ++ (c ∷ []))) ≡ 0
-      go (yes q) = absurd (omega (arith, h .marked (fresh g I) q, fresh-clear g I s room))
+      go (yes q) = absurd (omega (arith, h .marked (fresh g I) q, fresh-clear g I room s))
       go (no q) = omega arith
 
   differs : fresh g I ≡ c .at → ⊥
@@ -61,8 +62,8 @@ module _ (g : Geo) (I : List ℕ) (s : Sound g (length I)) (xs : List Cell) (c :
   unfolding cellPieces cellsAt J cell
   both-shown = (
     grown-links g I s room (c .at) (last-in .0) (last-in .1) differs 0 (c .body)
-        (omega (arith, all-back (GoodCell (blockSize g)) xs (c ∷ []) (h .whole) .0 .whole, size-large g)) (back-shows (blockSize g) I xs (c ∷ []) (h .shown) .0),
-    (λ i q. grown-zero g I s room (c .at) (last-in .0) (last-in .1) differs i (short i q) ∙ sym (empty-zero (blockSize g - 4) i), tt),
+        (omega (arith, all-right (GoodCell (blockSize g)) xs (c ∷ []) (h .whole) .0 .whole, size-large g)) (back-shows (blockSize g) I xs (c ∷ []) (h .shown) .0),
+    (λ i q. grown-zero g I s room (c .at) (last-in .0) (last-in .1) differs i (short i q) ∙ sym (zero-byte (blockSize g - 4) i), tt),
   )
     where
       short : (i : ℕ) → i < length (bytes 4 0 ++ emptyCell g (fresh g I) .body) → i < blockSize g
@@ -78,7 +79,7 @@ module _ (g : Geo) (I : List ℕ) (s : Sound g (length I)) (xs : List Cell) (c :
       = λ i. count-places i (xs ++ (c ∷ [])) (emptyCell g w ∷ []) ∙ omega (arith, count-cell i (emptyCell g w) [], count-no-cell i) in
       record {
         shown = subst (λ (l : List Cell). ShowsAll B J (cellPieces l)) (sym (append-assoc xs (c ∷ []) (emptyCell g w ∷ [])))
-            (tail-shows B I J (omega (arith, size-large g)) xs (c ∷ []) (c ∷ (emptyCell g w ∷ [])) (all-front (GoodCell B) xs (c ∷ []) (h .whole)) front-same refl (h .shown) both-shown);
+            (tail-shows B I J (omega (arith, size-large g)) xs (c ∷ []) (c ∷ (emptyCell g w ∷ [])) (all-left (GoodCell B) xs (c ∷ []) (h .whole)) front-same refl (h .shown) both-shown);
         whole = all-append (GoodCell B) (xs ++ (c ∷ [])) (emptyCell g w ∷ []) (h .whole) (empty-good g w, tt);
         once = λ i. once i more (ℕ-discrete i w);
         range = λ i q. range i more q (ℕ-discrete i w);
@@ -94,7 +95,7 @@ module _ (g : Geo) (I : List ℕ) (s : Sound g (length I)) (xs : List Cell) (c :
       once i more (no e) = omega (arith, more i, h .once i, count-other i (fresh g I) [] e, count-none i)
 
       range : (i : ℕ) → More → 1 ≤ count i (places ((xs ++ (c ∷ [])) ++ (emptyCell g (fresh g I) ∷ []))) → Dec (i ≡ fresh g I) → (dataAt g ≤ i) × (i < g .n)
-      range i more q (yes e) = (omega (arith, fresh-low g I room), omega (arith, fresh-high g I s room))
+      range i more q (yes e) = (omega (arith, fresh-low g I room), omega (arith, fresh-high g I room s))
       range i more q (no e) = h .range i (omega (arith, more i, count-other i (fresh g I) [] e, count-none i))
 
       marked : (i : ℕ) → More → 1 ≤ count i (places ((xs ++ (c ∷ [])) ++ (emptyCell g (fresh g I) ∷ []))) → Dec (i ≡ fresh g I) → mark g (grown g I (c .at)) (i - dataAt g) ≡ 1
@@ -108,7 +109,7 @@ module _ (g : Geo) (I : List ℕ) (s : Sound g (length I)) (xs : List Cell) (c :
           by : Dec (i ≡ fresh g I) → mark g (grown g I (c .at)) (i - dataAt g) ≡ mark g I (i - dataAt g) + count (dataAt g + (i - dataAt g)) (fresh g I ∷ [])
               → count (dataAt g + (i - dataAt g)) (fresh g I ∷ []) ≡ count i (fresh g I ∷ []) → mark g (grown g I (c .at)) (i - dataAt g) ≡ 1
           by (yes e) m n =
-              omega (arith, m, n, ap (λ (x : ℕ). mark g I (x - dataAt g)) e, fresh-clear g I s room, count-same i (fresh g I) [] e, count-none i)
+              omega (arith, m, n, ap (λ (x : ℕ). mark g I (x - dataAt g)) e, fresh-clear g I room s, count-same i (fresh g I) [] e, count-none i)
           by (no e) m n =
               omega (arith, m, n, h .marked i (omega (arith, more i, count-other i (fresh g I) [] e, count-none i)), count-other i (fresh g I) [] e, count-none i)
 
@@ -126,7 +127,7 @@ module _ (g : Geo) where
   taken-first : (I : List ℕ) (s : Sound g (length I)) (k : ℕ) → 1 ≤ length (clears g I) → (last : ℕ) → dataAt g ≤ last → last < g .n
       → take (suc k) (clears g I) ≡ fresh g I ∷ take k (clears g (grown g I last))
   taken-first I s k r last low high =
-      ap (take (suc k)) (fresh-head g I s r) ∙ ap (λ (l : List ℕ). fresh g I ∷ take k l) (sym (grown-clears g I s r last low high))
+      ap (take (suc k)) (fresh-head g I r) ∙ ap (λ (l : List ℕ). fresh g I ∷ take k l) (sym (grown-clears g I s r last low high))
 
   -- The chain goes on with the lowest free blocks, in their order.
   pub extended-held : (k : ℕ) (I : List ℕ) → Sound g (length I) → (xs : List Cell) (c : Cell) → Held g I (xs ++ (c ∷ [])) → Room g I k
@@ -181,7 +182,7 @@ module _ (g : Geo) where
   extended-is (suc k) I s last low high r =
       let one : 1 ≤ length (clears g I) = omega (arith, r .clear) in
       let e : suc k ≡ k + 1 = omega arith in
-      let ih = extended-is k (grown g I last) (grown-sound g I s one last low high) (fresh g I) (fresh-low g I one) (fresh-high g I s one) (grown-room g I s one last low high k (subst (Room g I) e r)) in
+      let ih = extended-is k (grown g I last) (grown-sound g I s one last low high) (fresh g I) (fresh-low g I one) (fresh-high g I one s) (grown-room g I s one last low high k (subst (Room g I) e r)) in
       subst (λ (L : List ℕ). Extended g I L last (take (suc k) (clears g I))) (sym (extended-more g I last k))
       (subst (Extended g I (extended g (grown g I last) (fresh g I) k) last) (sym (taken-first g I s k one last low high))
       (extended-step I (extended g (grown g I last) (fresh g I) k) s one last low high (take k (clears g (grown g I last))) (omega (arith, r .count)) ih))

@@ -2,9 +2,9 @@
 use mathlib.Core.Path.{_≡_, refl, sym, ap, _∙_, subst}
 use mathlib.Core.Bool.{true, false}
 use mathlib.Core.Logic.{_⊎_, inl, inr}
-use mathlib.Core.Option.{Option, some}
+use mathlib.Core.Option.{some}
 use mathlib.Core.List.{List, [], _∷_, _++_, append-assoc}
-use Prim.Native.Nat.{ℕ, zero, suc, _+_, _-_, _*_, _≤_}
+use Prim.Native.Nat.{ℕ, zero, suc, _+_, _-_, _≤_}
 use native.Mathlib.Omega.{arith}
 use lib.ListN.{length}
 use Rattle.wire.specs.Be.{bytes}
@@ -16,28 +16,17 @@ use Rattle.model.specs.Volume.{All, GoodBlock}
 use Rattle.model.specs.Calls.{refiled, rewritten}
 use Rattle.model.proofs.Alike.{change-at, change-sum, entry-above}
 use Rattle.model.proofs.Counts.{count-same, count-cons, count-append, ats-append}
-use Rattle.model.proofs.Cuts.{Cut, cut-here, cut-in, own-cut}
+use Rattle.model.proofs.Cuts.{Cut, cut-here, cut-in, own-cut, cut-to}
 use Rattle.model.proofs.Edits.{refiled-name}
-use Rattle.model.proofs.Lists.{not-some, then-some, first-here, first-there}
-use Rattle.dir_entry.specs.Entry.{placeAt}
+use Rattle.model.proofs.Lists.{not-some, first-there}
+use Rattle.model.proofs.Others.{lookup-here, lookup-there}
 use Rattle.read_dir.specs.declared.Place.{Place}
 use Rattle.read_dir.specs.Finds.{placed}
 use Rattle.tree_walk.specs.Shown.{spotOf}
 
 -- ---- the place of an entry
 
-abbrev placeAtSpot : ℕ → Place → ℕ
-placeAtSpot B q = placeAt B (q .block .0) (q .offset)
-
 module _ {X : Type 0} (n : Name) where
-  lookup-here : (b : Block X) (bs : List (Block X)) (e : Entry X) → holds n b ≡ true → lookup n (b ∷ bs) ≡ some e → first (called n) (b .entries) ≡ some e
-  unfolding lookup
-  lookup-here b bs e c l = sym (then-some (λ x. first (called n) (x .entries)) (first-here (holds n) b bs c)) ∙ l
-
-  lookup-there : (b : Block X) (bs : List (Block X)) (e : Entry X) → holds n b ≡ false → lookup n (b ∷ bs) ≡ some e → lookup n bs ≡ some e
-  unfolding lookup
-  lookup-there b bs e c l = sym (ap (λ (o : Option (Block X)). then o (λ x. first (called n) (x .entries))) (first-there (holds n) b bs c)) ∙ l
-
   lookup-none : (e : Entry X) → lookup n [] ≡ some e → ⊥
   unfolding lookup first then
   lookup-none e l = not-some refl l
@@ -52,19 +41,6 @@ module _ {X : Type 0} (n : Name) where
       go (inl c) r = omega (arith, pick-true 0 (18 + length (x .name) + offset n es) c)
       go (inr c) r = omega (arith, pick-false 0 (18 + length (x .name) + offset n es) c, r (sym (first-there (called n) x es c) ∙ f))
 
-  -- the byte of the image where it begins
-  pub spot-byte : (B : ℕ) (bs : List (Block X)) (e : Entry X) → lookup n bs ≡ some e → placeAt B (spotOf n bs .block .0) (spotOf n bs .offset) ≡ placeOf B n bs
-  unfolding spotOf placeOf lookup first then
-  spot-byte B [] e l = absurd (not-some refl l)
-  spot-byte B (b ∷ bs) e l = go (either (holds n b)) (spot-byte B bs e)
-    where
-      go : (holds n b ≡ true) ⊎ (holds n b ≡ false) → (lookup n bs ≡ some e → placeAtSpot B (spotOf n bs) ≡ placeOf B n bs) → placeAtSpot B (spotOf n (b ∷ bs)) ≡ placeOf B n (b ∷ bs)
-      go (inl c) r =
-          ap (placeAtSpot B) (pick-true (placed (b .at) (offset n (b .entries))) (spotOf n bs) c) ∙ sym (pick-true (B * b .at + 4 + offset n (b .entries)) (placeOf B n bs) c)
-      go (inr c) r =
-          ap (placeAtSpot B) (pick-false (placed (b .at) (offset n (b .entries))) (spotOf n bs) c) ∙ r (unfold lookup first then in lookup-there b bs e c l)
-          ∙ sym (pick-false (B * b .at + 4 + offset n (b .entries)) (placeOf B n bs) c)
-
   -- it ends in its block,
   pub spot-fits : (B : ℕ) (S : X → Type 0) (bs : List (Block X)) (e : Entry X) → All (GoodBlock B S) bs → lookup n bs ≡ some e → spotOf n bs .offset + 18 ≤ B - 5
   unfolding spotOf
@@ -73,9 +49,9 @@ module _ {X : Type 0} (n : Name) where
     where
       go : (holds n b ≡ true) ⊎ (holds n b ≡ false) → (lookup n bs ≡ some e → spotOf n bs .offset + 18 ≤ B - 5) → spotOf n (b ∷ bs) .offset + 18 ≤ B - 5
       go (inl c) r =
-          omega (arith, ap (λ (q : Place). q .offset) (pick-true (placed (b .at) (offset n (b .entries))) (spotOf n bs) c), offset-fits (b .entries) e (lookup-here b bs e c l), a .0 .fits)
+          omega (arith, ap (λ (q : Place). q .offset) (pick-true (placed (b .at) (offset n (b .entries))) (spotOf n bs) c), offset-fits (b .entries) e (sym (lookup-here n b bs c) ∙ l), a .0 .fits)
       go (inr c) r =
-          omega (arith, ap (λ (q : Place). q .offset) (pick-false (placed (b .at) (offset n (b .entries))) (spotOf n bs) c), r (lookup-there b bs e c l))
+          omega (arith, ap (λ (q : Place). q .offset) (pick-false (placed (b .at) (offset n (b .entries))) (spotOf n bs) c), r (sym (lookup-there n b bs c) ∙ l))
 
   -- which is one of the directory's
   pub spot-block : (B : ℕ) (v : View X) (bs : List (Block X)) (e : Entry X) → lookup n bs ≡ some e → 1 ≤ count (spotOf n bs .block .0) (ats (dirPieces B v bs))
@@ -96,13 +72,9 @@ module _ {X : Type 0} (n : Name) where
           (omega (arith, all (b .at), count-same (b .at) (b .at) [] refl))
       go (inr c) r =
           subst (λ (q : Place). 1 ≤ count (q .block .0) (b .at ∷ ats (entryPieces v (b .entries) ++ dirPieces B v bs))) (sym (pick-false (placed (b .at) (offset n (b .entries))) (spotOf n bs) c))
-          (omega (arith, all (spotOf n bs .block .0), r (lookup-there b bs e c l)))
+          (omega (arith, all (spotOf n bs .block .0), r (sym (lookup-there n b bs c) ∙ l)))
 
 -- ---- the pieces of the whole tree
-
-cut-to : (B : ℕ) (xs ys xs′ ys′ us vs : List Piece) (q : ℕ) (E E′ : List ℕ) → xs ≡ xs′ → ys ≡ ys′ → Cut B xs′ ys′ us vs q E E′ → Cut B xs ys us vs q E E′
-cut-to B xs ys xs′ ys′ us vs q E E′ a b c =
-    subst (λ (z : List Piece). Cut B z ys us vs q E E′) (sym a) (subst (λ (z : List Piece). Cut B xs′ z us vs q E E′) (sym b) c)
 
 module _ (B : ℕ) (n : Name) (now z : ℕ) (es : List Cell) where
   -- what a write makes of the entry of that name

@@ -15,16 +15,16 @@ use Rattle.model.specs.Render.{cellsAt, cellPieces, count, Shows, ShowsAll}
 use Rattle.model.specs.Geometry.{Geo, blockSize, dataAt, Sound}
 use Rattle.model.specs.Volume.{All, GoodCell}
 use Rattle.model.specs.Calls.{places, stream, chop}
-use Rattle.model.proofs.Areas.{size-large}
+use Rattle.model.proofs.Areas.{size-large, block-inside}
 use Rattle.model.proofs.Commit.{shows-both, shows-one, shows-two, shows-before}
-use Rattle.model.proofs.Counts.{count-same}
+use Rattle.model.proofs.Counts.{count-same, count-self}
 use Rattle.model.proofs.Frame.{SameBlock}
 use Rattle.model.proofs.Owns.{shows-kept}
+use Rattle.model.proofs.Lists.{all-left, all-right, length-none}
 use Rattle.bitmap_block.proofs.Steps.{sound-kept}
 use Rattle.file_write.specs.Write.{hop, poured, spread}
-use Rattle.file_write.proofs.Cells.{Front, front-of, count-places, count-cell, count-one, all-front, all-back, tail-shows, back-shows}
+use Rattle.file_write.proofs.Cells.{Front, front-of, count-places, count-cell, tail-shows, back-shows}
 use Rattle.file_write.proofs.Chops.{chop-same, chop-starts, chop-first, chop-past}
-use Rattle.file_write.proofs.Grows.{block-in}
 use Rattle.file_write.proofs.Hops.{next-cell, hop-cells}
 
 -- ---- a run of one block
@@ -84,10 +84,6 @@ poured-more : (B : ℕ) (I : List ℕ) (a o : ℕ) (vs : List ℕ) (k : ℕ)
 unfolding poured
 poured-more B I a o vs k = refl
 
-no-bytes : (vs : List ℕ) → length vs ≡ 0 → vs ≡ []
-no-bytes [] h = refl
-no-bytes (v ∷ vs) h = absurd (omega arith)
-
 module _ (g : Geo) where
   abbrev w : ℕ
   w = blockSize g - 4
@@ -106,13 +102,13 @@ module _ (g : Geo) where
     few = omega (arith, length-take (w - o) vs)
 
     here : (dataAt g ≤ c .at) × (c .at < g .n)
-    here = r .range (c .at) (omega (arith, count-cell (c .at) c cs, count-one (c .at)))
+    here = r .range (c .at) (omega (arith, count-cell (c .at) c cs, count-self (c .at)))
 
     inside : B * c .at + B ≤ length I
-    inside = block-in g I s (c .at) (here .0) (here .1)
+    inside = block-inside g (length I) s (c .at) (here .1)
 
     alone : count (c .at) (places cs) ≡ 0
-    alone = omega (arith, r .once (c .at), count-cell (c .at) c cs, count-one (c .at))
+    alone = omega (arith, r .once (c .at), count-cell (c .at) c cs, count-self (c .at))
 
     run-kept : Kept B (Off (c .at) (4 + o) (length us)) I L
     run-kept =
@@ -161,7 +157,7 @@ module _ (g : Geo) where
   pub poured-is : (m : ℕ) (I : List ℕ) → Sound g (length I) → (cs : List Cell) → Row g I cs → (o : ℕ) → o ≤ w → (vs : List ℕ) → m ≤ length cs → o + length vs ≤ w * m
       → Filled g I (poured (blockSize g) I (cellsAt cs) o vs m) cs (chop w (places cs) (splice (stream cs) o vs))
   poured-is zero I s cs r o h vs k l =
-      let e : vs ≡ [] = no-bytes vs (omega (arith, mul-zero w)) in
+      let e : vs ≡ [] = length-none vs (omega (arith, mul-zero w)) in
       let d : chop w (places cs) (splice (stream cs) o vs) ≡ cs
       = ap (λ (x : List ℕ). chop w (places cs) (splice (stream cs) o x)) e ∙ ap (chop w (places cs)) (splice-nil (stream cs) o) ∙ chop-same w cs (bodies g cs (r .whole)) in
       subst (λ (J : List ℕ). Filled g I J cs (chop w (places cs) (splice (stream cs) o vs))) (sym (poured-none (blockSize g) I (cellsAt cs) o vs))
@@ -189,7 +185,7 @@ module _ (g : Geo) where
     back-row =
         record {
           shown = back-shows (blockSize g) I xs ys (r .shown);
-          whole = all-back (GoodCell (blockSize g)) xs ys (r .whole);
+          whole = all-right (GoodCell (blockSize g)) xs ys (r .whole);
           once = λ i. omega (arith, r .once i, count-places i xs ys);
           range = λ i q. r .range i (omega (arith, count-places i xs ys));
         }
@@ -199,8 +195,8 @@ module _ (g : Geo) where
     unfolding cell
     filled-past J o vs f =
         record {
-          shown = subst (λ (l : List Cell). ShowsAll (blockSize g) J (cellPieces l)) (sym (chop-past w xs ys o vs (bodies g xs (all-front (GoodCell (blockSize g)) xs ys (r .whole)))))
-              (tail-shows (blockSize g) I J (omega (arith, size-large g)) xs ys (chop w (places ys) (splice (stream ys) o vs)) (all-front (GoodCell (blockSize g)) xs ys (r .whole))
+          shown = subst (λ (l : List Cell). ShowsAll (blockSize g) J (cellPieces l)) (sym (chop-past w xs ys o vs (bodies g xs (all-left (GoodCell (blockSize g)) xs ys (r .whole)))))
+              (tail-shows (blockSize g) I J (omega (arith, size-large g)) xs ys (chop w (places ys) (splice (stream ys) o vs)) (all-left (GoodCell (blockSize g)) xs ys (r .whole))
               (λ b q i p. f .kept .at b i (omega (arith, r .once b, count-places b xs ys)) p) (chop-starts w ys (splice (stream ys) o vs)) (r .shown) (f .shown));
           kept = kept-less (λ b p q. omega (arith, q, count-places b xs ys)) (f .kept);
         }

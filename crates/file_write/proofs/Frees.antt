@@ -13,15 +13,16 @@ use Rattle.model.specs.Render.{cellsAt, cellPieces, count, Shows, ShowsAll}
 use Rattle.model.specs.Geometry.{Geo, blockSize, dataAt, mapBits, superBytes, usedCount, Sound}
 use Rattle.model.specs.Volume.{All, GoodCell}
 use Rattle.model.specs.Calls.{places}
-use Rattle.model.proofs.Areas.{few, size-large}
-use Rattle.model.proofs.Counts.{count-same, count-other, count-none}
+use Rattle.model.proofs.Areas.{few, size-large, block-inside}
+use Rattle.model.proofs.Counts.{count-same, count-other, count-none, count-self}
 use Rattle.model.proofs.Frame.{SameBlock}
 use Rattle.model.proofs.Owns.{shows-kept}
+use Rattle.model.proofs.Lists.{all-left, all-right}
 use Rattle.bitmap_block.specs.Bitmap.{mark, freed}
 use Rattle.bitmap_block.proofs.Steps.{index-in, sound-kept, Aside, aside-data, freed-kept, used-freed, top-freed, mark-freed, mark-freed-other}
 use Rattle.file_write.specs.Write.{dropped, cutAfter, Held}
-use Rattle.file_write.proofs.Cells.{count-places, count-cell, count-no-cell, count-one, all-front, all-back, block-long, tail-shows, back-shows, relinked}
-use Rattle.file_write.proofs.Grows.{block-in, link-kept, link-mark, link-top}
+use Rattle.file_write.proofs.Cells.{count-places, count-cell, count-no-cell, block-long, tail-shows, back-shows, relinked, count-last}
+use Rattle.file_write.proofs.Grows.{link-kept, link-mark, link-top}
 use Rattle.file_write.proofs.Hops.{next-cell}
 
 -- ---- a chain that is held still
@@ -46,7 +47,7 @@ pub held-back : (g : Geo) (I : List ℕ) (xs ys : List Cell) → Held g I (xs ++
 held-back g I xs ys h =
     record {
       shown = back-shows (blockSize g) I xs ys (h .shown);
-      whole = all-back (GoodCell (blockSize g)) xs ys (h .whole);
+      whole = all-right (GoodCell (blockSize g)) xs ys (h .whole);
       once = λ i. omega (arith, h .once i, count-places i xs ys);
       range = λ i q. h .range i (omega (arith, count-places i xs ys));
       marked = λ i q. h .marked i (omega (arith, count-places i xs ys));
@@ -70,7 +71,7 @@ pub record Dropped (g : Geo) (I J : List ℕ) (ys : List Cell) : Type 0 where
 
 module _ (g : Geo) (I : List ℕ) (s : Sound g (length I)) (y : Cell) (ys : List Cell) (h : Held g I (y ∷ ys)) where
   here : (dataAt g ≤ y .at) × (y .at < g .n)
-  here = h .range (y .at) (omega (arith, count-cell (y .at) y ys, count-one (y .at)))
+  here = h .range (y .at) (omega (arith, count-cell (y .at) y ys, count-self (y .at)))
 
   F : List ℕ
   F = freed g I (y .at - dataAt g)
@@ -94,7 +95,7 @@ module _ (g : Geo) (I : List ℕ) (s : Sound g (length I)) (y : Cell) (ys : List
   free-marks z q = go (ℕ-discrete z (y .at - dataAt g))
     where
       was : mark g I (y .at - dataAt g) ≡ 1
-      was = h .marked (y .at) (omega (arith, count-cell (y .at) y ys, count-one (y .at)))
+      was = h .marked (y .at) (omega (arith, count-cell (y .at) y ys, count-self (y .at)))
 
       go : Dec (z ≡ y .at - dataAt g) → mark g (freed g I (y .at - dataAt g)) z + count (dataAt g + z) (y .at ∷ []) ≡ mark g I z
       go (yes e) =
@@ -167,10 +168,10 @@ module _ (g : Geo) (I : List ℕ) (s : Sound g (length I)) (xs : List Cell) (c :
   all i = count-places i xs (c ∷ ys) ∙ omega (arith, count-cell i c ys)
 
   kept-all : (i : ℕ) → count i (places (xs ++ (c ∷ []))) ≡ count i (places xs) + count i (c .at ∷ [])
-  kept-all i = count-places i xs (c ∷ []) ∙ omega (arith, count-cell i c [], count-no-cell i)
+  kept-all i = count-last i xs c
 
   last-in : (dataAt g ≤ c .at) × (c .at < g .n)
-  last-in = h .range (c .at) (omega (arith, all (c .at), count-one (c .at)))
+  last-in = h .range (c .at) (omega (arith, all (c .at), count-self (c .at)))
 
   cells : Held g I (c ∷ ys)
   cells = held-back g I xs (c ∷ ys) h
@@ -213,7 +214,7 @@ module _ (g : Geo) (I : List ℕ) (s : Sound g (length I)) (xs : List Cell) (c :
   unfolding cellPieces cellsAt J
   last-shown =
       let B : ℕ = blockSize g in (
-        relinked B D (c .at) (cellsAt ys) 0 (c .body) (omega (arith, size-large g)) (block-in g D D-sound (c .at) (last-in .0) (last-in .1))
+        relinked B D (c .at) (cellsAt ys) 0 (c .body) (omega (arith, size-large g)) (block-inside g (length D) D-sound (c .at) (last-in .1))
             (shows-kept B _ I D (c .at) (bytes 4 (cellsAt ys) ++ c .body) (D-is .kept) (λ o _. aside-data g (length I) s (c .at) o (last-in .0))
             (omega (arith, block-long B (omega (arith, size-large g)) c (cellsAt ys) (cells .whole .0))) (cells .shown .0)),
         tt,
@@ -224,8 +225,8 @@ module _ (g : Geo) (I : List ℕ) (s : Sound g (length I)) (xs : List Cell) (c :
   J-held =
       let B : ℕ = blockSize g in
       record {
-        shown = tail-shows B I J (omega (arith, size-large g)) xs (c ∷ ys) (c ∷ []) (all-front (GoodCell B) xs (c ∷ ys) (h .whole)) front-same refl (h .shown) last-shown;
-        whole = all-front (GoodCell B) (xs ++ (c ∷ [])) ys (subst (All (GoodCell B)) (sym (append-assoc xs (c ∷ []) ys)) (h .whole));
+        shown = tail-shows B I J (omega (arith, size-large g)) xs (c ∷ ys) (c ∷ []) (all-left (GoodCell B) xs (c ∷ ys) (h .whole)) front-same refl (h .shown) last-shown;
+        whole = all-left (GoodCell B) (xs ++ (c ∷ [])) ys (subst (All (GoodCell B)) (sym (append-assoc xs (c ∷ []) ys)) (h .whole));
         once = λ i. omega (arith, h .once i, all i, kept-all i);
         range = λ i q. h .range i (omega (arith, all i, kept-all i));
         marked = λ i q. marked i q;

@@ -1,37 +1,31 @@
 -- A next address stored in a block of the data, and a block added: what each reader sees.
-use mathlib.Core.Path.{_≡_, refl, sym, ap, _∙_}
+use mathlib.Core.Path.{_≡_, sym, ap, _∙_}
 use mathlib.Core.List.{List, [], _∷_, _++_}
 use Prim.Native.Nat.{ℕ, _+_, _-_, _*_, _≤_, _<_}
-use native.Mathlib.Nat.{mul-suc, mul-comm, mul-le-mul-left}
 use native.Mathlib.Decide.{ℕ-discrete}
 use native.Mathlib.Omega.{arith}
-use lib.ListN.{length, getD, drop, length-drop, length-append}
+use lib.ListN.{length, drop, length-drop, length-append}
 use Rattle.wire.specs.Be.{bytes}
 use Rattle.wire.proofs.Laws.{length-bytes}
 use Rattle.bits.specs.Bit.{AllSet}
 use Rattle.block.specs.Block.{cell, linked, Off, Kept}
 use Rattle.block.proofs.Laws.{kept-trans, kept-less, linked-kept}
 use Rattle.model.specs.Render.{count, Shows}
-use Rattle.model.specs.Geometry.{Geo, blockSize, mapAt, dataAt, reach, mapBits, superBytes, usedCount, Sound}
-use Rattle.model.specs.Calls.{clearFrom}
-use Rattle.model.proofs.Areas.{area, few, size-large}
+use Rattle.model.specs.Geometry.{Geo, blockSize, mapAt, dataAt, mapBits, superBytes, usedCount, Sound}
+use Rattle.model.proofs.Areas.{area, few, size-large, block-inside}
 use Rattle.model.proofs.Counts.{count-same, count-other, count-none}
 use Rattle.model.proofs.Demand.{whole-super}
-use Rattle.model.proofs.Free.{clear-lowest}
 use Rattle.model.proofs.Owns.{shows-kept}
-use Rattle.bitmap_block.specs.Bitmap.{mark, clears, taken, Room}
-use Rattle.bitmap_block.proofs.Steps.{mark-is, index-in, sound-kept, used-kept, mark-kept, clears-kept, Aside, aside-data, taken-kept, sound-taken, used-taken, top-taken, mark-taken, mark-taken-other, cell-taken, first-in, first-clear, clears-taken, set-taken, clears-first}
-use Rattle.file_write.specs.Write.{fresh, grown}
+use Rattle.bitmap_block.specs.Bitmap.{mark, clears, taken, Room, fresh}
+use Rattle.bitmap_block.proofs.Steps.{mark-is, index-in, sound-kept, used-kept, mark-kept, clears-kept, Aside, aside-data, taken-kept, sound-taken, used-taken, top-taken, mark-taken, mark-taken-other, cell-taken, clears-taken, set-taken, fresh-index, fresh-first, fresh-data, fresh-clear}
+use Rattle.file_write.specs.Write.{grown}
 use Rattle.file_write.proofs.Cells.{relinked}
 
 -- ---- a next address stored in a block of the data
 
 module _ (g : Geo) (I : List ℕ) (s : Sound g (length I)) (a : ℕ) (low : dataAt g ≤ a) (high : a < g .n) where
-  pub block-in : blockSize g * a + blockSize g ≤ length I
-  block-in = omega (arith, mul-le-mul-left (blockSize g) high, mul-suc (blockSize g) a, mul-comm (blockSize g) (g .n), s .inside-image)
-
   pub link-kept : (v : ℕ) → Kept (blockSize g) (Off a 0 4) I (linked (blockSize g) I a v)
-  link-kept v = linked-kept (blockSize g) I a (omega (arith, size-large g)) block-in v
+  link-kept v = linked-kept (blockSize g) I a (omega (arith, size-large g)) (block-inside g (length I) s a high) v
 
   pub link-used : (v : ℕ) → usedCount g (linked (blockSize g) I a v) ≡ usedCount g I
   link-used v = used-kept g I s _ _ (link-kept v) (λ o _ _ e _ _. omega (arith, area g (length I) s .maps))
@@ -49,34 +43,9 @@ module _ (g : Geo) (I : List ℕ) (s : Sound g (length I)) (a : ℕ) (low : data
 
 -- ---- a block added
 
--- what stands first among the clear ones is a block of the data
-pub fresh-low : (g : Geo) (I : List ℕ) → 1 ≤ length (clears g I) → dataAt g ≤ fresh g I
-unfolding clears fresh
-fresh-low g I h = go (clears g I) refl h
-  where
-    go : (c : List ℕ) → clearFrom (λ b. mark g I (b - dataAt g)) (dataAt g) (reach g) ≡ c → 1 ≤ length c → dataAt g ≤ getD c 0 0
-    go [] e j = absurd (omega arith)
-    go (b ∷ c) e j = clear-lowest (λ b. mark g I (b - dataAt g)) (dataAt g) (reach g) b c e .from
-
 module _ (g : Geo) (I : List ℕ) (s : Sound g (length I)) (h : 1 ≤ length (clears g I)) where
-  pub fresh-index : dataAt g + (fresh g I - dataAt g) ≡ fresh g I
-  fresh-index = omega (arith, fresh-low g I h)
-
-  pub fresh-first : clears g I ≡ (dataAt g + (fresh g I - dataAt g)) ∷ drop 1 (clears g I)
-  unfolding fresh
-  fresh-first = clears-first g I (fresh g I - dataAt g) h fresh-index
-
-  pub fresh-head : clears g I ≡ fresh g I ∷ drop 1 (clears g I)
-  fresh-head = fresh-first ∙ ap (λ (b : ℕ). b ∷ drop 1 (clears g I)) fresh-index
-
   in-data : dataAt g + (fresh g I - dataAt g) < g .n
-  in-data = first-in g I s (fresh g I - dataAt g) (drop 1 (clears g I)) fresh-first
-
-  pub fresh-high : fresh g I < g .n
-  fresh-high = omega (arith, in-data, fresh-index)
-
-  pub fresh-clear : mark g I (fresh g I - dataAt g) ≡ 0
-  fresh-clear = first-clear g I s (fresh g I - dataAt g) (drop 1 (clears g I)) fresh-first
+  in-data = fresh-data g I h s
 
   T : List ℕ
   T = taken g I (fresh g I - dataAt g)
@@ -90,7 +59,7 @@ module _ (g : Geo) (I : List ℕ) (s : Sound g (length I)) (h : 1 ≤ length (cl
     pub grown-kept : Kept (blockSize g) (λ b o. Aside g b o × (Off last 0 4 b o × (b ≡ fresh g I → ⊥))) I (grown g I last)
     unfolding grown T
     grown-kept =
-        kept-trans (kept-less (λ b o p. (p .0, λ e. p .1 .1 (e ∙ fresh-index))) (taken-kept g I s (fresh g I - dataAt g) in-data))
+        kept-trans (kept-less (λ b o p. (p .0, λ e. p .1 .1 (e ∙ fresh-index g I h))) (taken-kept g I s (fresh g I - dataAt g) in-data))
         (kept-less (λ b o p. p .1 .0) (unfold T in link-kept g T T-sound last low high (fresh g I)))
 
     pub grown-sound : Sound g (length (grown g I last))
@@ -104,7 +73,7 @@ module _ (g : Geo) (I : List ℕ) (s : Sound g (length I)) (h : 1 ≤ length (cl
     pub grown-clears : clears g (grown g I last) ≡ drop 1 (clears g I)
     unfolding grown T
     grown-clears =
-        (unfold T in link-clears g T T-sound last low high (fresh g I)) ∙ clears-taken g I s (fresh g I - dataAt g) (drop 1 (clears g I)) fresh-first
+        (unfold T in link-clears g T T-sound last low high (fresh g I)) ∙ clears-taken g I s (fresh g I - dataAt g) (drop 1 (clears g I)) (fresh-first g I h)
 
     pub grown-room : (k : ℕ) → Room g I (k + 1) → Room g (grown g I last) k
     grown-room k r = record {
@@ -119,8 +88,8 @@ module _ (g : Geo) (I : List ℕ) (s : Sound g (length I)) (h : 1 ≤ length (cl
         go : Dec (y ≡ fresh g I - dataAt g) → mark g (taken g I (fresh g I - dataAt g)) y ≡ mark g I y + count (dataAt g + y) (fresh g I ∷ [])
         go (yes e) =
             let a = ap (mark g (taken g I (fresh g I - dataAt g))) e ∙ mark-taken g I s (fresh g I - dataAt g) in-data in
-            let b = ap (mark g I) e ∙ fresh-clear in
-            omega (arith, a, b, count-same (dataAt g + y) (fresh g I) [] (omega (arith, fresh-index)), count-none (dataAt g + y))
+            let b = ap (mark g I) e ∙ fresh-clear g I h s in
+            omega (arith, a, b, count-same (dataAt g + y) (fresh g I) [] (omega (arith, fresh-index g I h)), count-none (dataAt g + y))
         go (no e) =
             omega (
               arith,
@@ -136,7 +105,7 @@ module _ (g : Geo) (I : List ℕ) (s : Sound g (length I)) (h : 1 ≤ length (cl
         sym (mark-is g (grown g I last) y)
         ∙ (unfold T grown in link-mark g T T-sound last low high (fresh g I) y (index-in g (length I) s y (omega (arith, in-data))))
         ∙ mark-is g (taken g I (fresh g I - dataAt g)) y
-        ∙ set-taken g I s (fresh g I - dataAt g) (drop 1 (clears g I)) fresh-first y p q
+        ∙ set-taken g I s (fresh g I - dataAt g) (drop 1 (clears g I)) (fresh-first g I h) y p q
 
     pub grown-top : (u : ℕ) → Shows I (blockSize g * g .K) (superBytes g u) → Shows (grown g I last) (blockSize g * g .K) (superBytes g (usedCount g I + 1))
     unfolding grown T
@@ -147,7 +116,7 @@ module _ (g : Geo) (I : List ℕ) (s : Sound g (length I)) (h : 1 ≤ length (cl
     unfolding grown T
     grown-zero d o q =
         (unfold T in link-kept g T T-sound last low high (fresh g I) .at (fresh g I) o (λ e _ _. d e) q)
-        ∙ ap (λ (b : ℕ). cell (blockSize g) (taken g I (fresh g I - dataAt g)) b o) (sym fresh-index)
+        ∙ ap (λ (b : ℕ). cell (blockSize g) (taken g I (fresh g I - dataAt g)) b o) (sym (fresh-index g I h))
         ∙ cell-taken g I s (fresh g I - dataAt g) in-data o q
 
     -- and the block before it has its address
@@ -155,6 +124,6 @@ module _ (g : Geo) (I : List ℕ) (s : Sound g (length I)) (h : 1 ≤ length (cl
         → Shows (grown g I last) (blockSize g * last) (bytes 4 (fresh g I) ++ body)
     unfolding grown T
     grown-links d z body q t =
-        unfold T in relinked (blockSize g) T last z (fresh g I) body (omega (arith, size-large g)) (block-in g T T-sound last low high)
+        unfold T in relinked (blockSize g) T last z (fresh g I) body (omega (arith, size-large g)) (block-inside g (length T) T-sound last high)
         (unfold T in shows-kept (blockSize g) _ I T last (bytes 4 z ++ body) (taken-kept g I s (fresh g I - dataAt g) in-data)
-        (λ o _. (aside-data g (length I) s last o low, λ e. d (sym (e ∙ fresh-index)))) (omega (arith, length-append (bytes 4 z) body, length-bytes 4 z)) t)
+        (λ o _. (aside-data g (length I) s last o low, λ e. d (sym (e ∙ fresh-index g I h)))) (omega (arith, length-append (bytes 4 z) body, length-bytes 4 z)) t)

@@ -11,7 +11,7 @@ use Rattle.model.specs.Geometry.{Geo, blockSize, dataAt, Sound}
 use Rattle.model.specs.Calls.{places}
 use Rattle.model.proofs.Areas.{few}
 use Rattle.model.proofs.Counts.{count-same, count-cons}
-use Rattle.tree_walk.proofs.Parts.{next-shown}
+use Rattle.model.proofs.Entries.{next-shown}
 use Rattle.file_write.specs.Write.{hop, Along}
 
 -- ---- hops

@@ -7,7 +7,7 @@ use native.Mathlib.Omega.{arith}
 use borrow.Author.Tests.{lt-ltb, le-ltb}
 use lib.ListN.{length, getD, take, drop, length-take, length-drop, drop-of-length-le}
 use lib.Seq.{take-all, drop-drop}
-use Rattle.wire.specs.Be.{bytes, splice}
+use Rattle.wire.specs.Be.{splice}
 use Rattle.wire.proofs.Picks.{pick-true, pick-false}
 use Rattle.bits.specs.Bit.{AllSet}
 use Rattle.block.specs.Block.{next, linked, Kept}
@@ -18,26 +18,16 @@ use Rattle.model.specs.Volume.{blocksFor}
 use Rattle.super_block.specs.declared.SuperBlock.{SuperBlock}
 use Rattle.super_block.specs.Super.{geoOf, Fit}
 use Rattle.super_block.proofs.Fits.{placed, fit-long}
-use Rattle.bitmap_block.specs.Bitmap.{clears, taken, freed, Room}
+use Rattle.bitmap_block.specs.Bitmap.{clears, taken, freed, Room, fresh}
 use Rattle.bitmap_block.proofs.Laws.{found-in}
-use Rattle.bitmap_block.proofs.Steps.{Aside, aside-data, freed-kept, used-freed}
+use Rattle.bitmap_block.proofs.Steps.{Aside, aside-data, freed-kept, used-freed, fresh-high}
 use Rattle.dir_entry.specs.declared.DirEntry.{DirEntry}
 use Rattle.read_dir.specs.declared.Place.{Place}
 use Rattle.model.proofs.Contents.{blocks-enough}
-use Rattle.file_write.specs.Write.{hop, Along, fresh, grown, extended, dropped, cutAfter, resized, poured, spread, filed, wrote, Chained, Resizable, CanWrite}
+use Rattle.file_write.specs.Write.{hop, Along, grown, extended, dropped, cutAfter, resized, poured, spread, filed, wrote, Chained, Resizable, CanWrite}
 use Rattle.file_write.proofs.Hops.{hop-none, hop-more, hop-last, along-here, along-next, along-less, along-drop, along-kept, along-cells, SameNext}
 use Rattle.file_write.proofs.Resizes.{Outcome, resized-is}
-use Rattle.file_write.proofs.Grows.{grown-kept, grown-room, grown-set, fresh-high}
-
--- ---- how many blocks a size needs
-
-pub count-none : (z : ℕ) → z ≡ 0 → 1 ≡ blocksFor 512 z
-unfolding blocksFor
-count-none z e = omega arith
-
-pub count-some : (z : ℕ) → (z ≡ 0 → ⊥) → (z - 1) / 508 + 1 ≡ blocksFor 512 z
-unfolding blocksFor
-count-some z e = omega arith
+use Rattle.file_write.proofs.Grows.{grown-kept, grown-room, grown-set}
 
 -- ---- along a chain: b is the block, and left are to be passed
 
@@ -105,16 +95,16 @@ module _ (s : SuperBlock) (I : List ℕ) (b left : ℕ) (f : Fit s I) (r : Room 
   one = omega (arith, r .clear)
 
   pub extend-addr : (d : ℕ) → d ≡ s .area .0 → d + x < 4294967296
-  extend-addr d q = omega (arith, fresh-high (geoOf s) I (f .sound) one, f .area, placed f .few)
+  extend-addr d q = omega (arith, fresh-high (geoOf s) I one (f .sound), f .area, placed f .few)
 
   pub extend-index : x + 1 < 4294967296
-  extend-index = omega (arith, fresh-high (geoOf s) I (f .sound) one, placed f .few)
+  extend-index = omega (arith, fresh-high (geoOf s) I one (f .sound), placed f .few)
 
   pub extend-low : (a d : ℕ) → d ≡ s .area .0 → a ≡ d + x → dataAt (geoOf s) ≤ a
   extend-low a d q p = omega (arith, f .area)
 
   pub extend-high : (a d : ℕ) → d ≡ s .area .0 → a ≡ d + x → a < s .blocks
-  extend-high a d q p = omega (arith, fresh-high (geoOf s) I (f .sound) one, f .area)
+  extend-high a d q p = omega (arith, fresh-high (geoOf s) I one (f .sound), f .area)
 
   module _ (low : (dataAt (geoOf s) ≤ b) × (b < s .blocks)) (J : List ℕ) (j : J ≡ grown (geoOf s) I b) where
     long : length J ≡ length I
@@ -195,11 +185,6 @@ module _ (s : SuperBlock) (I : List ℕ) (b left : ℕ) (f : Fit s I) (h : 0 < l
 pub free-ends : (g : Geo) (I L : List ℕ) (b left a k : ℕ) → dropped g I b left ≡ dropped g L a k → left ≤ 0 → I ≡ dropped g L a k
 unfolding dropped
 free-ends g I L b left a k t h = let e : 0 ≡ left = omega arith in ap (dropped g I b) e ∙ t
-
--- ---- the entry
-
-pub two-stores : (I J L : List ℕ) (at q z k : ℕ) → at ≡ q → J ≡ splice I (at + 5) (bytes 4 z) → L ≡ splice J (at + 9) (bytes 8 k) → L ≡ splice (splice I (q + 5) (bytes 4 z)) (q + 9) (bytes 8 k)
-two-stores I J L at q z k e a b = b ∙ ap (λ (x : List ℕ). splice x (at + 9) (bytes 8 k)) a ∙ ap (λ (x : ℕ). splice (splice I (x + 5) (bytes 4 z)) (x + 9) (bytes 8 k)) e
 
 -- ---- the bytes: left blocks are to be filled from b on, and i bytes are stored
 

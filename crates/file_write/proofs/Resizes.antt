@@ -18,11 +18,12 @@ use Rattle.model.specs.Geometry.{Geo, blockSize, dataAt, mapBits, superBytes, u
 use Rattle.model.specs.Volume.{All, GoodCell}
 use Rattle.model.specs.Calls.{places, stream}
 use Rattle.model.proofs.Contents.{length-stream, length-places}
-use Rattle.model.proofs.Counts.{count-same}
+use Rattle.model.proofs.Counts.{count-same, count-self}
+use Rattle.model.proofs.Lists.{all-left, length-none}
 use Rattle.bitmap_block.specs.Bitmap.{mark, clears, Room}
 use Rattle.bitmap_block.proofs.Steps.{Aside}
 use Rattle.file_write.specs.Write.{hop, extended, cutAfter, resized, Held}
-use Rattle.file_write.proofs.Cells.{Front, front-of, places-append, count-places, count-cell, count-no-cell, count-one, all-front, empties, places-empties}
+use Rattle.file_write.proofs.Cells.{Front, front-of, places-append, count-places, count-cell, empties, places-empties, count-last}
 use Rattle.file_write.proofs.Extends.{Extended, extended-held, extended-is}
 use Rattle.file_write.proofs.Frees.{cut-held, cut-kept, cut-marks, cut-top}
 use Rattle.file_write.proofs.Hops.{hop-cells}
@@ -68,10 +69,10 @@ module _ (g : Geo) (I : List ℕ) (s : Sound g (length I)) (xs : List Cell) (c :
   ws-long = length-take-le k (clears g I) (r .clear)
 
   cs-spots : (i : ℕ) → count i (places cs) ≡ count i (places xs) + count i (c .at ∷ [])
-  cs-spots i = count-places i xs (c ∷ []) ∙ omega (arith, count-cell i c [], count-no-cell i)
+  cs-spots i = count-last i xs c
 
   last-in : (dataAt g ≤ c .at) × (c .at < g .n)
-  last-in = h .range (c .at) (omega (arith, cs-spots (c .at), count-one (c .at)))
+  last-in = h .range (c .at) (omega (arith, cs-spots (c .at), count-self (c .at)))
 
   ds-spots : (i : ℕ) → count i (places (cs ++ empties g ws)) ≡ count i (places cs) + count i ws
   ds-spots i = count-places i cs (empties g ws) ∙ ap (λ (l : List ℕ). count i (places cs) + count i l) (places-empties g ws)
@@ -124,7 +125,7 @@ module _ (g : Geo) (I : List ℕ) (s : Sound g (length I)) (xs : List Cell) (c :
   parts = sym (append-assoc xs (c ∷ []) ys)
 
   good : All (GoodCell (blockSize g)) kept-cells
-  good = all-front (GoodCell (blockSize g)) kept-cells ys (subst (All (GoodCell (blockSize g))) parts (h .whole))
+  good = all-left (GoodCell (blockSize g)) kept-cells ys (subst (All (GoodCell (blockSize g))) parts (h .whole))
 
   spots-both : (i : ℕ) → count i (places (xs ++ (c ∷ ys))) ≡ count i (places kept-cells) + count i (places ys)
   spots-both i = ap (λ (z : List Cell). count i (places z)) parts ∙ count-places i kept-cells ys
@@ -187,7 +188,7 @@ resized-is g I s cs new h p q r l = go (decLt (length cs) new)
   where
     grows : length cs < new → (f : Front (length cs - 1) cs) → Outcome g I (extended g I (hop (blockSize g) I (length cs - 1) (cellsAt cs)) (new - length cs)) cs new
     grows a f =
-        let none : f .back ≡ [] = empty (f .back) (omega (arith, ap length (f .is), length-append (f .front) (f .cell ∷ f .back), f .long)) in
+        let none : f .back ≡ [] = length-none (f .back) (omega (arith, ap length (f .is), length-append (f .front) (f .cell ∷ f .back), f .long)) in
         let e : cs ≡ f .front ++ (f .cell ∷ []) = f .is ∙ ap (λ (z : List Cell). f .front ++ (f .cell ∷ z)) none in
         let m : length (f .front ++ (f .cell ∷ [])) + (new - length cs) ≡ new = omega (arith, ap length e) in
         record {
@@ -198,10 +199,6 @@ resized-is g I s cs new h p q r l = go (decLt (length cs) new)
               (grows-resized g I s (f .front) (f .cell) (new - length cs) (subst (Held g I) e h) r)));
         }
       where
-        empty : (l : List Cell) → length l ≡ 0 → l ≡ []
-        empty [] z = refl
-        empty (x ∷ l) z = absurd (omega arith)
-
         last : (f : Front (length cs - 1) cs) (ys : List Cell) → cs ≡ f .front ++ (f .cell ∷ ys) → hop (blockSize g) I (length cs - 1) (cellsAt cs) ≡ f .cell .at
         last f ys e = hops g I s cs h (length cs - 1) (f .front) (f .cell) ys e (f .long)
 

@@ -14,47 +14,38 @@ use Rattle.bits.specs.Bit.{bit}
 use Rattle.model.specs.Tree.{Name, Cell, Entry, Below, Tree, lookup, change, edit, Some, find}
 use Rattle.model.specs.Render.{View, cellsAt, blocksAt, padded, addressOf, sizeOf, entryBytes, cellPieces, nodePieces, view, render, ats, blocks, count, placeOf, Shows, ShowsAll}
 use Rattle.model.specs.Geometry.{Geo, blockSize, mapAt, dataAt, mapBits, superBytes, usedCount, Sound}
-use Rattle.model.specs.Volume.{All, fileLimit, blocksFor, GoodCell, GoodFile, GoodEntry, GoodBelow, GoodTree, Volume, maxDepth}
+use Rattle.model.specs.Volume.{All, fileLimit, blocksFor, GoodFile, GoodEntry, GoodBelow, GoodTree, Volume, maxDepth}
 use Rattle.model.specs.Calls.{freeBlocks, fileEntry, stream, places, chop, rewrite, refiled, rewritten, Outside, Makes, Writes}
 use Rattle.model.proofs.Alike.{change-at}
-use Rattle.model.proofs.Areas.{area, size-large, laid-volume, volume-laid}
+use Rattle.model.proofs.Areas.{area, size-large, laid-volume, volume-laid, block-inside}
 use Rattle.model.proofs.Contents.{blocks-some, blocks-enough, length-stream, length-places, rewrite-good, rewrite-length, rewrite-places}
-use Rattle.model.proofs.Counts.{count-append, count-same}
+use Rattle.model.proofs.Counts.{count-append, count-same, cells-long, ats-cells}
 use Rattle.model.proofs.Cuts.{Cut, edit-below-at}
 use Rattle.model.proofs.Demand.{whole-super}
 use Rattle.model.proofs.Edits.{refiled-name}
-use Rattle.model.proofs.Frame.{cut-count, cut-shows, shows-frame}
+use Rattle.model.proofs.Frame.{cut-count, cut-shows, shows-frame, cut-within, cut-within-new}
 use Rattle.model.proofs.Free.{free-found, free-once}
-use Rattle.model.proofs.Full.{Whole, whole-tree, good-lookup}
+use Rattle.model.proofs.Full.{Whole, whole-tree, good-lookup, whole-cells}
 use Rattle.model.proofs.Good.{good-change, good-edit}
 use Rattle.model.proofs.OneVolume.{used-is}
-use Rattle.model.proofs.Owns.{renewedAt, shows-kept}
+use Rattle.model.proofs.Owns.{renewedAt, shows-kept, cut-shown, cut-whole}
+use Rattle.model.proofs.Commit.{cut-length, cut-shorter}
 use Rattle.bitmap_block.specs.Bitmap.{mark, Room}
 use Rattle.bitmap_block.proofs.Steps.{mark-is, index-in, sound-kept, mark-kept, Aside, aside-data, aside-other, volume-clears, volume-room}
 use Rattle.dir_entry.specs.declared.DirEntry.{DirEntry}
+use Rattle.dir_entry.specs.Shown.{headOf}
 use Rattle.read_dir.specs.declared.Place.{Place}
-use Rattle.tree_walk.specs.Shown.{headOf, spotOf}
-use Rattle.tree_walk.proofs.Parts.{Stored, Part, laid-part, part-find, stored-lookup, cells-long, block-inside}
+use Rattle.tree_walk.specs.Shown.{spotOf}
+use Rattle.tree_walk.proofs.Parts.{Stored, Part, laid-part, part-find, stored-lookup}
+use Rattle.tree_walk.proofs.Walks.{spot-place}
 use Rattle.file_write.specs.Write.{resized, spread, filed, wrote, Held, CanWrite}
-use Rattle.file_write.proofs.Cells.{block-long}
 use Rattle.file_write.proofs.Chops.{chop-splice}
-use Rattle.file_write.proofs.Files.{newEntry, file-cut, spot-byte, spot-fits, spot-block}
-use Rattle.file_write.proofs.Filing.{cut-within, cut-within-new, cut-lengths, cut-shorter, cut-shown, cut-whole, filing-kept, filing-shown}
+use Rattle.file_write.proofs.Files.{newEntry, file-cut, spot-fits, spot-block}
+use Rattle.file_write.proofs.Filing.{filing-kept, filing-shown}
 use Rattle.file_write.proofs.Fills.{Row, Filled, spread-is}
 use Rattle.file_write.proofs.Resizes.{Resized, Outcome, resized-is}
 
 -- ---- lists
-
--- the pieces of a file stand at its places
-ats-cells : (cs : List Cell) → ats (cellPieces cs) ≡ places cs
-unfolding ats cellPieces places
-ats-cells [] = refl
-ats-cells (c ∷ cs) = ap (λ (l : List ℕ). c .at ∷ l) (ats-cells cs)
-
-whole-cells : (B : ℕ) → 4 ≤ B → (cs : List Cell) → All (GoodCell B) cs → All (Whole B) (cellPieces cs)
-unfolding cellPieces
-whole-cells B h [] a = tt
-whole-cells B h (c ∷ cs) a = (block-long B h c (cellsAt cs) (a .0), whole-cells B h cs (a .1))
 
 count-take : (i k : ℕ) (l : List ℕ) → count i (take k l) ≤ count i l
 count-take i k l = omega (arith, count-append i (take k l) (drop k l), ap (count i) (take-append-drop k l))
@@ -239,7 +230,7 @@ module _ (g : Geo) (I : List ℕ) (d : ℕ) (t : Tree d) (v : Volume g I d t) (p
     unfolding wrote filed headOf addressOf sizeOf fileEntry J₁ J₂ J₃
     stores-are =
         let old : blocksFor B z ≡ length cs = sym (good-file .long) in
-        λ i. renewedAt (spread B (resized g I (cellsAt cs) (old i) new) (cellsAt cs) c buf new) (spot-byte n B (s .1) (fileEntry n k z cs) l i) (c + length buf) now
+        λ i. renewedAt (spread B (resized g I (cellsAt cs) (old i) new) (cellsAt cs) c buf new) (spot-place B n (s .1) (fileEntry n k z cs) l i) (c + length buf) now
 
     -- ---- what has changed
 
@@ -291,7 +282,7 @@ module _ (g : Geo) (I : List ℕ) (d : ℕ) (t : Tree d) (v : Volume g I d t) (p
     whole = whole-tree B (omega (arith, size-large g)) d t (v .laid .good)
 
     inside : B * C .at + B ≤ length J₂
-    inside = block-inside g J₂ sound₂ (C .at) (dir-in .1)
+    inside = block-inside g (length J₂) sound₂ (C .at) (dir-in .1)
 
     entry-kept : Kept B (Off (C .at) (4 + length (C .low) + 5) 12) J₂ J₃
     unfolding J₃
@@ -378,7 +369,7 @@ module _ (g : Geo) (I : List ℕ) (d : ℕ) (t : Tree d) (v : Volume g I d t) (p
           arith,
           r .sum,
           used-is g I d t v,
-          cut-lengths B _ _ _ _ _ _ _ C,
+          cut-length B _ _ _ _ _ _ _ C,
           cells-long cs,
           cells-long es,
           es-long,

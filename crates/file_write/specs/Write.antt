@@ -3,7 +3,7 @@ use mathlib.Core.Path.{_≡_}
 use mathlib.Core.List.{List}
 use Prim.Native.Nat.{ℕ, zero, suc, _+_, _-_, _/_, _%_, _≤_, _<_}
 use lib.Dec.{ltb}
-use lib.ListN.{length, getD, take, drop}
+use lib.ListN.{length, take, drop}
 use Rattle.wire.specs.Be.{bytes, splice}
 use Rattle.wire.specs.Pick.{pick}
 use Rattle.block.specs.Block.{next, linked}
@@ -12,7 +12,7 @@ use Rattle.model.specs.Render.{cellsAt, cellPieces, count, ShowsAll}
 use Rattle.model.specs.Geometry.{Geo, blockSize, dataAt, usedCount}
 use Rattle.model.specs.Volume.{All, GoodCell, fileLimit, blocksFor}
 use Rattle.model.specs.Calls.{places}
-use Rattle.bitmap_block.specs.Bitmap.{mark, clears, taken, freed, Room}
+use Rattle.bitmap_block.specs.Bitmap.{mark, taken, freed, Room, fresh}
 use Rattle.dir_entry.specs.Entry.{header, placeAt}
 use Rattle.dir_entry.specs.declared.DirEntry.{DirEntry}
 use Rattle.read_dir.specs.declared.Place.{Place}
@@ -30,11 +30,7 @@ pub record Along (g : Geo) (I : List ℕ) (a k : ℕ) : Type 0 where
 
 -- ---- blocks added
 
--- 01: "A new block is the lowest clear index within reach": its address.
-unfoldable pub fresh : Geo → List ℕ → ℕ
-fresh g I = getD (clears g I) 0 0
-
--- The image with a new block after block `last`.
+-- The image with a new block after block `last`: 01, "A new block is the lowest clear index within reach".
 unfoldable pub grown : Geo → List ℕ → ℕ → List ℕ
 grown g I last = linked (blockSize g) (taken g I (fresh g I - dataAt g)) last (fresh g I)
 

@@ -17,21 +17,11 @@ ghost use Rattle.model.specs.Geometry.{blockSize, mapAt, dataAt, usedCount};
 ghost use Rattle.model.specs.Volume.{blocksFor};
 ghost use Rattle.super_block.specs.Super.{geoOf, Fit};
 ghost use Rattle.dir_entry.specs.Entry.{placeAt};
-ghost use Rattle.bitmap_block.specs.Bitmap.{Room};
-ghost use Rattle.file_write.specs.Write.{hop, Along, fresh, grown, extended, dropped, cutAfter, resized, poured, spread, filed, wrote, Resizable, Stands, CanWrite};
+ghost use Rattle.bitmap_block.specs.Bitmap.{fresh, Room};
+ghost use Rattle.file_write.specs.Write.{hop, Along, grown, extended, dropped, cutAfter, resized, poured, spread, filed, wrote, Resizable, Stands, CanWrite};
 
 // A block's data bytes, as positions are counted.
 const CAPACITY: u32 = LinkedBlock::CAPACITY as u32;
-
-// How many blocks a file of that size has.
-pub fn blocks_for(size: u32) -> u32
-    ensures { λ r. ⌜ r ≡ blocksFor blockBytes size ⌝ }
-{
-    if size == 0 {
-        return 1;
-    }
-    (size - 1) / CAPACITY + 1
-}
 
 // The address k links after a.
 fn follow(img: &[u8], s: SuperBlock, a: Addr, k: u32) -> Addr
@@ -208,8 +198,8 @@ pub fn write(
 {
     let a = e.addr;
     let size = c + (buf.len() as u32);
-    let old = blocks_for(e.size);
-    let new = blocks_for(size);
+    let old = model::blocks_for(e.size);
+    let new = model::blocks_for(size);
     resize(img, s, a, old, new);
     put_bytes(img, s, a, c, buf, new);
     renew_entry(img, s, place, size, time);

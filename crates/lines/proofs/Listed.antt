@@ -4,7 +4,7 @@ use mathlib.Core.Bool.{true, false}
 use mathlib.Core.Logic.{_⊎_, inl, inr}
 use mathlib.Core.List.{List, [], _∷_, _++_}
 use Prim.Native.Nat.{ℕ, zero, suc, _+_, _-_, _*_, _^_, _≤_, _<_}
-use native.Mathlib.Nat.{add-zero, zero-add, pow-suc}
+use native.Mathlib.Nat.{add-zero, zero-add}
 use native.Mathlib.Omega.{arith}
 use lib.Dec.{ltb}
 use lib.ListN.{length, getD, take, drop, length-append, length-take, length-drop}
@@ -17,7 +17,7 @@ use Rattle.wire.proofs.Picks.{either, pick-true, pick-false}
 use Rattle.model.specs.Render.{Shows}
 use Rattle.model.specs.Steps.{Bytes}
 use Rattle.model.proofs.Commit.{shows-one, shows-two}
-use Rattle.model.proofs.Entries.{be-shown}
+use Rattle.model.proofs.Entries.{be-shown, be-fits}
 use Rattle.dir_entry.specs.declared.DirEntry.{DirEntry}
 use Rattle.dir_entry.specs.Entry.{kindAt, kindByte, entryAt, placeAt}
 use Rattle.dir_entry.proofs.Heads.{kind-back}
@@ -128,11 +128,6 @@ text-records cap b w p =
     ap (λ (k : ℕ). textFrom k l 0) z ∙ text-listed l 0 cap b w p (zero-add (length l)) (λ i q. ap (λ (j : ℕ). getD l j 0) (zero-add i))
 
 -- ---- the entries of a directory are such
-
-be-fits : (n : ℕ) (I : List ℕ) (at : ℕ) → Bytes I → be n I at < 256 ^ n
-unfolding be
-be-fits zero I at b = omega arith
-be-fits (suc n) I at b = rw pow-suc (omega (arith, be-fits n I at b, b (at + n)))
 
 item-plain : (D n : ℕ) (I : List ℕ) → Bytes I → 512 * n ≤ length I → (e : DirEntry) (a o : ℕ) (x : List ℕ) → Item 512 D n I e a o x → Plain e x
 unfolding entryAt

@@ -17,6 +17,7 @@ use Rattle.model.specs.Answers.{Reply, accepted, refused, refusalNumber, andThe
 use Rattle.model.specs.declared.Refusal.{Refusal}
 use Rattle.model.specs.Geometry.{geoAt, openRefusal}
 use Rattle.model.specs.Steps.{Bytes}
+use Rattle.model.proofs.Replies.{given-accepted}
 use Rattle.super_block.specs.Super.{superBlock}
 use Rattle.super_block.proofs.Fits.{opened-fit, placed}
 use Rattle.read_dir.specs.declared.Listed.{Listed}
@@ -67,12 +68,6 @@ module _ (K : ℕ) (I : List ℕ) (i cap : ℕ) where
   unfolding recordsOn
   root-records = ap (recordsAt (size K I) (area K I) (end K I) I i cap) (root-opened (size K I) (area K I) (end K I) I)
 
--- an accepted answer comes with no earlier refusal
-given-accepted : {A : Type 0} (k : ℕ) (r : Reply A) (a : A) → accepted a ≡ given k r → (k ≡ 0) × (accepted a ≡ r)
-unfolding given
-given-accepted zero r a e = (refl, e)
-given-accepted (suc k) r a e = absurd (let z : _≡_ {A = ℕ} 0 1 = cc in omega arith)
-
 counts-records : (x : Listed) (b j : ℕ) → accepted (record { bytes = b; next = j }) ≡ countsOf x → x ≡ listed.Records b j
 counts-records (listed.Records c k) b j e =
     let q : _≡_ {A = Counts} (record { bytes = c; next = k }) (record { bytes = b; next = j }) = cc in
@@ -112,7 +107,9 @@ module _ (K : ℕ) (I : List ℕ) (i : ℕ) (rs rs₁ : List ℕ) (b : Bytes I) 
   records = recordsFrom (length rs) 0 (rootFrom K I i)
 
   opened : (openRefusal K I ≡ 0) × (accepted (record { bytes = n; next = j }) ≡ countsOf (listFrom (length rs) 0 i (rootFrom K I i)))
-  opened = given-accepted (openRefusal K I) (countsOf (listFrom (length rs) 0 i (rootFrom K I i))) (record { bytes = n; next = j }) (l .answer ∙ root-reply K I i (length rs))
+  opened =
+      let r = given-accepted (openRefusal K I) (countsOf (listFrom (length rs) 0 i (rootFrom K I i))) (record { bytes = n; next = j }) (sym (l .answer ∙ root-reply K I i (length rs))) in
+      (r .0, sym (r .1))
 
   told : listFrom (length rs) 0 i (rootFrom K I i) ≡ listed.Records n j
   told = counts-records (listFrom (length rs) 0 i (rootFrom K I i)) n j (opened .1)

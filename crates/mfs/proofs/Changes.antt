@@ -1,11 +1,11 @@
 -- From a checked volume and an accepted path to the answer and the image of a changing call: the laws that create, delete and write share.
 use mathlib.Core.Path.{_≡_, refl, sym, ap, _∙_, subst}
-use mathlib.Core.Bool.{Bool, true, false}
-use mathlib.Core.List.{List, [], _∷_}
+use mathlib.Core.Bool.{true, false}
+use mathlib.Core.List.{List}
 use Prim.Native.Nat.{ℕ, zero, suc, _≤_}
 use native.Mathlib.Omega.{arith}
 use lib.ListN.{length, take}
-use Rattle.model.specs.Answers.{Reply, accepted, refused, refusalNumber, andThen, when, firstOf, settle, given}
+use Rattle.model.specs.Answers.{Reply, accepted, refused, refusalNumber, andThen, when, settle, given}
 use Rattle.model.specs.declared.Refusal.{Refusal}
 use Rattle.model.specs.Geometry.{Geo, geoAt, countAt}
 use Rattle.model.specs.Volume.{WellFormed}
@@ -21,11 +21,10 @@ use Rattle.path.specs.declared.Real.{Real}
 use Rattle.path.specs.declared.Real.the-variants as real
 use Rattle.path.specs.Path.{realPath, badPath, pathRefusal}
 use Rattle.path.specs.Post.{RealIs, Stores, Leaves}
-use mathlib.Core.Bool.{_||_}
 use mathlib.Core.Logic.{_⊎_, inl, inr}
 use lib.Dec.{ltb, eqb}
 use borrow.Author.Tests.{ltb-false}
-use Rattle.wire.proofs.Picks.{either, not-both}
+use Rattle.wire.proofs.Picks.{either}
 use Rattle.block.specs.declared.Addr.{Addr}
 use Rattle.model.specs.Render.{padded}
 use Rattle.model.proofs.Opens.{or-false}
@@ -53,7 +52,7 @@ use Rattle.mfs.specs.declared.Answer.{Answer}
 use Rattle.mfs.specs.declared.Answer.the-variants as answer
 use Rattle.mfs.specs.Says.{says}
 use Rattle.path.proofs.Laws.{stores-length}
-use Rattle.mfs.specs.Checking.{workAfter, checkRefusal, CheckedIs, Checked}
+use Rattle.mfs.specs.Checking.{checkRefusal, CheckedIs, Checked}
 use Rattle.mfs.specs.Changing.{Ready, changeCall, createReply, createImage, freshHandle, CreatesFile, plainly, CreatesDir, Deletes, writeReply, Writes}
 use Rattle.mfs.proofs.Paths.{given-none, given-some, path-taken, path-at}
 use Rattle.mfs.proofs.Checked.{check-passed}

@@ -3,16 +3,15 @@ use mathlib.Core.Path.{_≡_, refl, sym, ap, _∙_, subst}
 use mathlib.Core.Bool.{Bool, true, false, not}
 use mathlib.Core.Logic.{_⊎_, inl, inr}
 use mathlib.Core.List.{List, [], _∷_}
-use Prim.Native.Nat.{ℕ, zero, suc, _≤_, _<_}
+use Prim.Native.Nat.{ℕ, _≤_, _<_}
 use native.Mathlib.Omega.{arith}
 use native.Mathlib.Decide.{ℕ-discrete}
-use lib.Dec.{ltb}
 use lib.ListN.{length}
 use borrow.Author.Tests.{lt-ltb, le-ltb}
 use Rattle.wire.specs.Be.{zeros, splice}
 use Rattle.wire.proofs.Picks.{either, not-both}
-use Rattle.model.specs.Answers.{refusalNumber, when, firstOf, settle}
-use Rattle.model.specs.Geometry.{Geo, geoAt, openRefusal}
+use Rattle.model.specs.Answers.{refusalNumber, when, firstOf}
+use Rattle.model.specs.Geometry.{geoAt, openRefusal}
 use Rattle.model.specs.Volume.{WellFormed}
 use Rattle.model.specs.Steps.{Bytes}
 use Rattle.model.specs.declared.Refusal.{Refusal}
@@ -22,7 +21,7 @@ use Rattle.model.proofs.Replies.{settle-none, settle-refused, number-some, numb
 use Rattle.super_block.specs.declared.SuperBlock.{SuperBlock}
 use Rattle.super_block.specs.declared.Opened.{Opened}
 use Rattle.super_block.specs.declared.Opened.the-variants as opened
-use Rattle.super_block.specs.Super.{geoOf, superBlock, Fit, OpenedIs}
+use Rattle.super_block.specs.Super.{geoOf, Fit, OpenedIs}
 use Rattle.super_block.proofs.Fits.{placed, opened-fit}
 use Rattle.tally.specs.Tally.{markBytes, markLong}
 use Rattle.survey.specs.Whole.{whole}

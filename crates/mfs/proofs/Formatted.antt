@@ -1,30 +1,30 @@
 -- An image that format accepts is a well-formed volume with an empty root.
 use mathlib.Core.Path.{_≡_, refl, sym, ap, _∙_, subst}
 use mathlib.Core.List.{List, [], _∷_, _++_}
-use Prim.Native.Nat.{ℕ, zero, suc, _+_, _-_, _*_, _/_, _≤_, _<_}
+use Prim.Native.Nat.{ℕ, suc, _+_, _-_, _*_, _/_, _<_}
 use native.Mathlib.Nat.{add-zero}
 use native.Mathlib.Omega.{arith}
 use native.Mathlib.Decide.{ℕ-discrete}
 use lib.ListN.{length, getD, length-append}
-use Rattle.wire.specs.Be.{bytes, zeros}
-use Rattle.wire.proofs.Laws.{getD-zeros, length-bytes}
+use Rattle.wire.specs.Be.{bytes}
+use Rattle.wire.proofs.Laws.{length-bytes}
 use Rattle.bits.specs.Bit.{bit}
 use Rattle.bits.proofs.Laws.{bit-zero}
 use Rattle.block.specs.Block.{cell, zeroed}
 use Rattle.block.proofs.Laws.{byte-zeroed}
-use Rattle.model.specs.Answers.{Reply, accepted, refused, reply, settle}
-use Rattle.model.specs.Tree.{Tree, blank}
+use Rattle.model.specs.Answers.{accepted}
+use Rattle.model.specs.Tree.{blank}
 use Rattle.model.specs.Render.{Shows, padded, count}
-use Rattle.model.specs.Geometry.{Geo, blockSize, mapAt, dataAt, mapBits, formatGeo, superBytes, usedCount, Sound, formatRefusal}
+use Rattle.model.specs.Geometry.{Geo, mapAt, dataAt, mapBits, formatGeo, superBytes, usedCount, Sound, formatRefusal}
 use Rattle.model.specs.Volume.{Volume, WellFormed, maxDepth}
 use Rattle.model.proofs.Blank.{formatted as blank-volume}
-use Rattle.model.proofs.Full.{length-padded}
+use Rattle.model.proofs.Full.{length-padded, padded-none, zero-byte}
 use Rattle.model.proofs.Counts.{count-same, count-other, count-none}
 use Rattle.model.proofs.Opens.{format-sound}
 use Rattle.model.proofs.Replies.{settle-none, reply-zero}
 use Rattle.super_block.specs.declared.SuperBlock.{SuperBlock}
-use Rattle.super_block.specs.Super.{geoOf, superBlock, superWritten, Fit}
-use Rattle.super_block.proofs.Fits.{fit-of, placed}
+use Rattle.super_block.specs.Super.{superBlock, superWritten, Fit}
+use Rattle.super_block.proofs.Fits.{fit-of}
 use Rattle.bitmap_block.specs.Bitmap.{mark, taken}
 use Rattle.bitmap_block.proofs.Steps.{mark-is, top-taken, mark-taken, mark-taken-other, cell-taken, sound-taken}
 use Rattle.mfs.specs.declared.Answer.{Answer}
@@ -33,13 +33,8 @@ use Rattle.mfs.specs.Format.{formatted, Formats}
 use Rattle.mfs.proofs.Laws.{bitmap-in, long-J, laid-fit, top-L, used-L, root-in}
 
 -- a block of zeros, as an empty directory shows it
-zero-block : (k i : ℕ) → i < length (bytes 4 0 ++ padded k []) → getD (bytes 4 0 ++ padded k []) i 0 ≡ 0
-unfolding bytes padded
-zero-block k zero h = refl
-zero-block k (suc zero) h = refl
-zero-block k (suc (suc zero)) h = refl
-zero-block k (suc (suc (suc zero))) h = refl
-zero-block k (suc (suc (suc (suc i)))) h = getD-zeros (k - 0) i
+empty-byte : (k i : ℕ) → getD (bytes 4 0 ++ padded k []) i 0 ≡ 0
+empty-byte k i = ap (λ (l : List ℕ). getD (bytes 4 0 ++ l) i 0) (padded-none k) ∙ zero-byte k i
 
 zero-long : length (bytes 4 0 ++ padded 508 []) ≡ 512
 zero-long = length-append (bytes 4 0) (padded 508 []) ∙ omega (arith, length-bytes 4 0, length-padded 508 [] (omega arith))
@@ -93,7 +88,7 @@ module _ (K : ℕ) (I : List ℕ) (sound : Sound (formatGeo K (length I)) (lengt
   format-volume d =
       blank-volume g d (taken g L 0) (sound-taken g L sound-L 0 root)
       (subst (λ (u : ℕ). Shows (taken g L 0) (512 * K) (superBytes g (u + 1))) used (top-taken g L sound-L 0 root (dataAt g) (top-L s I fit W L refl refl)))
-      (λ i h. unfold cell in rw add-zero at (cell-taken g L sound-L 0 root i (omega (arith, zero-long, h))) ∙ sym (zero-block 508 i h))
+      (λ i h. unfold cell in rw add-zero at (cell-taken g L sound-L 0 root i (omega (arith, zero-long, h))) ∙ sym (empty-byte 508 i))
       marks
 
 -- An image that format accepts is well formed: the numbers are those of the whole image, and the tree is the empty one.

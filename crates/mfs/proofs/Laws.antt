@@ -1,11 +1,9 @@
 -- What the public functions know where they answer: one law for each answer.
-use mathlib.Core.Path.{_≡_, refl, sym, ap, _∙_, subst}
-use mathlib.Core.Bool.{Bool, true, false}
+use mathlib.Core.Path.{_≡_, sym, ap, _∙_, subst}
 use mathlib.Core.List.{List, [], _∷_}
-use mathlib.Core.Logic.{_⊎_, inl, inr}
-use Prim.Native.Nat.{ℕ, _+_, _-_, _*_, _^_, _≤_, _<_}
+use mathlib.Core.Logic.{_⊎_, inl}
+use Prim.Native.Nat.{ℕ, _+_, _-_, _*_, _≤_, _<_}
 use native.Mathlib.Omega.{arith}
-use lib.Dec.{ltb}
 use lib.ListN.{length}
 use borrow.Author.Tests.{lt-ltb, le-ltb}
 use Rattle.wire.proofs.Laws.{length-splice}
@@ -17,7 +15,7 @@ use Rattle.model.proofs.Demand.{whole-super}
 use Rattle.model.proofs.Entries.{be-shown}
 use Rattle.model.proofs.OneVolume.{top-reads}
 use Rattle.model.proofs.Owns.{shows-kept}
-use Rattle.model.specs.Answers.{Reply, accepted, refused, refusalNumber, when, firstOf, reply, settle}
+use Rattle.model.specs.Answers.{accepted, refused, refusalNumber, firstOf, reply}
 use Rattle.model.specs.declared.Refusal.{Refusal}
 use Rattle.model.specs.declared.Refusal.the-variants.{Damaged}
 use Rattle.model.specs.Geometry.{Geo, superBytes, blockSize, mapAt, dataAt, geoAt, formatGeo, usedCount, openRefusal, formatRefusal}
@@ -29,11 +27,10 @@ use Rattle.super_block.specs.declared.Opened.the-variants.{At, Refused}
 use Rattle.super_block.specs.Super.{geoOf, superBlock, Fit, OpenedIs, MadeIs, superWritten}
 use Rattle.super_block.proofs.Fits.{placed, opened-fit, made-fit, fit-long}
 use Rattle.bitmap_block.specs.Bitmap.{taken}
-use Rattle.mfs.specs.declared.Answer.{Answer}
 use Rattle.mfs.specs.declared.Answer.the-variants as answer
 use Rattle.mfs.specs.declared.Space.{Space}
 use Rattle.mfs.specs.declared.Space.the-variants as space
-use Rattle.mfs.specs.Says.{says, Sizes, spaceSays}
+use Rattle.mfs.specs.Says.{spaceSays}
 use Rattle.mfs.specs.Format.{formatted, Formats, overused, usageRefusal, sizesOf, Uses}
 
 -- ---- an opened volume

@@ -1,34 +1,30 @@
 -- What open, info and list know where they answer: one law for each answer.
-use mathlib.Core.Path.{_≡_, refl, sym, ap, _∙_, subst}
-use mathlib.Core.Bool.{Bool, true, false}
-use mathlib.Core.List.{List, [], _∷_, _++_}
-use Prim.Native.Nat.{ℕ, zero, suc, _+_, _-_, _≤_, _<_}
-use native.Mathlib.Nat.{add-zero, zero-add}
+use mathlib.Core.Path.{_≡_, sym, ap, _∙_}
+use mathlib.Core.List.{List, _++_}
+use Prim.Native.Nat.{ℕ, _+_, _-_, _≤_, _<_}
+use native.Mathlib.Nat.{zero-add}
 use native.Mathlib.Omega.{arith}
-use lib.Dec.{ltb}
-use lib.ListN.{length, take, drop, replicate, length-take, length-drop}
-use lib.Seq.{length-take-le}
+use lib.ListN.{length, take, drop}
 use borrow.Author.Tests.{lt-ltb, le-ltb}
 use Rattle.wire.specs.Be.{splice, zeros}
-use Rattle.wire.specs.Pick.{pick}
 use Rattle.wire.proofs.Picks.{pick-true, pick-false}
+use Rattle.wire.proofs.Laws.{drop-zeros}
 use Rattle.model.specs.Answers.{Reply, accepted, refused}
 use Rattle.model.specs.Render.{padded}
 use Rattle.model.specs.Volume.{fileLimit}
 use Rattle.block.specs.declared.Addr.{Addr}
-use Rattle.dir_entry.specs.declared.Kind.{Kind}
 use Rattle.dir_entry.specs.declared.Kind.the-variants.{Dir, File, Device}
 use Rattle.dir_entry.specs.declared.DirEntry.{DirEntry}
 use Rattle.dir_entry.specs.Entry.{isFile}
 use Rattle.path.specs.declared.Parts.{Parts}
 use Rattle.path.specs.Path.{lastName}
-use Rattle.path.specs.Post.{PartsIs, between}
-use Rattle.dir.specs.Resolve.{Held, held}
+use Rattle.path.specs.Post.{PartsIs}
+use Rattle.path.proofs.Ends.{name-long}
+use Rattle.dir.specs.Resolve.{held}
 use Rattle.file.specs.declared.Handle.{Handle}
 use Rattle.mfs.specs.declared.Answer.the-variants.{Success}
 use Rattle.mfs.specs.declared.OpenOut.{OpenOut}
 use Rattle.mfs.specs.declared.InfoOut.{InfoOut}
-use Rattle.mfs.specs.declared.Listing.{Listing}
 use Rattle.mfs.specs.declared.Listing.the-variants as listing
 use Rattle.read_dir.specs.declared.Summed.{Summed}
 use Rattle.read_dir.specs.declared.Summed.the-variants as summed
@@ -40,22 +36,12 @@ use Rattle.mfs.specs.Reading.{handleFor, openEntry, OpenIs, About, about
 
 -- ---- the name of an entry, in an array
 
-drop-zeros : (n k : ℕ) → drop n (zeros k) ≡ zeros (k - n)
-drop-zeros zero k = ap zeros (let e : k ≡ k - 0 = omega arith in e)
-drop-zeros (suc n) zero = ap zeros (let e : 0 ≡ 0 - suc n = omega arith in e)
-drop-zeros (suc n) (suc k) = drop-zeros n k ∙ ap zeros (let e : k - n ≡ suc k - suc n = omega arith in e)
-
 pad-splice : (k : ℕ) (x : List ℕ) → splice (zeros k) 0 x ≡ padded k x
 unfolding splice padded
 pad-splice k x = ap (λ (l : List ℕ). x ++ l) (ap (λ (j : ℕ). drop j (zeros k)) (zero-add (length x)) ∙ drop-zeros (length x) k)
 
 pub name-is : (x r : List ℕ) → r ≡ splice (zeros 255) 0 x → r ≡ padded 255 x
 name-is x r e = e ∙ pad-splice 255 x
-
--- the last name's length, by its places
-pub name-long : (full : List ℕ) (len : ℕ) (p : Parts) → len ≤ length full → PartsIs full len p → length (lastName (take len full)) ≡ p .to - p .from
-name-long full len p h i =
-    ap length (sym (i .name)) ∙ length-take-le (p .to - p .from) (drop (p .from) full) (rw length-drop (omega (arith, i .from-in, i .to-in)))
 
 pub name-places : (full : List ℕ) (len : ℕ) (p : Parts) → len ≤ length full → PartsIs full len p → length (lastName (take len full)) ≤ 255
     → (p .from ≤ p .to) × ((p .to ≤ length full) × (p .to ≤ p .from + 255))

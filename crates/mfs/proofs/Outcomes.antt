@@ -1,12 +1,10 @@
 -- Demand 1, of each public call: any two outcomes that its contract allows are equal, refused ones too.
-use mathlib.Core.Path.{_≡_, refl, sym, ap, _∙_, subst}
+use mathlib.Core.Path.{_≡_, refl, sym, ap, _∙_}
 use mathlib.Core.List.{List}
 use Prim.Native.Nat.{ℕ, _+_}
 use native.Mathlib.Omega.{arith}
-use lib.ListN.{length}
-use Rattle.model.specs.Answers.{Reply, accepted, refused, refusalNumber}
-use Rattle.model.specs.declared.Refusal.{Refusal}
-use Rattle.model.proofs.Replies.{number-one, number-some}
+use Rattle.model.specs.Answers.{Reply, refused, refusalNumber}
+use Rattle.model.proofs.Replies.{number-one, number-some, accepted-one}
 use Rattle.file.specs.declared.Handle.{Handle}
 use Rattle.file.specs.declared.SeekFrom.{SeekFrom}
 use Rattle.file.specs.declared.Outcome.{Outcome}
@@ -51,10 +49,6 @@ says-one (answer.Refused x) (answer.Refused y) e = let k : refusalNumber x ≡ r
 
 pub format-one : (K : ℕ) (I : List ℕ) (r q : Answer) (J L : List ℕ) → Formats K I r J → Formats K I q L → (r ≡ q) × (J ≡ L)
 format-one K I r q J L a b = (says-one r q (a .answer ∙ sym (b .answer)), a .image ∙ sym (b .image))
-
--- what is accepted is one value
-accepted-one : {A : Type 0} (x y : A) → accepted x ≡ accepted y → x ≡ y
-accepted-one x y e = cc
 
 pub usage-one : (K : ℕ) (I : List ℕ) (r q : Space) → Uses K I r → Uses K I q → r ≡ q
 usage-one K I r q a b = go r q (a ∙ sym b)

@@ -1,19 +1,19 @@
 -- From an opened volume and an accepted path to the answer of a call: the laws that open, info and list share.
-use mathlib.Core.Path.{_≡_, refl, sym, ap, _∙_, subst}
+use mathlib.Core.Path.{_≡_, sym, ap, _∙_, subst}
 use mathlib.Core.Bool.{Bool, true, false}
 use mathlib.Core.List.{List, [], _∷_}
-use Prim.Native.Nat.{ℕ, zero, suc, _+_, _-_, _≤_, _<_}
+use Prim.Native.Nat.{ℕ, _≤_, _<_}
 use native.Mathlib.Omega.{arith}
-use lib.ListN.{length, getD, take, drop, length-replicate}
+use lib.ListN.{length, getD, take, length-replicate}
 use lib.Seq.{take-all}
 use Rattle.wire.specs.Be.{splice, zeros}
-use Rattle.wire.specs.Pick.{pick, same}
+use Rattle.wire.specs.Pick.{same}
 use Rattle.wire.proofs.Picks.{pick-true, pick-false}
-use Rattle.model.specs.Answers.{Reply, accepted, refused, refusalNumber, andThen, when, firstOf, given}
+use Rattle.model.specs.Answers.{Reply, refused, refusalNumber, andThen, firstOf, given}
 use Rattle.model.specs.declared.Refusal.{Refusal}
-use Rattle.model.specs.Geometry.{Geo, dataAt, geoAt, countAt, openRefusal}
+use Rattle.model.specs.Geometry.{dataAt, geoAt, countAt, openRefusal}
 use Rattle.model.proofs.Opens.{when-true, when-false, first-of-head, first-of-tail, first-of-one}
-use Rattle.model.proofs.Replies.{number-some}
+use Rattle.model.proofs.Replies.{number-some, given-none as given-nothing, given-some as given-refusal}
 use Rattle.super_block.specs.declared.SuperBlock.{SuperBlock}
 use Rattle.super_block.specs.declared.Opened.{Opened}
 use Rattle.super_block.specs.declared.Opened.the-variants.{At, Refused}
@@ -24,7 +24,7 @@ use Rattle.read_dir.specs.Finds.{sumFrom, skip, listFrom, recordsFrom}
 use Rattle.path.specs.declared.Real.{Real}
 use Rattle.path.specs.declared.Real.the-variants as real
 use Rattle.path.specs.Path.{realPath, badPath, pathRefusal, slash, lastName}
-use Rattle.path.specs.Post.{RealIs, PathIs, Stores, Leaves}
+use Rattle.path.specs.Post.{RealIs, Stores, Leaves}
 use Rattle.path.proofs.Laws.{stores-take, stores-length}
 use Rattle.dir_entry.specs.declared.DirEntry.{DirEntry}
 use Rattle.dir.proofs.Laws.{entry-short}
@@ -36,21 +36,16 @@ use Rattle.dir.specs.declared.Located.the-variants as located
 use Rattle.dir.specs.Post.{openedSays, locatedSays}
 use Rattle.mfs.specs.declared.Listing.{Listing}
 use Rattle.mfs.specs.declared.Listing.the-variants as listing
-use Rattle.mfs.specs.Reading.{pathCall, openReply, infoReply, listReply, openEntry, openOn, aboutEntry, aboutRoot, infoOn, About, Counts, onReply, ListIs, listOn, recordsOn, recordsAt, countsOf}
+use Rattle.mfs.specs.Reading.{pathCall, openReply, infoReply, listReply, openEntry, openOn, aboutEntry, aboutRoot, infoOn, Counts, onReply, ListIs, listOn, recordsOn, recordsAt, countsOf}
 
 -- ---- an earlier refusal
 
+-- (said from the answer's side, as contracts have it)
 pub given-none : {A : Type 0} (k : ℕ) (r : Reply A) → k ≡ 0 → r ≡ given k r
-unfolding given
-given-none k r e = ap (λ (j : ℕ). given j r) (sym e)
-
-given-suc : {A : Type 0} (k : ℕ) (r : Reply A) → 1 ≤ k → refused k ≡ given k r
-unfolding given
-given-suc zero r h = absurd (omega arith)
-given-suc (suc k) r h = refl
+given-none k r e = sym (given-nothing r e)
 
 pub given-some : {A : Type 0} (k m : ℕ) (r : Reply A) → 1 ≤ m → k ≡ m → refused m ≡ given k r
-given-some k m r h e = subst (λ (j : ℕ). refused m ≡ given j r) (sym e) (given-suc m r h)
+given-some k m r h e = sym (given-refusal m r h e)
 
 -- ---- the volume
 

@@ -43,7 +43,7 @@ ghost use Rattle.mfs.specs.Checking.{Checks, Checked};
 ghost use Rattle.mfs.specs.Format.{formatted, Formats, Uses, overused, sizesOf};
 
 // The longest file.
-const FILE_LIMIT: u32 = 2_147_483_647;
+const FILE_LIMIT: u32 = model::FILE_LIMIT;
 
 // The answer of a call that gives nothing back.
 pub enum Answer {

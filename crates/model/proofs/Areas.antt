@@ -1,9 +1,9 @@
 -- What sound numbers give: the areas of a volume in order, and a bitmap that is large enough. Only this file and the port of
 -- super_block.rs read the formulas of D and reach.
-use mathlib.Core.Path.{_≡_, refl, sym, ap, _∙_, subst}
+use mathlib.Core.Path.{_≡_, sym, ap, subst}
 use mathlib.Core.List.{List}
-use Prim.Native.Nat.{ℕ, zero, suc, _+_, _-_, _*_, _/_, _%_, _^_, _≤_, _<_, min}
-use native.Mathlib.Nat.{one-le-pow}
+use Prim.Native.Nat.{ℕ, _+_, _-_, _*_, _^_, _≤_, _<_}
+use native.Mathlib.Nat.{one-le-pow, mul-suc, mul-comm, mul-le-mul-left}
 use native.Mathlib.Omega.{arith}
 use lib.Dec.{lit<}
 use lib.ListN.{length}
@@ -42,6 +42,13 @@ few g len s =
     let e : blockSize g ≡ 512 = ap (λ (c : ℕ). blockBytes * 2 ^ c) (s .known .1) in
     let h : g .n * 512 ≤ len = subst (λ (z : ℕ). g .n * z ≤ len) e (s .inside-image) in
     omega (arith, h, s .limit)
+
+-- one of n blocks lies in an image that has n, and so one of the volume
+pub row-inside : (B n len a : ℕ) → n * B ≤ len → a < n → B * a + B ≤ len
+row-inside B n len a h q = omega (arith, mul-le-mul-left B q, mul-suc B a, mul-comm B n)
+
+pub block-inside : (g : Geo) (len : ℕ) → Sound g len → (a : ℕ) → a < g .n → blockSize g * a + blockSize g ≤ len
+block-inside g len s a h = row-inside (blockSize g) (g .n) len a (s .inside-image) h
 
 -- W5: the used count is D plus the blocks that are reached
 pub set-bits : (g : Geo) (I J : List ℕ) (d : ℕ) (t : Tree d) → Sound g (length I)

@@ -1,7 +1,7 @@
 -- What format has to show: the volume with an empty root. (And so `Volume` is not empty.)
-use mathlib.Core.Path.{_≡_, refl, sym, ap, _∙_, subst}
+use mathlib.Core.Path.{_≡_, refl}
 use mathlib.Core.List.{List, [], _∷_, _++_}
-use Prim.Native.Nat.{ℕ, zero, suc, _+_, _-_, _*_, _/_, _%_, _^_, _≤_, _<_}
+use Prim.Native.Nat.{ℕ, _+_, _-_, _*_, _≤_, _<_}
 use native.Mathlib.Omega.{arith}
 use native.Mathlib.Decide.{ℕ-discrete}
 use lib.ListN.{length}
@@ -13,7 +13,7 @@ use Rattle.model.specs.Tree.{used, blank}
 use Rattle.model.specs.Render.{padded, entriesBytes, entryPieces, dirPieces, render, ats, count, blocks, blocksAt, Shows}
 use Rattle.model.specs.Geometry.{mapAt, blockSize, Geo, dataAt, superBytes, Sound, mapBits}
 use Rattle.model.specs.Volume.{namedIn, named, GoodTree, Volume}
-use Rattle.model.proofs.Counts.{count-same}
+use Rattle.model.proofs.Counts.{count-same, count-is}
 use Rattle.model.proofs.Areas.{laid-volume, area}
 
 blank-blocks : (B d a : ℕ) → blocks B d (blank d a) ≡ a ∷ []
@@ -34,13 +34,6 @@ count-one i a = go (ℕ-discrete i a)
     go : Dec (i ≡ a) → count i (a ∷ []) ≤ 1
     go (yes e) = omega (arith, count-same i a [] e, none)
     go (no e) = unfold count in omega (arith, pick-false {A = ℕ} 1 0 (ne-eqb i a e))
-
-count-is : (i a : ℕ) → 1 ≤ count i (a ∷ []) → i ≡ a
-count-is i a h = go (ℕ-discrete i a)
-  where
-    go : Dec (i ≡ a) → i ≡ a
-    go (yes e) = e
-    go (no e) = absurd (unfold count in omega (arith, h, pick-false {A = ℕ} 1 0 (ne-eqb i a e)))
 
 pub formatted : (g : Geo) (d : ℕ) (I : List ℕ) → Sound g (length I)
     → Shows I (blockSize g * g .K) (superBytes g (dataAt g + 1))

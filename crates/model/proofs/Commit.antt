@@ -1,12 +1,12 @@
 -- What a changing call has to show of its image, and no more, for the volume to be well formed again with the edited tree.
-use mathlib.Core.Path.{_≡_, refl, sym, ap, _∙_, subst}
-use mathlib.Core.Option.{Option, none, some}
-use mathlib.Core.List.{List, [], _∷_, _++_, append-assoc}
-use Prim.Native.Nat.{ℕ, zero, suc, _+_, _-_, _*_, _^_, _≤_, _<_}
+use mathlib.Core.Path.{_≡_, sym, ap, _∙_, subst}
+use mathlib.Core.Option.{some}
+use mathlib.Core.List.{List, _∷_, _++_}
+use Prim.Native.Nat.{ℕ, suc, _+_, _-_, _*_, _^_, _≤_, _<_}
 use native.Mathlib.Nat.{add-assoc}
 use native.Mathlib.Omega.{arith}
 use native.Mathlib.Decide.{decLt}
-use lib.ListN.{length, getD, replicate, length-append, List·getD-append}
+use lib.ListN.{length, getD, length-append, List·getD-append}
 use lib.Seq.{getD-append-add}
 use Rattle.wire.specs.Be.{bytes, splice}
 use Rattle.wire.proofs.Laws.{length-bytes, length-splice, splice-before, splice-in, splice-after}
@@ -24,16 +24,23 @@ use Rattle.model.proofs.Good.{good-edit}
 
 -- ---- lengths
 
+-- how many pieces a cut has
 cut-long : (a : List Piece) (x : Piece) (b us c : List Piece)
     → length (ats (a ++ (x ∷ (b ++ (us ++ c))))) ≡ length (ats a) + (1 + (length (ats b) + (length (ats us) + length (ats c))))
 unfolding ats
 cut-long a x b us c = omega (arith, length-ats a (x ∷ (b ++ (us ++ c))), length-ats b (us ++ c), length-ats us c)
 
-cut-length : (B : ℕ) (xs ys us vs : List Piece) (q : ℕ) (E E′ : List ℕ) → Cut B xs ys us vs q E E′ → length (ats ys) + length (ats us) ≡ length (ats xs) + length (ats vs)
+pub cut-length : (B : ℕ) (xs ys us vs : List Piece) (q : ℕ) (E E′ : List ℕ) → Cut B xs ys us vs q E E′ → length (ats ys) + length (ats us) ≡ length (ats xs) + length (ats vs)
 cut-length B xs ys us vs q E E′ c =
     let m = cut-long (c .before) (record { at = c .at; full = bytes 4 (c .next) ++ padded (B - 4) (c .low ++ (E ++ c .high)) }) (c .between) us (c .after) in
     let n = cut-long (c .before) (record { at = c .at; full = bytes 4 (c .next) ++ padded (B - 4) (c .low ++ (E′ ++ c .high)) }) (c .between) vs (c .after) in
     omega (arith, m, n, ap (λ (l : List Piece). length (ats l)) (c .old), ap (λ (l : List Piece). length (ats l)) (c .new))
+
+-- what is replaced is no longer than the whole
+pub cut-shorter : (B : ℕ) (xs ys us vs : List Piece) (q : ℕ) (E E′ : List ℕ) → Cut B xs ys us vs q E E′ → length (ats us) ≤ length (ats xs)
+cut-shorter B xs ys us vs q E E′ c =
+    let m = cut-long (c .before) (record { at = c .at; full = bytes 4 (c .next) ++ padded (B - 4) (c .low ++ (E ++ c .high)) }) (c .between) us (c .after) in
+    omega (arith, m, ap (λ (l : List Piece). length (ats l)) (c .old))
 
 -- ---- what a call shows
 

@@ -61,6 +61,15 @@ length-places (c ∷ cs) = ap suc (length-places cs)
 
 -- ---- how many blocks a size needs
 
+-- as code computes it
+pub blocks-none : (s : ℕ) → s ≡ 0 → 1 ≡ blocksFor 512 s
+unfolding blocksFor
+blocks-none s e = omega arith
+
+pub blocks-last : (s : ℕ) → (s ≡ 0 → ⊥) → (s - 1) / 508 + 1 ≡ blocksFor 512 s
+unfolding blocksFor
+blocks-last s e = omega arith
+
 module _ (B : ℕ) (five : 5 ≤ B) where
   -- at least one
   pub blocks-some : (s : ℕ) → 1 ≤ blocksFor B s

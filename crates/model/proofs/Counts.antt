@@ -1,16 +1,16 @@
 -- How often a block stands among the pieces of a tree: the laws of `count`, `ats` and `tally`, and the number of set bits by them.
-use mathlib.Core.Path.{_≡_, refl, sym, ap, _∙_}
+use mathlib.Core.Path.{_≡_, refl, ap, _∙_}
 use mathlib.Core.List.{List, [], _∷_, _++_}
-use Prim.Native.Nat.{ℕ, zero, suc, _+_, _-_, _≤_, _<_}
-use native.Mathlib.Nat.{add-zero}
+use Prim.Native.Nat.{ℕ, zero, suc, _+_, _≤_, _<_}
 use native.Mathlib.Omega.{arith}
 use native.Mathlib.Decide.{ℕ-discrete}
 use lib.ListN.{length, length-append}
 use borrow.Author.Tests.{eq-eqb, ne-eqb}
 use Rattle.wire.proofs.Picks.{pick-true, pick-false}
 use Rattle.bits.specs.Bit.{bit, ones}
-use Rattle.model.specs.Tree.{Entry, Block}
-use Rattle.model.specs.Render.{Piece, View, nodePieces, entryPieces, dirPieces, ats, count}
+use Rattle.model.specs.Tree.{Cell, Entry, Block}
+use Rattle.model.specs.Render.{Piece, View, cellPieces, nodePieces, entryPieces, dirPieces, ats, count}
+use Rattle.model.specs.Calls.{places}
 
 pub count-same : (i b : ℕ) (bs : List ℕ) → i ≡ b → count i (b ∷ bs) ≡ suc (count i bs)
 unfolding count
@@ -23,6 +23,17 @@ count-other i b bs e = omega (arith, pick-false {A = ℕ} 1 0 (ne-eqb i b e))
 pub count-none : (i : ℕ) → count i [] ≡ 0
 unfolding count
 count-none i = refl
+
+-- in a list of one
+pub count-self : (a : ℕ) → count a (a ∷ []) ≡ 1
+count-self a = count-same a a [] refl ∙ ap suc (count-none a)
+
+pub count-is : (i a : ℕ) → 1 ≤ count i (a ∷ []) → i ≡ a
+count-is i a h = go (ℕ-discrete i a)
+  where
+    go : Dec (i ≡ a) → i ≡ a
+    go (yes e) = e
+    go (no e) = absurd (omega (arith, count-other i a [] e, count-none i))
 
 pub count-cons : (i b : ℕ) (bs : List ℕ) → count i (b ∷ bs) ≡ count i (b ∷ []) + count i bs
 unfolding count
@@ -40,6 +51,17 @@ ats-append (x ∷ xs) ys = ap (λ (l : List ℕ). x .at ∷ l) (ats-append xs ys
 
 pub length-ats : (xs ys : List Piece) → length (ats (xs ++ ys)) ≡ length (ats xs) + length (ats ys)
 length-ats xs ys = ap length (ats-append xs ys) ∙ length-append (ats xs) (ats ys)
+
+-- the pieces of a chain stand at its places, one to a block
+pub ats-cells : (cs : List Cell) → ats (cellPieces cs) ≡ places cs
+unfolding ats cellPieces places
+ats-cells [] = refl
+ats-cells (c ∷ cs) = ap (λ (l : List ℕ). c .at ∷ l) (ats-cells cs)
+
+pub cells-long : (cs : List Cell) → length (ats (cellPieces cs)) ≡ length cs
+unfolding cellPieces ats
+cells-long [] = refl
+cells-long (c ∷ cs) = ap suc (cells-long cs)
 
 -- how often block i is in the pieces
 unfoldable pub tally : ℕ → List Piece → ℕ

@@ -1,20 +1,20 @@
 -- What an edit at a path does to the pieces: those of the directory are replaced, one block is renewed in one entry, and all others stay.
 use mathlib.Core.Path.{_≡_, refl, sym, ap, _∙_, subst}
-use mathlib.Core.Bool.{Bool, true, false}
+use mathlib.Core.Bool.{true, false}
 use mathlib.Core.Logic.{_⊎_, inl, inr}
 use mathlib.Core.Option.{Option, none, some}
-use mathlib.Core.List.{List, [], _∷_, _++_, append-assoc, append-nil}
-use Prim.Native.Nat.{ℕ, zero, suc, _+_, _-_, _*_, _≤_, _<_}
-use native.Mathlib.Nat.{add-zero}
+use mathlib.Core.List.{List, [], _∷_, _++_, append-assoc}
+use Prim.Native.Nat.{ℕ, zero, suc, _+_, _-_, _*_}
 use native.Mathlib.Omega.{arith}
-use lib.ListN.{length, getD, length-append}
+use lib.ListN.{length}
 use Rattle.wire.specs.Be.{bytes}
 use Rattle.wire.proofs.Picks.{either, pick-true, pick-false}
 use Rattle.model.specs.Tree.{Name, Node, file, device, sub, Entry, Block, Tree, first, onFirst, then, called, holds, lookup, weight, used, sum, fill, change, Edit, renew, renewed, atEnd, edit, inside, Some, find}
-use Rattle.model.specs.Render.{Piece, View, blocksAt, padded, entryBytes, entriesBytes, nodePieces, entryPieces, dirPieces, view, render, offset, placeOf, ownTime, blocks}
-use Rattle.model.proofs.Alike.{change-at, change-sum, length-entry, entry-above}
+use Rattle.model.specs.Render.{Piece, View, blocksAt, padded, entryBytes, entriesBytes, nodePieces, entryPieces, dirPieces, view, render, offset, placeOf, ownTime}
+use Rattle.model.proofs.Alike.{change-at, change-sum, entry-above}
 use Rattle.model.proofs.Edits.{renewed-name, find-sub}
 use Rattle.model.proofs.Lists.{then-some, not-some, first-here, first-there, onFirst-here, onFirst-there}
+use Rattle.model.proofs.Full.{length-entries}
 
 -- ---- the place of an entry in a list of entries, and of its block in a directory
 
@@ -123,20 +123,23 @@ module _ {X : Type 0} (B : ℕ) (v : View X) where
   dir-split [] b ys = refl
   dir-split (x ∷ xs) b ys = rw (at-split xs b ys, dir-split xs b ys, append-assoc)
 
+  pub pieces-both : (l r : List (Entry X)) → entryPieces v (l ++ r) ≡ entryPieces v l ++ entryPieces v r
+  unfolding entryPieces
+  pieces-both [] r = refl
+  pieces-both (x ∷ l) r = rw (pieces-both l r, append-assoc)
+
   pub entries-split : (l : List (Entry X)) (e : Entry X) (r : List (Entry X)) → entryPieces v (l ++ (e ∷ r)) ≡ entryPieces v l ++ (nodePieces v (e .node) ++ entryPieces v r)
   unfolding entryPieces
-  entries-split [] e r = refl
-  entries-split (x ∷ l) e r = rw (entries-split l e r, append-assoc)
+  entries-split l e r = unfold entryPieces in pieces-both l (e ∷ r)
+
+  pub bytes-both : (l r : List (Entry X)) → entriesBytes v (l ++ r) ≡ entriesBytes v l ++ entriesBytes v r
+  unfolding entriesBytes
+  bytes-both [] r = refl
+  bytes-both (x ∷ l) r = rw (bytes-both l r, append-assoc)
 
   pub bytes-split : (l : List (Entry X)) (e : Entry X) (r : List (Entry X)) → entriesBytes v (l ++ (e ∷ r)) ≡ entriesBytes v l ++ (entryBytes v e ++ entriesBytes v r)
   unfolding entriesBytes
-  bytes-split [] e r = refl
-  bytes-split (x ∷ l) e r = rw (bytes-split l e r, append-assoc)
-
-  length-left : (es : List (Entry X)) → length (entriesBytes v es) ≡ used es
-  unfolding entriesBytes used
-  length-left [] = refl
-  length-left (e ∷ es) = rw length-append (omega (arith, length-entry v e, length-left es))
+  bytes-split l e r = unfold entriesBytes in bytes-both l (e ∷ r)
 
 -- The pieces xs become ys: us become vs, and in one block the entry E, which begins at byte `place` of the image, becomes E′.
 pub record Cut (B : ℕ) (xs ys us vs : List Piece) (place : ℕ) (E E′ : List ℕ) : Type 0 where
@@ -190,7 +193,7 @@ module _ {X : Type 0} (B : ℕ) (v : View X) where
         high = entriesBytes v (s .right);
         old = ap (dirPieces B v) (s .is) ∙ dir-at (s .earlier) (s .at) (s .left) e (s .right) (s .later);
         new = ap (dirPieces B v) (s .becomes) ∙ dir-at (s .earlier) (s .at) (s .left) (h e) (s .right) (s .later);
-        stands = s .place ∙ omega (arith, length-left B v (s .left));
+        stands = s .place ∙ omega (arith, length-entries v (s .left));
       }
 
 -- An edit at a path below the root: the directory's pieces are replaced, and its own entry is renewed.
@@ -203,7 +206,7 @@ pub record OwnCut (B d : ℕ) (p : List Name) (g : ℕ → ℕ) (f : Edit) (t : 
       (entryBytes (view B (suc (s .0))) (record { name = name; time = time; node = sub (s .1) }))
       (entryBytes (view B (suc (s .0))) (record { name = name; time = g time; node = sub (f (s .0) (s .1)) }))
 
-cut-to : (B : ℕ) (xs ys xs′ ys′ us vs : List Piece) (q : ℕ) (E E′ : List ℕ) → xs ≡ xs′ → ys ≡ ys′ → Cut B xs′ ys′ us vs q E E′ → Cut B xs ys us vs q E E′
+pub cut-to : (B : ℕ) (xs ys xs′ ys′ us vs : List Piece) (q : ℕ) (E E′ : List ℕ) → xs ≡ xs′ → ys ≡ ys′ → Cut B xs′ ys′ us vs q E E′ → Cut B xs ys us vs q E E′
 cut-to B xs ys xs′ ys′ us vs q E E′ a b c =
     subst (λ (z : List Piece). Cut B z ys us vs q E E′) (sym a) (subst (λ (z : List Piece). Cut B xs′ z us vs q E E′) (sym b) c)
 

@@ -1,23 +1,20 @@
 -- Demand 3.
 use mathlib.Core.Path.{_≡_, refl, sym, ap, _∙_, subst}
-use mathlib.Core.Bool.{Bool, true, false}
-use mathlib.Core.Logic.{_⊎_, inl, inr}
-use mathlib.Core.Option.{Option, none, some}
-use mathlib.Core.List.{List, [], _∷_, _++_}
+use mathlib.Core.Bool.{true}
+use mathlib.Core.Option.{some}
+use mathlib.Core.List.{List, [], _∷_}
 use Prim.Native.Nat.{ℕ, zero, suc, _+_, _-_, _*_, _/_, _%_, _^_, _≤_, _<_}
-use native.Mathlib.Nat.{pow-suc, one-le-pow}
+use native.Mathlib.Nat.{pow-suc}
 use native.Mathlib.Omega.{arith}
 use native.Mathlib.Decide.{ℕ-discrete}
-use lib.Dec.{lit<, eqb}
-use lib.Arith.{lt-one}
 use lib.ListN.{length, getD, length-append}
-use borrow.Author.Tests.{eq-eqb, ne-eqb}
+use borrow.Author.Tests.{ne-eqb}
 use Rattle.wire.specs.Be.{bytes}
 use Rattle.wire.proofs.Laws.{length-bytes}
 use Rattle.wire.proofs.Picks.{not-both, pick-false, same-refl}
 use Rattle.bits.specs.Bit.{digit, bit}
 use Rattle.bits.proofs.Digits.{digit-zero, digit-suc}
-use Rattle.model.specs.Tree.{Name, Cell, file, Tree, called, Absent, Packed, insert, change, delete, Edit, edit, Some, find}
+use Rattle.model.specs.Tree.{Name, Cell, Tree, called, Absent, Packed, insert, change, delete, Edit, edit, Some, find}
 use Rattle.model.specs.Render.{Piece, render, ats, count, ShowsAll, blocks, ownTime, InTime}
 use Rattle.model.specs.Geometry.{Geo, blockSize, mapAt, dataAt, superBytes}
 use Rattle.model.specs.Volume.{All, Volume}
@@ -31,7 +28,7 @@ use Rattle.model.proofs.Full.{good-find, Whole, whole-tree, length-padd
 
 -- ---- the tree
 
-called-file : (X : Type 0) (n : Name) (now s : ℕ) (cs : List Cell) → called {X = X} n (fileEntry n now s cs) ≡ true
+pub called-file : (X : Type 0) (n : Name) (now s : ℕ) (cs : List Cell) → called {X = X} n (fileEntry n now s cs) ≡ true
 unfolding called fileEntry
 called-file X n now s cs = same-refl n
 

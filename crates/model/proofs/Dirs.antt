@@ -1,10 +1,10 @@
 -- The laws of the edits of one directory: what is put in and taken out again leaves it as it was.
-use mathlib.Core.Path.{_≡_, refl, sym, ap, _∙_, subst}
-use mathlib.Core.Bool.{Bool, true, false}
+use mathlib.Core.Path.{_≡_, refl, sym, ap, _∙_}
+use mathlib.Core.Bool.{true, false}
 use mathlib.Core.Logic.{_⊎_, inl, inr}
 use mathlib.Core.Option.{Option, none, some}
 use mathlib.Core.List.{List, [], _∷_, _++_}
-use Prim.Native.Nat.{ℕ, zero, suc, _+_, _≤_}
+use Prim.Native.Nat.{ℕ, _+_, _≤_}
 use native.Mathlib.Omega.{arith}
 use lib.Dec.{leb}
 use lib.ListN.{length}
@@ -76,10 +76,11 @@ module _ {X : Type 0} where
   delete-absent n [] a = refl
   delete-absent n (b ∷ bs) a = pick-false _ _ (none-head (holds n) b bs a) ∙ ap (λ (l : List (Block X)). b ∷ l) (later-absent n bs (none-tail (holds n) b bs a))
 
-  bare-filled : (a : ℕ) (es : List (Entry X)) (bs : List (Block X)) → 1 ≤ length es → unlessBare a es bs ≡ record { at = a; entries = es } ∷ bs
+  -- a block that keeps an entry stays
+  pub not-bare : (a : ℕ) (es : List (Entry X)) (bs : List (Block X)) → 1 ≤ length es → unlessBare a es bs ≡ record { at = a; entries = es } ∷ bs
   unfolding unlessBare
-  bare-filled a [] bs h = absurd (omega arith)
-  bare-filled a (e ∷ es) bs h = refl
+  not-bare a [] bs h = absurd (omega arith)
+  not-bare a (e ∷ es) bs h = refl
 
   -- An entry of the name n is put in.
   module _ (cap w : ℕ) (n : Name) (e : Entry X) (c : called n e ≡ true) where
@@ -156,7 +157,7 @@ module _ {X : Type 0} where
             ap (deleteLater n) (pick-true (with b ∷ bs) (b ∷ insert cap w e bs) r)
             ∙ pick-true _ _ (holds-with b)
             ∙ ap (λ (es : List (Entry X)). unlessBare (b .at) es bs) (less b no)
-            ∙ bare-filled (b .at) (b .entries) bs (f .0)
+            ∙ not-bare (b .at) (b .entries) bs (f .0)
         go (inr r) i =
             ap (deleteLater n) (pick-false (with b ∷ bs) (b ∷ insert cap w e bs) r)
             ∙ pick-false _ _ no

@@ -1,11 +1,8 @@
 -- The laws of an edit at a path.
 use mathlib.Core.Path.{_≡_, refl, sym, ap, _∙_, subst}
-use mathlib.Core.Bool.{Bool, true, false}
-use mathlib.Core.Logic.{_⊎_, inl, inr}
 use mathlib.Core.Option.{Option, none, some}
-use mathlib.Core.List.{List, [], _∷_, _++_}
+use mathlib.Core.List.{List, [], _∷_}
 use Prim.Native.Nat.{ℕ, zero, suc}
-use native.Mathlib.Omega.{arith}
 use Rattle.model.specs.Tree.{Cell, Name, Node, file, device, sub, Entry, Tree, then, lookup, Edit, renew, renewed, atEnd, edit, Some, inside, find}
 use Rattle.model.specs.Calls.{refiled}
 use Rattle.model.proofs.Dirs.{Keeps, change-twice, change-ext, change-same, lookup-change}

@@ -1,21 +1,49 @@
--- What code reads of an entry that the image shows, and where a block's entries stop.
-use mathlib.Core.Path.{_≡_, refl, sym, ap, _∙_, subst}
+-- What code reads of a number and of an entry that the image shows, and where a block's entries stop.
+use mathlib.Core.Path.{_≡_, sym, ap, _∙_, subst}
 use mathlib.Core.List.{List, [], _∷_, _++_}
-use Prim.Native.Nat.{ℕ, zero, suc, _+_, _-_, _*_, _^_, _≤_, _<_}
-use native.Mathlib.Nat.{add-zero}
+use Prim.Native.Nat.{ℕ, zero, suc, _+_, _-_, _*_, _/_, _%_, _^_, _≤_, _<_}
+use native.Mathlib.Nat.{add-zero, pow-suc}
 use native.Mathlib.Omega.{arith}
 use lib.ListN.{length, getD, replicate, length-append, length-replicate, getD-replicate}
 use Rattle.wire.specs.Be.{be, bytes}
 use Rattle.wire.proofs.Laws.{length-bytes, be-bytes, be-ext}
+use Rattle.block.specs.Block.{next}
 use Rattle.model.specs.Tree.{Entry, used}
 use Rattle.model.specs.Render.{View, padded, kindOf, addressOf, sizeOf, entryBytes, entriesBytes, Shows}
-use Rattle.model.proofs.Commit.{shows-one, shows-two}
+use Rattle.model.specs.Steps.{Bytes}
+use Rattle.model.proofs.Commit.{shows-both, shows-one, shows-two}
 use Rattle.model.proofs.Cuts.{bytes-split}
 use Rattle.model.proofs.Full.{length-entries}
 
 -- a number that the image shows is read
 pub be-shown : (I : List ℕ) (k n v : ℕ) → v < 256 ^ n → Shows I k (bytes n v) → be n I k ≡ v
 be-shown I k n v h s = be-ext n I (bytes n v) k 0 (λ i q. s i (omega (arith, length-bytes n v)) ∙ ap (λ (z : ℕ). getD (bytes n v) z 0) (let e : i ≡ 0 + i = omega arith in e)) ∙ be-bytes n v h
+
+-- so is the next address of a block
+pub next-shown : (B : ℕ) (I : List ℕ) (a z : ℕ) (l : List ℕ) → z < 2 ^ 32 → Shows I (B * a) (bytes 4 z ++ l) → next B I a ≡ z
+unfolding next
+next-shown B I a z l h s = be-shown I (B * a) 4 z h (shows-one I (B * a) (bytes 4 z) l s)
+
+-- a number that is read fits its field,
+pub be-fits : (n : ℕ) (I : List ℕ) (at : ℕ) → Bytes I → be n I at < 256 ^ n
+unfolding be
+be-fits zero I at b = omega arith
+be-fits (suc n) I at b = rw pow-suc (omega (arith, be-fits n I at b, b (at + n)))
+
+-- and its bytes are those that the image shows
+pub bytes-shown : (n : ℕ) (I : List ℕ) (at : ℕ) → Bytes I → Shows I at (bytes n (be n I at))
+unfolding be bytes
+bytes-shown zero I at b = λ i h. absurd (omega arith)
+bytes-shown (suc n) I at b =
+    let v : ℕ = be n I at * 256 + getD I (at + n) 0 in
+    let q : v / 256 ≡ be n I at = omega (arith, b (at + n)) in
+    let r : v % 256 ≡ getD I (at + n) 0 = omega (arith, b (at + n)) in
+    let l : length (bytes n (v / 256)) ≡ n = length-bytes n (v / 256) in
+    shows-both I at (bytes n (v / 256)) ((v % 256) ∷ [])
+    (subst (λ (x : ℕ). Shows I at (bytes n x)) (sym q) (bytes-shown n I at b))
+    (λ i h.
+    let z : i ≡ 0 = omega arith in
+    rw (z, l, add-zero) (sym r))
 
 -- The fields of the entry at byte k.
 pub record Reads {X : Type 0} (v : View X) (I : List ℕ) (k : ℕ) (e : Entry X) : Type 0 where

@@ -1,6 +1,6 @@
 -- The tree determines the image, but for the blocks that are neither superblock nor bitmap nor reached: what makes "any two outcomes are equal" a lemma.
 use mathlib.Core.Path.{_≡_, sym, ap, _∙_}
-use mathlib.Core.List.{List, []}
+use mathlib.Core.List.{List}
 use Prim.Native.Nat.{ℕ, suc, _+_, _-_, _*_, _/_, _%_, _≤_, _<_}
 use native.Mathlib.Nat.{mul-add, mul-suc, mul-le-mul-left, mod-lt, div-add-mod}
 use native.Mathlib.Omega.{arith}

@@ -1,20 +1,18 @@
 -- From a cut to the blocks of the tree, and to an image that shows the edited tree.
 use mathlib.Core.Path.{_≡_, refl, sym, ap, _∙_, subst}
-use mathlib.Core.Bool.{Bool, true, false}
-use mathlib.Core.Option.{Option, none, some}
+use mathlib.Core.Option.{some}
 use mathlib.Core.List.{List, [], _∷_, _++_}
 use Prim.Native.Nat.{ℕ, zero, suc, _+_, _-_, _*_, _≤_, _<_}
 use native.Mathlib.Omega.{arith}
-use lib.Dec.{eqb}
-use lib.ListN.{length, getD}
-use borrow.Author.Tests.{eq-eqb}
+use lib.ListN.{getD}
 use Rattle.wire.specs.Be.{bytes}
 use Rattle.model.specs.Tree.{Name, Tree, Edit, edit, Some, find}
 use Rattle.model.specs.Render.{Piece, padded, ats, count, blocks, ShowsAll, Shows}
 use Rattle.model.specs.Volume.{All}
-use Rattle.model.proofs.Counts.{count-same, count-cons, count-append, ats-append}
+use Rattle.model.proofs.Counts.{count-same, count-cons, count-append, ats-append, count-self}
 use Rattle.model.proofs.Cuts.{Cut, own-cut}
 use Rattle.model.proofs.Full.{Whole}
+use Rattle.model.proofs.Lists.{all-left, all-right}
 
 -- how often a block is in the pieces of a cut
 cut-tally : (i : ℕ) (a : List Piece) (x : Piece) (b us c : List Piece)
@@ -33,6 +31,24 @@ module _ (B : ℕ) (xs ys us vs : List Piece) (q : ℕ) (E E′ : List ℕ) (c :
       let o = ap (λ (l : List Piece). count i (ats l)) (c .old) in
       let p = ap (λ (l : List Piece). count i (ats l)) (c .new) in
       omega (arith, m, n, o, p)
+
+  -- What is replaced, and the block with the entry, are in the whole, before and after.
+  pub cut-within : (i : ℕ) → count i (c .at ∷ []) + count i (ats us) ≤ count i (ats xs)
+  cut-within i =
+      let m = cut-tally i (c .before) (record { at = c .at; full = bytes 4 (c .next) ++ padded (B - 4) (c .low ++ (E ++ c .high)) }) (c .between) us (c .after) in
+      omega (arith, m, ap (λ (l : List Piece). count i (ats l)) (c .old))
+
+  pub cut-within-new : (i : ℕ) → count i (c .at ∷ []) + count i (ats vs) ≤ count i (ats ys)
+  cut-within-new i =
+      let n = cut-tally i (c .before) (record { at = c .at; full = bytes 4 (c .next) ++ padded (B - 4) (c .low ++ (E′ ++ c .high)) }) (c .between) vs (c .after) in
+      omega (arith, n, ap (λ (l : List Piece). count i (ats l)) (c .new))
+
+  -- so the block is one of the whole
+  pub cut-old : 1 ≤ count (c .at) (ats xs)
+  cut-old = omega (arith, cut-within (c .at), count-self (c .at))
+
+  pub cut-new : 1 ≤ count (c .at) (ats ys)
+  cut-new = omega (arith, cut-within-new (c .at), count-self (c .at))
 
 -- An edit's effect on the blocks that are reached.
 pub blocks-edit : (B d : ℕ) (p : List Name) (g : ℕ → ℕ) (f : Edit) (t : Tree d) (s : Some) → find d p t ≡ some s
@@ -64,14 +80,6 @@ module _ (B : ℕ) (I : List ℕ) where
   pub shows-right : (xs ys : List Piece) → ShowsAll B I (xs ++ ys) → ShowsAll B I ys
   shows-right [] ys a = a
   shows-right (x ∷ xs) ys a = shows-right xs ys (a .1)
-
-all-left : {A : Type 0} (P : A → Type 0) (xs ys : List A) → All P (xs ++ ys) → All P xs
-all-left P [] ys a = tt
-all-left P (x ∷ xs) ys a = (a .0, all-left P xs ys (a .1))
-
-all-right : {A : Type 0} (P : A → Type 0) (xs ys : List A) → All P (xs ++ ys) → All P ys
-all-right P [] ys a = a
-all-right P (x ∷ xs) ys a = all-right P xs ys (a .1)
 
 -- what both images have alike both show
 pub shows-frame : (B : ℕ) (I I′ : List ℕ) (xs : List Piece) → All (Whole B) xs → ((b : ℕ) → 1 ≤ count b (ats xs) → SameBlock B I I′ b) → ShowsAll B I xs → ShowsAll B I′ xs

@@ -3,18 +3,19 @@ use mathlib.Core.Path.{_≡_, refl, sym, ap, _∙_, subst}
 use mathlib.Core.Bool.{Bool, true, false}
 use mathlib.Core.Logic.{_⊎_, inl, inr}
 use mathlib.Core.Option.{Option, none, some}
-use mathlib.Core.List.{List, [], _∷_, _++_}
-use Prim.Native.Nat.{ℕ, zero, suc, _+_, _-_, _*_, _≤_, _<_, _^_}
+use mathlib.Core.List.{List, [], _∷_, _++_, append-assoc}
+use Prim.Native.Nat.{ℕ, zero, suc, _+_, _-_, _≤_}
 use native.Mathlib.Omega.{arith}
-use lib.ListN.{length, getD, replicate, length-append, length-replicate}
-use Rattle.wire.proofs.Laws.{length-bytes}
+use lib.ListN.{length, length-append, length-replicate, getD}
+use Rattle.wire.specs.Be.{bytes, zeros}
+use Rattle.wire.proofs.Laws.{length-bytes, getD-zeros}
 use Rattle.wire.proofs.Picks.{either}
 use Rattle.model.specs.Tree.{Name, Cell, Node, file, device, sub, Entry, Block, Below, Tree, first, then, called, holds, lookup, used, inside, Some, find}
 use Rattle.model.specs.Render.{Piece, View, blocksAt, cellsAt, padded, entriesBytes, cellPieces, nodePieces, entryPieces, dirPieces, view, render}
 use Rattle.model.specs.Volume.{All, GoodCell, GoodNode, GoodEntry, GoodBlock, GoodDir, GoodBelow, GoodTree}
 use Rattle.model.proofs.Alike.{length-entry}
 use Rattle.model.proofs.Edits.{find-sub}
-use Rattle.model.proofs.Lists.{then-some, not-some, first-here, first-there}
+use Rattle.model.proofs.Lists.{then-some, not-some, all-append, first-here, first-there}
 
 pub all-first : {A : Type 0} (P : A → Type 0) (q : A → Bool) (l : List A) (x : A) → All P l → first q l ≡ some x → P x
 unfolding first
@@ -24,10 +25,6 @@ all-first {A} P q (y ∷ l) x a f = go (either (q y)) (all-first P q l x (a .1))
     go : (q y ≡ true) ⊎ (q y ≡ false) → (first q l ≡ some x → P x) → P x
     go (inl e) r = let both : some y ≡ some x = sym (first-here q y l e) ∙ f in let k : y ≡ x = cc in subst P k (a .0)
     go (inr e) r = r (sym (first-there q y l e) ∙ f)
-
-pub all-append : {A : Type 0} (P : A → Type 0) (l m : List A) → All P l → All P m → All P (l ++ m)
-all-append P [] m a b = b
-all-append P (x ∷ l) m a b = (a .0, all-append P l m (a .1) b)
 
 module _ {X : Type 0} (B : ℕ) (S : X → Type 0) where
   pub good-lookup : (n : Name) (bs : List (Block X)) (e : Entry X) → GoodDir B S bs → lookup n bs ≡ some e → GoodEntry B S e
@@ -72,7 +69,28 @@ pub length-padded : (n : ℕ) (l : List ℕ) → length l ≤ n → length (padd
 unfolding padded
 length-padded n l h = rw (length-append, length-replicate) (omega arith)
 
-whole-cells : (B : ℕ) → 5 ≤ B → (cs : List Cell) → All (GoodCell B) cs → All (Whole B) (cellPieces cs)
+-- the first part of what is padded, then the rest padded
+pub padded-after : (c : ℕ) (l m : List ℕ) → padded c (l ++ m) ≡ l ++ padded (c - length l) m
+unfolding padded
+padded-after c l m =
+    let k : c - (length l + length m) ≡ c - length l - length m = omega arith in
+    rw (length-append, k, append-assoc)
+
+pub padded-none : (k : ℕ) → padded k [] ≡ zeros k
+unfolding padded
+padded-none k = let e : k - 0 ≡ k = omega arith in ap zeros e
+
+-- a block of zeros, as the block of an empty chain shows it
+pub zero-block : (B : ℕ) → 4 ≤ B → zeros B ≡ bytes 4 0 ++ zeros (B - 4)
+unfolding bytes
+zero-block B h = let e : B ≡ suc (suc (suc (suc (B - 4)))) = omega arith in ap zeros e
+
+pub zero-byte : (k i : ℕ) → getD (bytes 4 0 ++ zeros k) i 0 ≡ 0
+zero-byte k i =
+    let e : 4 + k - 4 ≡ k = omega arith in
+    ap (λ (j : ℕ). getD (bytes 4 0 ++ zeros j) i 0) (sym e) ∙ ap (λ (l : List ℕ). getD l i 0) (sym (zero-block (4 + k) (omega arith))) ∙ getD-zeros (4 + k) i
+
+pub whole-cells : (B : ℕ) → 4 ≤ B → (cs : List Cell) → All (GoodCell B) cs → All (Whole B) (cellPieces cs)
 unfolding cellPieces
 whole-cells B h [] a = tt
 whole-cells B h (c ∷ cs) a = (rw length-append (omega (arith, length-bytes 4 (cellsAt cs), a .0 .whole)), whole-cells B h cs (a .1))
@@ -80,8 +98,8 @@ whole-cells B h (c ∷ cs) a = (rw length-append (omega (arith, length-bytes 4 (
 module _ {X : Type 0} (B : ℕ) (large : 5 ≤ B) (S : X → Type 0) (v : View X) (below : (x : X) → S x → All (Whole B) (v .pieces x)) where
   whole-node : (x : Node X) → GoodNode B S x → All (Whole B) (nodePieces v x)
   unfolding nodePieces
-  whole-node (file z cs) g = whole-cells B large cs (g .cells)
-  whole-node (device z cs) g = whole-cells B large cs (g .cells)
+  whole-node (file z cs) g = whole-cells B (omega arith) cs (g .cells)
+  whole-node (device z cs) g = whole-cells B (omega arith) cs (g .cells)
   whole-node (sub x) g = below x g
 
   whole-entries : (es : List (Entry X)) → All (GoodEntry B S) es → All (Whole B) (entryPieces v es)

@@ -2,21 +2,20 @@
 use mathlib.Core.Path.{_≡_, refl, sym, ap, _∙_, subst}
 use mathlib.Core.Bool.{Bool, true, false}
 use mathlib.Core.Logic.{_⊎_, inl, inr}
-use mathlib.Core.Option.{Option, none, some}
+use mathlib.Core.Option.{Option, some}
 use mathlib.Core.List.{List, [], _∷_, _++_}
-use Prim.Native.Nat.{ℕ, zero, suc, _+_, _-_, _*_, _≤_, _<_, _^_}
+use Prim.Native.Nat.{ℕ, zero, suc, _+_, _-_, _≤_, _<_, _^_}
 use native.Mathlib.Omega.{arith}
 use lib.Dec.{leb}
 use lib.ListN.{length, length-append}
-use borrow.Author.Tests.{leb-true, leb-false}
+use borrow.Author.Tests.{leb-true}
 use Rattle.wire.specs.Pick.{pick, same}
 use Rattle.wire.proofs.Picks.{either, pick-true, pick-false, same-eq}
 use Rattle.model.specs.Tree.{Name, Node, file, device, sub, Entry, Block, Tree, any, first, onFirst, lessFirst, called, holds, Absent, lookup, weight, used, Filled, Packed, fill, insert, change, unlessBare, deleteLater, delete, Edit, renew, renewed, atEnd, edit, inside, Some, find}
 use Rattle.model.specs.Volume.{All, named, namedIn, GoodName, GoodNode, GoodEntry, GoodBlock, GoodDir, GoodBelow, GoodTree}
 use Rattle.model.proofs.Dirs.{Keeps}
 use Rattle.model.proofs.Edits.{renewed-name, find-sub}
-use Rattle.model.proofs.Full.{all-append}
-use Rattle.model.proofs.Lists.{not-some, then-some, none-head, none-tail, first-here, first-there, onFirst-here, onFirst-there, lessFirst-here, lessFirst-there}
+use Rattle.model.proofs.Lists.{not-some, then-some, all-append, none-head, none-tail, first-here, first-there, onFirst-here, onFirst-there, lessFirst-here, lessFirst-there}
 
 pub all-onFirst : {A : Type 0} (P : A → Type 0) (q : A → Bool) (h : A → A) (l : List A) → All P l → ((x : A) → first q l ≡ some x → P x → P (h x)) → All P (onFirst q h l)
 unfolding onFirst
@@ -138,12 +137,12 @@ good-edit B (suc d) (n ∷ p) g f t s h a b q =
 
 -- ---- insert
 
-none-named : {X : Type 0} (m : Name) (es : List (Entry X)) → any (called m) es ≡ false → named m es ≡ 0
+pub none-named : {X : Type 0} (m : Name) (es : List (Entry X)) → any (called m) es ≡ false → named m es ≡ 0
 unfolding named
 none-named m [] n = refl
 none-named m (x ∷ es) n = omega (arith, pick-false {A = ℕ} 1 0 (none-head (called m) x es n), none-named m es (none-tail (called m) x es n))
 
-none-in : {X : Type 0} (m : Name) (bs : List (Block X)) → Absent m bs → namedIn m bs ≡ 0
+pub none-in : {X : Type 0} (m : Name) (bs : List (Block X)) → Absent m bs → namedIn m bs ≡ 0
 unfolding namedIn holds
 none-in m [] n = refl
 none-in m (b ∷ bs) n = omega (arith, none-named m (b .entries) (none-head (holds m) b bs n), none-in m bs (none-tail (holds m) b bs n))

@@ -1,16 +1,15 @@
--- What an insert does to the blocks that a directory reaches: the entry's own come, and a new directory block if none had room.
-use mathlib.Core.Path.{_≡_, refl, sym, ap, _∙_, subst}
-use mathlib.Core.Bool.{Bool, true, false}
+-- What an insert does to the blocks that a directory reaches: the entry's own come, and a new directory block if none had room. It begins where it did.
+use mathlib.Core.Path.{_≡_, ap}
+use mathlib.Core.Bool.{true, false}
 use mathlib.Core.Logic.{_⊎_, inl, inr}
 use mathlib.Core.List.{List, [], _∷_, _++_}
-use Prim.Native.Nat.{ℕ, zero, suc, _+_, _-_, _*_, _≤_, _<_}
+use Prim.Native.Nat.{ℕ, _+_}
 use native.Mathlib.Omega.{arith}
 use lib.Dec.{leb}
-use lib.ListN.{length}
 use Rattle.wire.specs.Pick.{pick}
-use Rattle.wire.proofs.Picks.{either}
-use Rattle.model.specs.Tree.{Entry, Block, any, weight, used, fill, insert}
-use Rattle.model.specs.Render.{View, nodePieces, entryPieces, dirPieces, count}
+use Rattle.wire.proofs.Picks.{either, pick-true, pick-false}
+use Rattle.model.specs.Tree.{Entry, Block, any, weight, used, fill, Packed, insert}
+use Rattle.model.specs.Render.{View, blocksAt, nodePieces, entryPieces, dirPieces, count}
 use Rattle.model.specs.Calls.{hasRoom}
 use Rattle.model.proofs.Counts.{tally, tally-append, dir-tally}
 
@@ -33,3 +32,13 @@ module _ {X : Type 0} (B cap w : ℕ) (v : View X) (e : Entry X) (i : ℕ) where
           (omega (arith, dir-tally B v i (fill (λ es. es ++ (e ∷ [])) b) bs, dir-tally B v i b bs, entries-last (b .entries)))
       go (inr c) r =
           rw c (omega (arith, dir-tally B v i b (insert cap w e bs), dir-tally B v i b bs, r))
+
+-- The first block stays.
+pub insert-at : {X : Type 0} (cap w : ℕ) (e : Entry X) (bs : List (Block X)) → Packed bs → blocksAt (insert cap w e bs) ≡ blocksAt bs
+unfolding insert blocksAt
+insert-at cap w e [] p = absurd p
+insert-at {X} cap w e (b ∷ bs) p = go (either (leb (used (b .entries) + weight e) cap))
+  where
+    go : (leb (used (b .entries) + weight e) cap ≡ true) ⊎ (leb (used (b .entries) + weight e) cap ≡ false) → blocksAt (insert cap w e (b ∷ bs)) ≡ b .at
+    go (inl c) = ap blocksAt (pick-true (fill (λ es. es ++ (e ∷ [])) b ∷ bs) (b ∷ insert cap w e bs) c)
+    go (inr c) = ap blocksAt (pick-false (fill (λ es. es ++ (e ∷ [])) b ∷ bs) (b ∷ insert cap w e bs) c)

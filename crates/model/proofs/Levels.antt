@@ -1,6 +1,6 @@
 -- How deep the directory at a path is, and what a directory without entries is.
 use mathlib.Core.Path.{_≡_, refl, sym, ap, subst}
-use mathlib.Core.Option.{none, some}
+use mathlib.Core.Option.{some}
 use mathlib.Core.List.{List, [], _∷_}
 use Prim.Native.Nat.{ℕ, zero, suc, _+_, _-_, _^_, _≤_, _<_}
 use native.Mathlib.Omega.{arith}
@@ -30,7 +30,7 @@ find-depth (suc d) (n ∷ p) t s f =
 -- ---- directories without entries
 
 module _ {X : Type 0} where
-  used-none : (es : List (Entry X)) → used es ≡ 0 → es ≡ []
+  pub used-none : (es : List (Entry X)) → used es ≡ 0 → es ≡ []
   unfolding used weight
   used-none [] h = refl
   used-none (e ∷ es) h = absurd (omega arith)

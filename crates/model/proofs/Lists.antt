@@ -1,13 +1,15 @@
--- The laws of `any`, `first`, `onFirst`, `lessFirst`: the first of a list that passes a test.
+-- The laws of `any`, `first`, `onFirst`, `lessFirst`: the first of a list that passes a test; of `then`; and of `All`.
 use mathlib.Core.Path.{_≡_, refl, sym, ap, _∙_, subst}
 use mathlib.Core.Bool.{Bool, true, false}
 use mathlib.Core.Logic.{_⊎_, inl, inr}
 use mathlib.Core.Option.{Option, none, some}
 use mathlib.Core.List.{List, [], _∷_, _++_}
-use Prim.Native.Nat.{ℕ, zero, suc}
+use Prim.Native.Nat.{ℕ}
 use native.Mathlib.Omega.{arith}
+use lib.ListN.{length}
 use Rattle.wire.proofs.Picks.{either, not-both, pick-true, pick-false}
 use Rattle.model.specs.Tree.{any, first, onFirst, lessFirst, then}
+use Rattle.model.specs.Volume.{All}
 
 pub not-some : {A : Type 0} {o : Option A} {x : A} → o ≡ none → o ≡ some x → ⊥
 not-some p q = let z : _≡_ {A = ℕ} 0 1 = cc in omega arith
@@ -15,6 +17,33 @@ not-some p q = let z : _≡_ {A = ℕ} 0 1 = cc in omega arith
 pub then-some : {A B : Type 0} {o : Option A} {x : A} (f : A → Option B) → o ≡ some x → then o f ≡ f x
 unfolding then
 then-some f e = ap (λ (o : Option _). then o f) e
+
+pub then-none : {A B : Type 0} {o : Option A} (f : A → Option B) → o ≡ none → then o f ≡ none
+unfolding then
+then-none f e = ap (λ (o : Option _). then o f) e
+
+pub length-none : {A : Type 0} (l : List A) → length l ≡ 0 → l ≡ []
+length-none [] h = refl
+length-none (x ∷ l) h = absurd (omega arith)
+
+-- ---- all of a list, and of its parts
+
+pub all-append : {A : Type 0} (P : A → Type 0) (l m : List A) → All P l → All P m → All P (l ++ m)
+all-append P [] m a b = b
+all-append P (x ∷ l) m a b = (a .0, all-append P l m (a .1) b)
+
+pub all-left : {A : Type 0} (P : A → Type 0) (xs ys : List A) → All P (xs ++ ys) → All P xs
+all-left P [] ys a = tt
+all-left P (x ∷ xs) ys a = (a .0, all-left P xs ys (a .1))
+
+pub all-right : {A : Type 0} (P : A → Type 0) (xs ys : List A) → All P (xs ++ ys) → All P ys
+all-right P [] ys a = a
+all-right P (x ∷ xs) ys a = all-right P xs ys (a .1)
+
+pub all-mid : {A : Type 0} (P : A → Type 0) (xs : List A) (y : A) (ys : List A) → All P (xs ++ (y ∷ ys)) → P y
+all-mid P xs y ys a = all-right P xs (y ∷ ys) a .0
+
+-- ---- the first that passes
 
 -- a step of each, by the test of the head
 module _ {A : Type 0} (q : A → Bool) (x : A) (xs : List A) where

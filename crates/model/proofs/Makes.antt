@@ -93,12 +93,12 @@ dir-one : (d : ℕ) (p : List Name) (t : Tree d) (s r : Some) → find d p t ≡
 dir-one d p t s r a b = cc
 
 -- and in it one file of a name
-fileIn : Name → Some → Option (ℕ × ℕ × List Cell)
+abbrev pub fileIn : Name → Some → Option (ℕ × ℕ × List Cell)
 fileIn n s = then (lookup n (s .1)) (λ e. fileOf (e .time) (e .node))
 
 file-in : (g : Geo) (d : ℕ) (p : List Name) (n : Name) (now c : ℕ) (buf : List ℕ) (t : Tree d) (I J : List ℕ) (w : Writes g d p n now c buf t I J)
     → fileIn n (w .occupied .dir) ≡ some (w .size, w .time, w .cells)
-unfolding fileIn fileOf fileEntry
+unfolding fileOf fileEntry
 file-in g d p n now c buf t I J w =
     then-some (λ e. fileOf (e .time) (e .node)) (w .occupied .held) ∙ ap (λ (e : Entry (Below (w .occupied .dir .0))). fileOf (e .time) (e .node)) (w .is-file)
 

@@ -1,6 +1,5 @@
 -- One volume for an image and K: the superblock shows the numbers and the used count, and with them there is one tree.
 use mathlib.Core.Path.{_≡_, refl, sym, ap, _∙_, subst}
-use mathlib.Core.Option.{some}
 use mathlib.Core.List.{List, [], _∷_, _++_}
 use Prim.Native.Nat.{ℕ, _+_, _-_, _*_, _^_, _≤_, _<_}
 use native.Mathlib.Omega.{arith}
@@ -19,7 +18,7 @@ use Rattle.model.proofs.Areas.{few, area, sound-geo, volume-bits, volum
 use Rattle.model.proofs.Commit.{shows-one, shows-two}
 use Rattle.model.proofs.Entries.{be-shown}
 use Rattle.model.proofs.Opens.{sound-opens}
-use Rattle.model.proofs.Sums.{few-blocks}
+use Rattle.model.proofs.Sums.{laid-few}
 use Rattle.model.proofs.Unique.{laid-one}
 
 -- ---- what the superblock shows
@@ -108,7 +107,7 @@ well-formed-geo K I v = laid-geo _ I maxDepth (v .tree) _ (v .volume .laid) ∙ 
 -- No more blocks are reached than the data area has.
 pub laid-blocks : (g : Geo) (I : List ℕ) (d : ℕ) (t : Tree d) (u : ℕ) → Laid g I d t u → length (blocks (blockSize g) d t) ≤ g .n - dataAt g
 unfolding find
-laid-blocks g I d t u l = few-blocks g I d t u l [] (d, t) refl
+laid-blocks g I d t u l = laid-few g I d t u l [] (d, t) refl
 
 module _ (g : Geo) (I : List ℕ) (d : ℕ) (t : Tree d) (v : Volume g I d t) where
   -- D and the blocks that are reached are n at most.

@@ -1,11 +1,10 @@
 -- A write to one file leaves every other file as it was: what L12 rests on.
 use mathlib.Core.Path.{_≡_, refl, sym, ap, _∙_, subst}
-use mathlib.Core.Bool.{Bool, true, false}
+use mathlib.Core.Bool.{true, false}
 use mathlib.Core.Logic.{_⊎_, inl, inr}
 use mathlib.Core.Option.{Option, none, some}
-use mathlib.Core.List.{List, [], _∷_, _++_}
-use Prim.Native.Nat.{ℕ, zero, suc, _+_}
-use native.Mathlib.Omega.{arith}
+use mathlib.Core.List.{List, [], _∷_}
+use Prim.Native.Nat.{ℕ, zero, suc}
 use Rattle.wire.specs.Pick.{same}
 use Rattle.wire.proofs.Picks.{either, not-both, same-eq, same-refl}
 use Rattle.model.specs.Tree.{Name, Cell, Node, file, device, sub, Entry, Block, Tree, any, first, onFirst, then, called, holds, lookup, fill, change, Edit, renew, renewed, atEnd, edit, inside}

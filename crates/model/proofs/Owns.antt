@@ -1,8 +1,7 @@
 -- From the bytes that are stored in a directory's own entry to the whole block that a commit asks for.
 use mathlib.Core.Path.{_≡_, refl, sym, ap, _∙_, subst}
-use mathlib.Core.List.{List, [], _∷_, _++_, append-assoc}
+use mathlib.Core.List.{List, _++_, append-assoc}
 use Prim.Native.Nat.{ℕ, suc, _+_, _-_, _*_, _≤_, _<_}
-use native.Mathlib.Nat.{mul-comm, mul-suc, mul-le-mul-left}
 use native.Mathlib.Omega.{arith}
 use lib.ListN.{length, getD, replicate, length-append, length-replicate}
 use Rattle.wire.specs.Be.{bytes, splice}
@@ -10,16 +9,16 @@ use Rattle.wire.proofs.Laws.{length-bytes}
 use Rattle.block.specs.Block.{cell, Off, Kept}
 use Rattle.block.proofs.Laws.{kept-trans, kept-less, splice-kept}
 use Rattle.model.specs.Tree.{Name, sub, Tree, weight, sum, Edit, Some}
-use Rattle.model.specs.Render.{Piece, blocksAt, padded, entryBytes, view, render, ats, count, Shows, ShowsAll}
+use Rattle.model.specs.Render.{Piece, blocksAt, padded, entryBytes, view, render, Shows, ShowsAll}
 use Rattle.model.specs.Geometry.{Geo, blockSize}
 use Rattle.model.specs.Volume.{All, Volume}
 use Rattle.model.proofs.Alike.{length-entry}
-use Rattle.model.proofs.Areas.{size-large}
+use Rattle.model.proofs.Areas.{size-large, block-inside}
 use Rattle.model.proofs.Commit.{shows-both, shows-one, shows-two, own-stored}
-use Rattle.model.proofs.Counts.{count-append, ats-append, count-same}
 use Rattle.model.proofs.Cuts.{Cut, OwnCut}
-use Rattle.model.proofs.Frame.{shows-right}
+use Rattle.model.proofs.Frame.{shows-right, cut-old}
 use Rattle.model.proofs.Full.{Whole, whole-tree, length-padded}
+use Rattle.model.proofs.Lists.{all-mid}
 
 -- ---- one part of a list of bytes renewed
 
@@ -74,30 +73,43 @@ module _ (B at next : ℕ) (low E high : List ℕ) (I : List ℕ) (a : Shows I (
 
 -- ---- the block of a cut
 
-mid : {A : Type 0} (P : A → Type 0) (xs : List A) (y : A) (ys : List A) → All P (xs ++ (y ∷ ys)) → P y
-mid P [] y ys a = a .0
-mid P (x ∷ xs) y ys a = mid P xs y ys (a .1)
-
 module _ (B : ℕ) (xs ys us vs : List Piece) (q : ℕ) (E E′ : List ℕ) (c : Cut B xs ys us vs q E E′) where
-  cut-shown : (I : List ℕ) → ShowsAll B I xs → Shows I (B * c .at) (bytes 4 (c .next) ++ padded (B - 4) (c .low ++ (E ++ c .high)))
+  -- the image shows it,
+  pub cut-shown : (I : List ℕ) → ShowsAll B I xs → Shows I (B * c .at) (bytes 4 (c .next) ++ padded (B - 4) (c .low ++ (E ++ c .high)))
   cut-shown I a = shows-right B I (c .before) _ (subst (ShowsAll B I) (c .old) a) .0
 
-  cut-fits : All (Whole B) xs → length (c .low ++ (E ++ c .high)) ≤ B - 4
+  pub cut-whole : All (Whole B) xs → length (bytes 4 (c .next) ++ padded (B - 4) (c .low ++ (E ++ c .high))) ≡ B
+  cut-whole w = all-mid (Whole B) (c .before) _ _ (subst (All (Whole B)) (c .old) w)
+
+  -- and its entries fit in it
+  pub cut-fits : All (Whole B) xs → length (c .low ++ (E ++ c .high)) ≤ B - 4
   unfolding padded
   cut-fits w =
       let l : List ℕ = c .low ++ (E ++ c .high) in
-      let h : length (bytes 4 (c .next) ++ (l ++ replicate (B - 4 - length l) 0)) ≡ B = mid (Whole B) (c .before) _ _ (subst (All (Whole B)) (c .old) w) in
+      let h : length (bytes 4 (c .next) ++ (l ++ replicate (B - 4 - length l) 0)) ≡ B = unfold padded in cut-whole w in
       omega (arith, rw (length-append, length-append l (replicate (B - 4 - length l) 0)) at h, length-bytes 4 (c .next))
-
-  cut-among : 1 ≤ count (c .at) (ats xs)
-  unfolding ats
-  cut-among = rw (c .old, ats-append, count-append) (omega (arith, count-same (c .at) (c .at) (ats (c .between ++ (us ++ c .after))) refl))
 
 -- ---- a directory's own entry renewed
 
 -- the image with size z and time k in the entry that begins at byte q
 abbrev pub renewedAt : List ℕ → ℕ → ℕ → ℕ → List ℕ
 renewedAt I q z k = splice (splice I (q + 5) (bytes 4 z)) (q + 9) (bytes 8 k)
+
+-- two stores as code makes them
+pub two-stores : (I J L : List ℕ) (at q z k : ℕ) → at ≡ q → J ≡ splice I (at + 5) (bytes 4 z) → L ≡ splice J (at + 9) (bytes 8 k) → L ≡ renewedAt I q z k
+two-stores I J L at q z k e a b = b ∙ ap (λ (x : List ℕ). splice x (at + 9) (bytes 8 k)) a ∙ ap (λ (x : ℕ). renewedAt I x z k) e
+
+-- They touch no byte but size and time.
+pub renewed-kept : (B : ℕ) (J : List ℕ) (a o z k : ℕ) → B * a + B ≤ length J → o + 18 ≤ B → Kept B (Off a (o + 5) 12) J (renewedAt J (B * a + o) z k)
+renewed-kept B J a o z k h l =
+    let lz : length (bytes 4 z) ≡ 4 = length-bytes 4 z in
+    let lk : length (bytes 8 k) ≡ 8 = length-bytes 8 k in
+    let p₅ : B * a + o + 5 ≡ B * a + (o + 5) = omega arith in
+    let p₉ : B * a + o + 9 ≡ B * a + (o + 9) = omega arith in
+    let K : List ℕ = splice J (B * a + (o + 5)) (bytes 4 z) in
+    let x : Kept B (Off a (o + 5) (length (bytes 4 z))) J K = splice-kept B J a (o + 5) (bytes 4 z) (omega arith) h in
+    let y : Kept B (Off a (o + 9) (length (bytes 8 k))) K (splice K (B * a + (o + 9)) (bytes 8 k)) = splice-kept B K a (o + 9) (bytes 8 k) (omega arith) (omega (arith, x .size)) in
+    rw (p₅, p₉) (kept-trans (kept-less (λ b q n i j m. n i j (omega arith)) x) (kept-less (λ b q n i j m. n i (omega arith) (omega arith)) y))
 
 -- A block that is kept still shows what it showed.
 pub shows-kept : (B : ℕ) (P : ℕ → ℕ → Type 0) (I J : List ℕ) (a : ℕ) (l : List ℕ) → Kept B P I J → ((o : ℕ) → o < length l → P a o) → length l ≤ B → Shows I (B * a) l → Shows J (B * a) l
@@ -110,8 +122,8 @@ module _ (g : Geo) (I : List ℕ) (d : ℕ) (t : Tree d) (p : List Name) (k : �
 
   own-inside : blockSize g * c .cut .at + blockSize g ≤ length I
   own-inside =
-      let r = v .laid .range (c .cut .at) (cut-among (blockSize g) _ _ _ _ _ _ _ (c .cut)) in
-      omega (arith, mul-le-mul-left (blockSize g) (r .1), mul-suc (blockSize g) (c .cut .at), mul-comm (blockSize g) (g .n), v .laid .sound .inside-image)
+      let r = v .laid .range (c .cut .at) (cut-old (blockSize g) _ _ _ _ _ _ _ (c .cut)) in
+      block-inside g (length I) (v .laid .sound) (c .cut .at) (r .1)
 
   own-room : 4 + length (c .cut .low) + 18 ≤ blockSize g
   unfolding weight
@@ -125,18 +137,8 @@ module _ (g : Geo) (I : List ℕ) (d : ℕ) (t : Tree d) (p : List Name) (k : �
     -- Two stores renew it, and touch no other byte.
     pub own-kept : length J ≡ length I → (z m : ℕ) → Kept (blockSize g) (Off (c .cut .at) (4 + length (c .cut .low) + 5) 12) J (renewedAt J (c .place) z m)
     own-kept e z m =
-        let B : ℕ = blockSize g in
-        let a : ℕ = c .cut .at in
-        let o : ℕ = 4 + length (c .cut .low) in
-        let lz : length (bytes 4 z) ≡ 4 = length-bytes 4 z in
-        let lm : length (bytes 8 m) ≡ 8 = length-bytes 8 m in
-        let p₅ : c .place + 5 ≡ B * a + (o + 5) = omega (arith, c .cut .stands) in
-        let p₉ : c .place + 9 ≡ B * a + (o + 9) = omega (arith, c .cut .stands) in
-        let K : List ℕ = splice J (B * a + (o + 5)) (bytes 4 z) in
-        let x : Kept B (Off a (o + 5) (length (bytes 4 z))) J K = splice-kept B J a (o + 5) (bytes 4 z) (omega (arith, own-room)) (omega (arith, own-inside)) in
-        let y : Kept B (Off a (o + 9) (length (bytes 8 m))) K (splice K (B * a + (o + 9)) (bytes 8 m))
-        = splice-kept B K a (o + 9) (bytes 8 m) (omega (arith, own-room)) (omega (arith, own-inside, x .size)) in
-        rw (p₅, p₉) (kept-trans (kept-less (λ b q n i j l. n i j (omega arith)) x) (kept-less (λ b q n i j l. n i (omega arith) (omega arith)) y))
+        let p : c .place ≡ blockSize g * c .cut .at + (4 + length (c .cut .low)) = omega (arith, c .cut .stands) in
+        rw p (renewed-kept (blockSize g) J (c .cut .at) (4 + length (c .cut .low)) z m (omega (arith, own-inside)) own-room)
 
     -- After them the block is what a commit asks for.
     pub own-renewed : Kept (blockSize g) (λ b o. b ≡ c .cut .at) I J → blocksAt (f (s .0) (s .1)) ≡ blocksAt (s .1)

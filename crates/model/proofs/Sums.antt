@@ -1,21 +1,20 @@
 -- Every directory's sum fits its four bytes: blocks are distinct and lie in D..n-1.
-use mathlib.Core.Path.{_≡_, refl, ap, _∙_, subst}
-use mathlib.Core.Bool.{true, false}
+use mathlib.Core.Path.{_≡_, refl, ap, subst}
 use mathlib.Core.Option.{some}
-use mathlib.Core.List.{List, [], _∷_, _++_}
+use mathlib.Core.List.{List, [], _∷_}
 use Prim.Native.Nat.{ℕ, zero, suc, _+_, _-_, _*_, _^_, _≤_, _<_}
 use native.Mathlib.Nat.{mul-suc, mul-le-mul-left}
 use native.Mathlib.Omega.{arith}
 use native.Mathlib.Decide.{ℕ-discrete}
 use lib.Dec.{eqb}
-use lib.ListN.{length, length-append}
+use lib.ListN.{length}
 use borrow.Author.Tests.{eq-eqb, ne-eqb}
 use Rattle.wire.proofs.Picks.{pick-true, pick-false}
 use Rattle.model.specs.Tree.{Name, Block, Tree, lessFirst, sum, Some, find}
 use Rattle.model.specs.Render.{View, entryPieces, dirPieces, view, render, ats, count, blocks}
 use Rattle.model.specs.Geometry.{Geo, blockSize, dataAt}
 use Rattle.model.specs.Volume.{All, GoodBlock, GoodBelow, Laid}
-use Rattle.model.proofs.Counts.{ats-append, count-same, tally}
+use Rattle.model.proofs.Counts.{length-ats, count-same, tally}
 use Rattle.model.proofs.Areas.{few}
 use Rattle.model.proofs.Full.{good-find}
 use Rattle.model.proofs.Lists.{lessFirst-here, lessFirst-there}
@@ -77,22 +76,25 @@ row (suc k) D l o r =
 
 -- ---- a directory's sum by its blocks
 
-sum-blocks : {X : Type 0} (B : ℕ) (S : X → Type 0) (v : View X) (bs : List (Block X)) → All (GoodBlock B S) bs → sum bs ≤ (B - 5) * length (ats (dirPieces B v bs))
-unfolding sum dirPieces ats
-sum-blocks B S v [] g = omega arith
-sum-blocks B S v (b ∷ bs) g =
-    let r = sum-blocks B S v bs (g .1) in
-    let e : length (ats (entryPieces v (b .entries) ++ dirPieces B v bs)) ≡ length (ats (entryPieces v (b .entries))) + length (ats (dirPieces B v bs))
-    = ap length (ats-append (entryPieces v (b .entries)) (dirPieces B v bs)) ∙ length-append (ats (entryPieces v (b .entries))) (ats (dirPieces B v bs)) in
-    let m : (B - 5) * suc (length (ats (dirPieces B v bs))) ≤ (B - 5) * suc (length (ats (entryPieces v (b .entries) ++ dirPieces B v bs))) = mul-le-mul-left (B - 5) (omega (arith, e)) in
-    let s : (B - 5) * suc (length (ats (dirPieces B v bs))) ≡ (B - 5) * length (ats (dirPieces B v bs)) + (B - 5) = mul-suc (B - 5) (length (ats (dirPieces B v bs))) in
-    omega (arith, r, m, s, g .0 .fits)
+pub sum-long : {X : Type 0} (B : ℕ) (S : X → Type 0) (bs : List (Block X)) → All (GoodBlock B S) bs → sum bs ≤ (B - 5) * length bs
+unfolding sum
+sum-long B S [] a = omega arith
+sum-long B S (b ∷ bs) a = omega (arith, sum-long B S bs (a .1), a .0 .fits, mul-suc (B - 5) (length bs))
+
+-- it has no more blocks of its own than it reaches
+pub chain-long : {X : Type 0} (B : ℕ) (v : View X) (bs : List (Block X)) → length bs ≤ length (ats (dirPieces B v bs))
+unfolding dirPieces ats
+chain-long B v [] = omega arith
+chain-long B v (b ∷ bs) = omega (arith, chain-long B v bs, length-ats (entryPieces v (b .entries)) (dirPieces B v bs))
+
+pub sum-blocks : {X : Type 0} (B : ℕ) (S : X → Type 0) (v : View X) (bs : List (Block X)) → All (GoodBlock B S) bs → sum bs ≤ (B - 5) * length (ats (dirPieces B v bs))
+sum-blocks B S v bs g = omega (arith, sum-long B S bs g, mul-le-mul-left (B - 5) (chain-long B v bs))
 
 module _ (g : Geo) (I : List ℕ) (d : ℕ) (t : Tree d) (u : ℕ) (l : Laid g I d t u) (p : List Name) (s : Some) (f : find d p t ≡ some s) where
   -- a directory reaches no more blocks than the data area has
-  pub few-blocks : length (blocks (blockSize g) (s .0) (s .1)) ≤ g .n - dataAt g
+  pub laid-few : length (blocks (blockSize g) (s .0) (s .1)) ≤ g .n - dataAt g
   unfolding tally
-  few-blocks =
+  laid-few =
       row (g .n - dataAt g) (dataAt g) (blocks (blockSize g) (s .0) (s .1))
       (λ i. omega (arith, sub-in (blockSize g) i d p t s f, l .once i))
       (λ i h. let r = l .range i (omega (arith, h, sub-in (blockSize g) i d p t s f)) in (omega arith, omega arith))
@@ -105,4 +107,4 @@ module _ (g : Geo) (I : List ℕ) (d : ℕ) (t : Tree d) (u : ℕ) (l : Laid g I
       let a : sum (s .1) ≤ (B - 5) * length (blocks B (s .0) (s .1)) = sum-blocks B (GoodBelow B (s .0)) (view B (s .0)) (s .1) (good-find B d p t s (l .good) f .all) in
       let e : B ≡ 512 = ap (λ (c : ℕ). 512 * 2 ^ c) (l .sound .known .1) in
       let b : sum (s .1) ≤ 507 * length (blocks B (s .0) (s .1)) = subst (λ (z : ℕ). sum (s .1) ≤ (z - 5) * length (blocks B (s .0) (s .1))) e a in
-      omega (arith, b, few-blocks, few g (length I) (l .sound))
+      omega (arith, b, laid-few, few g (length I) (l .sound))

@@ -1,11 +1,9 @@
 -- An image shows one good tree at most from an address.
 use mathlib.Core.Path.{_≡_, refl, sym, ap, _∙_, subst}
-use mathlib.Core.Option.{some}
 use mathlib.Core.List.{List, [], _∷_, _++_, append-assoc}
-use Prim.Native.Nat.{ℕ, zero, suc, _+_, _-_, _*_, _≤_, _<_, _^_}
+use Prim.Native.Nat.{ℕ, zero, suc, _-_, _*_, _≤_, _<_, _^_}
 use native.Mathlib.Omega.{arith}
-use native.Mathlib.Decide.{decLt}
-use lib.ListN.{length, getD, take, drop, replicate, length-append, length-replicate, getD-replicate, List·getD-eq-default}
+use lib.ListN.{length, getD, take, drop, length-append}
 use lib.Seq.{take-at, drop-at, ext-getD, getD-at}
 use Rattle.wire.specs.Be.{zeros, be, bytes}
 use Rattle.wire.proofs.Laws.{getD-zeros, length-bytes, be-bytes}
@@ -17,6 +15,7 @@ use Rattle.model.proofs.Counts.{count-same, count-cons}
 use Rattle.model.proofs.Areas.{few, area, size-large}
 use Rattle.model.proofs.Frame.{shows-left, shows-right}
 use Rattle.model.proofs.Full.{length-entries, length-padded}
+use Rattle.model.proofs.Lists.{all-left, all-right}
 
 -- ---- lists and numbers
 
@@ -36,14 +35,6 @@ shown-one I k l m e a b = ext-getD 0 l m e (λ i h. sym (a i h) ∙ b i (omega a
 -- addresses that four bytes hold, none of them 0
 abbrev pub Small : Piece → Type 0
 Small x = (1 ≤ x .at) × (x .at < 2 ^ 32)
-
-all-left : (P : Piece → Type 0) (xs ys : List Piece) → All P (xs ++ ys) → All P xs
-all-left P [] ys a = tt
-all-left P (x ∷ xs) ys a = (a .0, all-left P xs ys (a .1))
-
-all-right : (P : Piece → Type 0) (xs ys : List Piece) → All P (xs ++ ys) → All P ys
-all-right P [] ys a = a
-all-right P (x ∷ xs) ys a = all-right P xs ys (a .1)
 
 -- ---- chains
 

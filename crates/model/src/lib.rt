@@ -1,8 +1,28 @@
 // What the paper says: the volume as a tree, its bytes, W1 to W5, the calls as edits of the tree, the refusals.
-// The definitions are in specs/, in the order of specs/Lib.antt; what follows from them is in proofs/, with no code in it.
+// The definitions are in specs/, in the order of specs/Lib.antt; what follows from them is in proofs/. Code is what all calls share: the
+// refusals with their numbers, a file's limit and its blocks.
 // May use: wire, bits, block.
+use block::LinkedBlock;
 ghost use mathlib.Core.Path.{_≡_};
+ghost use Rattle.block.specs.Block.{blockBytes};
 ghost use Rattle.model.specs.Answers.{refusalNumber};
+ghost use Rattle.model.specs.Volume.{blocksFor};
+
+// The most bytes of a file.
+pub const FILE_LIMIT: u32 = 2_147_483_647;
+
+// A block's data bytes, as a file's size is counted.
+const CAPACITY: u32 = LinkedBlock::CAPACITY as u32;
+
+// How many blocks a file of that size has.
+pub fn blocks_for(size: u32) -> u32
+    ensures { λ r. ⌜ r ≡ blocksFor blockBytes size ⌝ }
+{
+    if size == 0 {
+        return 1;
+    }
+    (size - 1) / CAPACITY + 1
+}
 
 // Why a call is refused, in the order of 01's table.
 pub enum Refusal {

@@ -9,8 +9,7 @@ use lib.ListN.{take, drop, take-append-drop}
 use lib.Seq.{take-nil}
 use borrow.Author.Tests.{not-true}
 use Rattle.wire.specs.Pick.{same}
-use Rattle.wire.proofs.Picks.{either, not-both, same-refl, same-eq}
-use Rattle.wire.proofs.Zeros.{and-both}
+use Rattle.wire.proofs.Picks.{either, not-both, same-refl, same-eq, and-both}
 use Rattle.model.specs.Tree.{Name, any}
 use Rattle.model.proofs.Lists.{any-here, any-there}
 use Rattle.names.specs.Names.{oneOf, distinct}

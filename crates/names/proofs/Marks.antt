@@ -11,8 +11,7 @@ use lib.ListN.{length, getD, set, take, length-set, length-replicate, getD-repli
 use lib.Seq.{getD-set-same, getD-set-other, ext-getD}
 use borrow.Author.Tests.{eq-eqb, eqb-true, ne-eqb}
 use Rattle.wire.specs.Be.{zeros}
-use Rattle.wire.proofs.Picks.{not-both}
-use Rattle.wire.proofs.Zeros.{and-both}
+use Rattle.wire.proofs.Picks.{not-both, and-both}
 use Rattle.bits.specs.Bit.{bit, withBit}
 use Rattle.bits.proofs.Laws.{length-with, byte-with-other, bit-with-same, bit-with-other}
 use Rattle.model.specs.Tree.{Name}

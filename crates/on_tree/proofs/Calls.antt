@@ -22,6 +22,7 @@ use Rattle.model.proofs.Lists.{not-some}
 use Rattle.model.proofs.OneVolume.{well-formed-opens, well-formed-geo}
 use Rattle.model.proofs.Opens.{when-false, first-of-tail, first-of-one}
 use Rattle.dir_entry.specs.declared.Kind.the-variants.{Dir}
+use Rattle.dir_entry.specs.Shown.{kindIs, headOf}
 use Rattle.read_dir.specs.Walk.{Walk, walk}
 use Rattle.read_dir.specs.Finds.{sumFrom, skip, listFrom, recordsFrom}
 use Rattle.path.specs.Path.{slash, startsSlash, pathBytes, realPath, badPath}
@@ -31,7 +32,7 @@ use Rattle.file.specs.File.{readRefusal, bytesRead}
 use Rattle.mfs.specs.Reading.{pathCall, size, area, end, handleFor, openEntry, openOn, openReply, about, aboutEntry, aboutRoot, infoOn, infoReply, countsOf, listOn, listReply, recordsAt, recordsOn}
 use Rattle.mfs.proofs.Opening.{entry-dir, entry-device, entry-file}
 use Rattle.mfs.proofs.Paths.{given-none}
-use Rattle.tree_walk.specs.Shown.{kindIs, headOf, walkOf}
+use Rattle.tree_walk.specs.Shown.{walkOf}
 use Rattle.tree_walk.proofs.Walks.{walk-is}
 use Rattle.dir_tree.specs.Shown.{wayTo}
 use Rattle.on_tree.specs.Handles.{HandleOf}

@@ -16,7 +16,7 @@ use Rattle.model.specs.Calls.{DirAt, Makes}
 use Rattle.model.specs.Calls.{CreatesFile as TreeFile, CreatesDir as TreeDir, Deletes as TreeDelete, Writes as TreeWrite}
 use Rattle.model.proofs.OneVolume.{well-formed-geo, well-formed-one}
 use Rattle.model.proofs.Opens.{when-none, first-of-zero, first-of-one}
-use Rattle.model.proofs.Replies.{settle-none}
+use Rattle.model.proofs.Replies.{settle-none, given-accepted, then-accepted, first-refused, accepted-one}
 use Rattle.dir_entry.specs.declared.Kind.{Kind}
 use Rattle.dir_entry.specs.declared.Kind.the-variants as kind
 use Rattle.path.specs.Path.{realPath, badPath, lastName}
@@ -46,25 +46,6 @@ use Rattle.mfs.proofs.Checked.{check-passed}
 use Rattle.on_tree.specs.Named.{wayOf, lastOf}
 
 -- ---- answers
-
-not-accepted : {A : Type 0} (k : ℕ) (a : A) → refused k ≡ accepted a → ⊥
-not-accepted k a e = let z : _≡_ {A = ℕ} 0 1 = cc in omega arith
-
-given-accepted : {A : Type 0} (k : ℕ) (r : Reply A) (a : A) → given k r ≡ accepted a → (k ≡ 0) × (r ≡ accepted a)
-unfolding given
-given-accepted zero r a e = (refl, e)
-given-accepted (suc k) r a e = absurd (not-accepted (suc k) a e)
-
-then-accepted : {A B : Type 0} (r : Reply A) (f : A → Reply B) (b : B) → andThen r f ≡ accepted b → (a : A) × (r ≡ accepted a)
-unfolding andThen
-then-accepted (accepted a) f b e = (a, refl)
-then-accepted (refused k) f b e = absurd (not-accepted k b e)
-
--- an answer that is refused, whose value would have been accepted
-then-refused : {A B : Type 0} (r : Reply A) (f : A → B) (j : ℕ) → andThen r (λ a. accepted (f a)) ≡ refused j → (k : ℕ) × (r ≡ refused k)
-unfolding andThen
-then-refused (accepted a) f j e = absurd (not-accepted j (f a) (sym e))
-then-refused (refused k) f j e = (k, refl)
 
 -- What a refused call leaves: by an earlier refusal, or by its own, which leaves y too.
 settle-kept : {A B : Type 0} (k : ℕ) (r : Reply A) (j : ℕ) (x y : B) → given k r ≡ refused j → ((i : ℕ) → r ≡ refused i → x ≡ y) → settle k x y ≡ y
@@ -115,8 +96,8 @@ module _ (K : ℕ) (I W cwd p : List ℕ) (now : ℕ) (J Z : List ℕ) where
   unfolding createReply createdOn freshOf createImage createdImage
   create-kept k j e =
       settle-kept (changeCall K I (length W) cwd p) _ j _ I e (λ i h.
-      let b = then-refused (siteOf (geoAt K I) I k (realPath cwd p)) _ i h in
-      ap (createdAt (geoAt K I) I k (lastName (realPath cwd p)) now) (b .1))
+      let b = first-refused (siteOf (geoAt K I) I k (realPath cwd p)) _ i h in
+      ap (createdAt (geoAt K I) I k (lastName (realPath cwd p)) now) b)
 
   module _ (o : OpenOut) (c : CreatesFile K I W cwd p now o J Z) where
     file-passed : o .answer ≡ answer.Success
@@ -147,8 +128,8 @@ module _ (K : ℕ) (I W cwd p : List ℕ) (now : ℕ) (J Z : List ℕ) where
     create-file-kept x e =
         let a : refused (refusalNumber x) ≡ andThen (createReply kind.File K I (length W) cwd p) (λ f. accepted (freshHandle (lastName (realPath cwd p)) f))
         = ap (λ (y : Answer). onAnswer y (o .handle)) (sym e) ∙ c .answer .answer in
-        let b = then-refused (createReply kind.File K I (length W) cwd p) _ (refusalNumber x) (sym a) in
-        (c .image ∙ create-kept kind.File (b .0) (b .1), subst (λ (y : Answer). IfRefused y (o .handle ≡ noHandle)) e (c .answer .empty))
+        let b = first-refused (createReply kind.File K I (length W) cwd p) _ (refusalNumber x) (sym a) in
+        (c .image ∙ create-kept kind.File (refusalNumber x) b, subst (λ (y : Answer). IfRefused y (o .handle ≡ noHandle)) e (c .answer .empty))
 
   module _ (r : Answer) (c : CreatesDir K I W cwd p now r J Z) where
     dir-passed : r ≡ answer.Success → (changeCall K I (length W) cwd p ≡ 0) × (x : Site) × (siteOf (geoAt K I) I kind.Dir (realPath cwd p) ≡ accepted x)
@@ -171,8 +152,8 @@ module _ (K : ℕ) (I W cwd p : List ℕ) (now : ℕ) (J Z : List ℕ) where
 
     pub create-dir-kept : (x : Refusal) → r ≡ answer.Refused x → J ≡ I
     create-dir-kept x e =
-        let b = then-refused (createReply kind.Dir K I (length W) cwd p) (λ f. tt) (refusalNumber x) (sym (ap says (sym e) ∙ c .answer)) in
-        c .image ∙ create-kept kind.Dir (b .0) (b .1)
+        let b = first-refused (createReply kind.Dir K I (length W) cwd p) (λ f. tt) (refusalNumber x) (sym (ap says (sym e) ∙ c .answer)) in
+        c .image ∙ create-kept kind.Dir (refusalNumber x) b
 
   module _ (r : Answer) (c : Deletes K I W cwd p now r J Z) where
     delete-passed : r ≡ answer.Success → (changeCall K I (length W) cwd p ≡ 0) × (x : Doomed) × (doomedOf (geoAt K I) I (realPath cwd p) ≡ accepted x)
@@ -199,15 +180,17 @@ module _ (K : ℕ) (I W cwd p : List ℕ) (now : ℕ) (J Z : List ℕ) where
     unfolding deletedOn deletedImage
     delete-kept x e =
         c .image ∙ settle-kept (changeCall K I (length W) cwd p) _ (refusalNumber x) _ I (sym (ap says (sym e) ∙ c .answer)) (λ i h.
-        let b = then-refused (doomedOf (geoAt K I) I (realPath cwd p)) (λ d. tt) i h in
-        ap (deletedAt (geoAt K I) I now) (b .1))
+        let b = first-refused (doomedOf (geoAt K I) I (realPath cwd p)) (λ d. tt) i h in
+        ap (deletedAt (geoAt K I) I now) b)
 
 -- ---- write
 
 module _ (K : ℕ) (I W : List ℕ) (h : Handle) (buf : List ℕ) (now : ℕ) (o : WriteOut) (J Z : List ℕ) (c : Writes K I W h buf now o J Z) where
   write-reply : (k : ℕ) → o .answer ≡ counted.Bytes k → (τ : Target) × (writeReply K I (length W) h (length buf) ≡ accepted τ)
   unfolding countOf
-  write-reply k e = then-accepted (writeReply K I (length W) h (length buf)) _ k (sym (ap countedSays (sym e) ∙ c .answer))
+  write-reply k e =
+      let b = then-accepted (writeReply K I (length W) h (length buf)) _ k (sym (ap countedSays (sym e) ∙ c .answer)) in
+      (b .0, b .1)
 
   -- what it has passed
   pub write-passed : (k : ℕ) → o .answer ≡ counted.Bytes k → (checkRefusal K I (length W) ≡ 0) × (τ : Target) × (targetOf (geoAt K I) I h (length buf) ≡ accepted τ)
@@ -239,14 +222,11 @@ module _ (K : ℕ) (I W : List ℕ) (h : Handle) (buf : List ℕ) (now : ℕ) (o
   write-handle k e =
       let b = write-reply k e in
       let n : accepted k ≡ accepted (length buf) = ap countedSays (sym e) ∙ c .answer ∙ ap (countOf (length buf)) (b .1) in
-      (one k (length buf) n, c .handle ∙ ap (handleAfter h (length buf)) (b .1))
-    where
-      one : (i j : ℕ) → accepted i ≡ accepted j → i ≡ j
-      one i j n = cc
+      (accepted-one k (length buf) n, c .handle ∙ ap (handleAfter h (length buf)) (b .1))
 
   -- A refused write leaves the image, and answers the very handle.
   pub write-kept : (x : Refusal) → o .answer ≡ counted.Refused x → (J ≡ I) × (o .handle ≡ h)
   unfolding countOf writeReply writtenImage
   write-kept x e =
-      let b = then-refused (writeReply K I (length W) h (length buf)) (λ t. length buf) (refusalNumber x) (sym (ap countedSays (sym e) ∙ c .answer)) in
-      (c .image ∙ settle-kept (checkRefusal K I (length W)) _ (b .0) _ I (b .1) (λ i f. ap (writtenAt (geoAt K I) I h buf now) f), c .handle ∙ ap (handleAfter h (length buf)) (b .1))
+      let b = first-refused (writeReply K I (length W) h (length buf)) (λ t. length buf) (refusalNumber x) (sym (ap countedSays (sym e) ∙ c .answer)) in
+      (c .image ∙ settle-kept (checkRefusal K I (length W)) _ (refusalNumber x) _ I b (λ i f. ap (writtenAt (geoAt K I) I h buf now) f), c .handle ∙ ap (handleAfter h (length buf)) b)

@@ -1,6 +1,6 @@
 -- Reading a file gives the file's bytes, and a handle is held exactly where the tree has its file.
 use mathlib.Core.Path.{_≡_, refl, sym, ap, _∙_, subst}
-use mathlib.Core.Bool.{Bool, true, false, _&&_, _||_}
+use mathlib.Core.Bool.{true, false}
 use mathlib.Core.Logic.{_⊎_, inl, inr}
 use mathlib.Core.Option.{Option, none, some}
 use mathlib.Core.List.{List, [], _∷_, _++_}
@@ -8,37 +8,40 @@ use Prim.Native.Nat.{ℕ, zero, suc, _+_, _-_, _*_, _/_, _^_, _≤_, _<_, min}
 use native.Mathlib.Nat.{mul-zero, mul-suc, mul-comm, div-lt-iff-lt-mul, lt-mul-div-succ}
 use native.Mathlib.Numerals.{add-one}
 use native.Mathlib.Omega.{arith}
-use lib.Dec.{ltb, eqb}
 use lib.ListN.{length, take, drop}
 use lib.Seq.{length-take-le, take-nil, take-all, take-take, take-append-add}
-use borrow.Author.Tests.{ltb-false, eqb-true, le-leb, le-ltb, eq-eqb, ne-eqb}
+use borrow.Author.Tests.{le-leb, le-ltb, eq-eqb, ne-eqb}
 use Rattle.wire.specs.Be.{bytes}
 use Rattle.wire.specs.Pick.{pick, same}
 use Rattle.wire.proofs.Laws.{length-bytes}
-use Rattle.wire.proofs.Picks.{either, not-both, pick-true, pick-false, same-refl}
+use Rattle.wire.proofs.Picks.{either, pick-true, pick-false, same-refl, both-and}
 use Rattle.block.specs.Block.{next}
-use Rattle.model.specs.Tree.{Name, Cell, Node, file, device, sub, Entry, Block, Below, Tree, then, first, entriesOf, called, lookup, weight, Some, find}
+use Rattle.model.specs.Tree.{Name, Cell, Node, file, device, Entry, Block, Below, Tree, then, first, entriesOf, called, lookup, weight, Some, find}
 use Rattle.model.specs.Render.{View, cellsAt, blocksAt, addressOf, sizeOf, cellPieces, nodePieces, view, render, Shows}
 use Rattle.model.specs.Geometry.{Geo, blockSize, dataAt, Sound}
 use Rattle.model.specs.Volume.{All, fileLimit, blocksFor, named, namedIn, GoodCell, GoodNode, GoodFile, GoodBelow, Laid}
 use Rattle.model.specs.Calls.{stream, contents, places}
-use Rattle.model.proofs.Areas.{few, size-large}
+use Rattle.model.proofs.Areas.{few, size-large, block-inside}
 use Rattle.model.proofs.Commit.{shows-two}
 use Rattle.model.proofs.Contents.{blocks-enough, length-stream, length-places}
 use Rattle.model.proofs.Full.{good-lookup, good-find}
 use Rattle.model.proofs.Lists.{then-some, first-here, first-there}
 use Rattle.model.proofs.OneVolume.{shown-part}
-use Rattle.model.proofs.Opens.{or-false, false-or, first-of-none, first-of-head, first-of-tail, refuses, passes}
+use Rattle.model.proofs.Opens.{false-or, first-of-none, first-of-head, first-of-tail, refuses, passes}
 use Rattle.model.proofs.Reached.{lookup-entries, named-entries}
+use Rattle.model.proofs.Counts.{cells-long}
+use Rattle.model.proofs.Entries.{next-shown}
 use Rattle.dir_entry.specs.Entry.{isFile}
+use Rattle.dir_entry.specs.Shown.{kindIs, headOf}
 use Rattle.read_dir.specs.Walk.{Walk, walk}
 use Rattle.file.specs.declared.Handle.{Handle}
 use Rattle.file.specs.File.{nameOf, staleFields, current, heldIn, toRead, chain, blocksRead, chainRead, dataOf, missing, bytesOf, readRefusal, bytesRead}
-use Rattle.tree_walk.specs.Shown.{kindIs, headOf, itemsOf, walkOf}
-use Rattle.tree_walk.proofs.Parts.{Stored, Part, laid-part, part-find, stored-tail, stored-in, stored-few, stored-lookup, cells-long, block-inside, next-shown}
+use Rattle.file.proofs.Currents.{own, not-own, own-node}
+use Rattle.file.proofs.Seeks.{fresh as fields-fresh}
+use Rattle.tree_walk.specs.Shown.{itemsOf, walkOf}
+use Rattle.tree_walk.proofs.Parts.{Stored, Part, laid-part, part-find, stored-tail, stored-in, stored-few, stored-lookup}
 use Rattle.tree_walk.proofs.Walks.{in-area, walk-is}
 use Rattle.on_tree.specs.Handles.{HandleOf, heldBy}
-use Rattle.dir_tree.proofs.Finds.{same-swap}
 use Rattle.dir_tree.proofs.Resolves.{lookup-name}
 
 -- ---- a chain
@@ -74,7 +77,7 @@ module _ (g : Geo) (I : List ℕ) (sound : Sound g (length I)) where
       let h : Shows I (B * c .at + 4) (c .body)
       = subst (λ (j : ℕ). Shows I (B * c .at + j) (c .body)) (length-bytes 4 (cellsAt cs)) (shows-two I (B * c .at) (bytes 4 (cellsAt cs)) (c .body) (s .shown .0)) in
       ap (λ (j : ℕ). take j (drop (B * c .at + 4) I)) (sym (w .whole))
-      ∙ shown-part I (B * c .at + 4) (c .body) (omega (arith, w .whole, block-inside g I sound (c .at) (r .1), size-large g)) h
+      ∙ shown-part I (B * c .at + 4) (c .body) (omega (arith, w .whole, block-inside g (length I) sound (c .at) (r .1), size-large g)) h
 
   -- The data bytes of its first m blocks.
   pub data-cells : (cs : List Cell) (m : ℕ) → All (GoodCell (blockSize g)) cs → Stored g I (cellPieces cs)
@@ -133,45 +136,21 @@ module _ (g : Geo) (I : List ℕ) (d : ℕ) (t : Tree d) (u : ℕ) (p : List Nam
 
 -- ---- the entry of a handle
 
-and-true : (a b : Bool) → (a && b) ≡ true → (a ≡ true) × (b ≡ true)
-and-true true b h = (refl, h)
-and-true false b h = absurd (not-both h refl)
-
-both-true : {a b : Bool} → a ≡ true → b ≡ true → (a && b) ≡ true
-both-true {a} {b} p q = rw p q
-
 module _ {X : Type 0} (v : View X) (h : Handle) where
-  -- whether a handle is one of this entry
-  abbrev own : Entry X → Bool
-  own e = current h (headOf v e) (e .name)
-
-  own-called : (e : Entry X) → own e ≡ true → called (nameOf h) e ≡ true
-  unfolding current called
-  own-called e c =
-      let a = and-true (isFile (headOf v e .kind) && same (e .name) (nameOf h)) (eqb (headOf v e .addr .0) (h .addr .0) && eqb (headOf v e .size) (h .size)) c in
-      same-swap (nameOf h) (e .name) ∙ and-true (isFile (headOf v e .kind)) (same (e .name) (nameOf h)) (a .0) .1
-
-  not-own : (e : Entry X) → called (nameOf h) e ≡ false → own e ≡ false
-  not-own e c = go (either (own e))
-    where
-      go : (own e ≡ true) ⊎ (own e ≡ false) → own e ≡ false
-      go (inl x) = absurd (not-both (own-called e x) c)
-      go (inr x) = x
-
   -- the answer of a list of entries, k after them
   held : List (Entry X) → ℕ → ℕ
   held [] k = k
-  held (e ∷ es) k = pick (own e) 0 (held es k)
+  held (e ∷ es) k = pick (own v h e) 0 (held es k)
 
   held-append : (es fs : List (Entry X)) (k : ℕ) → held (es ++ fs) k ≡ held es (held fs k)
   unfolding held
   held-append [] fs k = refl
-  held-append (e ∷ es) fs k = ap (pick (own e) 0) (held-append es fs k)
+  held-append (e ∷ es) fs k = ap (pick (own v h e) 0) (held-append es fs k)
 
   items-held : (a : ℕ) (es : List (Entry X)) (o : ℕ) (w : Walk) → heldIn h (itemsOf v a o es w) ≡ held es (heldIn h w)
   unfolding held itemsOf heldIn
   items-held a [] o w = refl
-  items-held a (e ∷ es) o w = ap (pick (own e) 0) (items-held a es (o + weight e) w)
+  items-held a (e ∷ es) o w = ap (pick (own v h e) 0) (items-held a es (o + weight e) w)
 
   entries-held : (bs : List (Block X)) → heldIn h (walkOf v bs) ≡ held (entriesOf bs) 11
   unfolding held walkOf heldIn entriesOf
@@ -186,7 +165,7 @@ module _ {X : Type 0} (v : View X) (h : Handle) where
     where
       go : (called (nameOf h) e ≡ true) ⊎ (called (nameOf h) e ≡ false) → (named (nameOf h) es ≡ 0 → held es 11 ≡ 11) → held (e ∷ es) 11 ≡ 11
       go (inl x) r = absurd (omega (arith, pick-true {A = ℕ} 1 0 x))
-      go (inr x) r = pick-false 0 (held es 11) (not-own e x) ∙ r (omega arith)
+      go (inr x) r = pick-false 0 (held es 11) (not-own v h e x) ∙ r (omega arith)
 
   -- one at most
   held-first : (es : List (Entry X)) → named (nameOf h) es ≤ 1 → held es 11 ≡ heldBy v h (first (called (nameOf h)) es)
@@ -197,9 +176,9 @@ module _ {X : Type 0} (v : View X) (h : Handle) where
       go : (called (nameOf h) e ≡ true) ⊎ (called (nameOf h) e ≡ false) → (named (nameOf h) es ≤ 1 → held es 11 ≡ heldBy v h (first (called (nameOf h)) es))
           → held (e ∷ es) 11 ≡ heldBy v h (first (called (nameOf h)) (e ∷ es))
       go (inl x) r =
-          ap (pick (own e) 0) (held-none es (omega (arith, pick-true {A = ℕ} 1 0 x))) ∙ sym (ap (heldBy v h) (first-here (called (nameOf h)) e es x))
+          ap (pick (own v h e) 0) (held-none es (omega (arith, pick-true {A = ℕ} 1 0 x))) ∙ sym (ap (heldBy v h) (first-here (called (nameOf h)) e es x))
       go (inr x) r =
-          pick-false 0 (held es 11) (not-own e x) ∙ r (omega arith) ∙ sym (ap (heldBy v h) (first-there (called (nameOf h)) e es x))
+          pick-false 0 (held es 11) (not-own v h e x) ∙ r (omega arith) ∙ sym (ap (heldBy v h) (first-there (called (nameOf h)) e es x))
 
   -- The walk of a directory with distinct names holds the handle exactly where the entry of its name does.
   pub walk-held : (bs : List (Block X)) → ((n : Name) → namedIn n bs ≤ 1) → heldIn h (walkOf v bs) ≡ heldBy v h (lookup (nameOf h) bs)
@@ -276,7 +255,7 @@ module _ (g : Geo) (I : List ℕ) (d : ℕ) (t : Tree d) (u : ℕ) (p : List Nam
       let b : same (e .name) (nameOf h) ≡ true = ap (same (e .name)) (o .name ∙ lookup-name n (s .1) e k) ∙ same-refl (e .name) in
       let q : addressOf v (e .node) ≡ h .addr .0 = ap (addressOf v) i ∙ (unfold addressOf in sym (o .addr)) in
       let r : sizeOf v (e .node) ≡ h .size = ap (sizeOf v) i ∙ (unfold sizeOf in sym (o .size)) in
-      both-true (both-true a b) (both-true (eq-eqb _ _ q) (eq-eqb _ _ r))
+      both-and (both-and a b) (both-and (eq-eqb _ _ q) (eq-eqb _ _ r))
 
   -- so the directory holds the handle
   held-here : heldIn h (walk (blockSize g) (dataAt g) (g .n) I (h .dir .0)) ≡ 0
@@ -315,30 +294,7 @@ module _ (g : Geo) (I : List ℕ) (d : ℕ) (t : Tree d) (u : ℕ) (p : List Nam
 
 -- ---- any handle of a directory of the volume
 
--- a handle's own fields, where they are not stale
-fields-good : (h : Handle) → staleFields h ≡ false → (h .position ≤ h .size) × (h .len ≤ 255)
-unfolding staleFields
-fields-good h a =
-    let b = or-false (ltb (h .size) (h .position)) (ltb fileLimit (h .size) || (eqb (h .len) 0 || ltb 255 (h .len))) a in
-    let c = or-false (ltb fileLimit (h .size)) (eqb (h .len) 0 || ltb 255 (h .len)) (b .1) in
-    let e = or-false (eqb (h .len) 0) (ltb 255 (h .len)) (c .1) in
-    (ltb-false (h .size) (h .position) (b .0), ltb-false 255 (h .len) (e .1))
-
 module _ {X : Type 0} (v : View X) (h : Handle) where
-  -- what an entry is that a handle is one of
-  own-node : (m : Name) (x : Node X) → ((isFile (kindIs x) && same m (nameOf h)) && (eqb (addressOf v x) (h .addr .0) && eqb (sizeOf v x) (h .size))) ≡ true
-      → (cs : List Cell) × (x ≡ file (h .size) cs) × (h .addr .0 ≡ cellsAt cs)
-  unfolding addressOf sizeOf
-  own-node m (file z cs) c =
-      let a = and-true (eqb (cellsAt cs) (h .addr .0)) (eqb z (h .size)) (and-true (true && same m (nameOf h)) (eqb (cellsAt cs) (h .addr .0) && eqb z (h .size)) c .1) in
-      (cs, ap (λ (y : ℕ). file y cs) (eqb-true z (h .size) (a .1)), sym (eqb-true (cellsAt cs) (h .addr .0) (a .0)))
-  own-node m (device z cs) c = absurd (not-both c refl)
-  own-node m (sub x) c = absurd (not-both c refl)
-
-  own-file : (e : Entry X) → current h (headOf v e) (e .name) ≡ true → (cs : List Cell) × (e .node ≡ file (h .size) cs) × (h .addr .0 ≡ cellsAt cs)
-  unfolding current headOf
-  own-file e c = own-node (e .name) (e .node) c
-
   -- The entry of the handle's name is the handle's file, or 11 is the answer.
   pub held-or : (bs : List (Block X))
       → ((e : Entry X) × (cs : List Cell) × (lookup (nameOf h) bs ≡ some e) × (e .node ≡ file (h .size) cs) × (h .addr .0 ≡ cellsAt cs)) ⊎ (heldBy v h (lookup (nameOf h) bs) ≡ 11)
@@ -352,7 +308,7 @@ module _ {X : Type 0} (v : View X) (h : Handle) where
         where
           by : (current h (headOf v e) (e .name) ≡ true) ⊎ (current h (headOf v e) (e .name) ≡ false)
               → ((e : Entry X) × (cs : List Cell) × (lookup (nameOf h) bs ≡ some e) × (e .node ≡ file (h .size) cs) × (h .addr .0 ≡ cellsAt cs)) ⊎ (heldBy v h (lookup (nameOf h) bs) ≡ 11)
-          by (inl c) = let f = own-file e c in inl (e, f .0, q, f .1, f .2)
+          by (inl c) = let f = own-node v h (e .name) (e .node) (unfold current headOf in c) in inl (e, f .0, q, f .1, sym (f .2))
           by (inr c) = inr (ap (heldBy v h) q ∙ pick-false 0 11 c)
 
 -- A directory of the tree has a file that the handle is one of.
@@ -378,11 +334,11 @@ module _ (g : Geo) (I : List ℕ) (d : ℕ) (t : Tree d) (u : ℕ) (p : List Nam
           = ap (λ (x : ℕ). heldIn h (walk (blockSize g) (dataAt g) (g .n) I x)) in-dir ∙ held-is g I d t u p s h l f ∙ b in
           passes 11 _ a ∙ first-of-head _ _ (omega arith) ∙ k)
       go (inr a) (inl b) =
-          let c = fields-good h a in
+          let c = fields-fresh h a in
           inl (
             b .0,
             b .1,
             b .2,
             b .3,
-            record { dir = in-dir; name = refl; letters = sym (length-take-le (h .len) (h .name) (omega arith)); addr = b .4; size = refl; position = c .0 },
+            record { dir = in-dir; name = refl; letters = sym (length-take-le (h .len) (h .name) (omega arith)); addr = b .4; size = refl; position = c .place },
           )

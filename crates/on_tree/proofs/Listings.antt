@@ -15,10 +15,11 @@ use Rattle.wire.proofs.Picks.{either, pick-true, pick-false}
 use Rattle.model.specs.Tree.{Entry, Block, entriesOf, weight}
 use Rattle.model.specs.Render.{View}
 use Rattle.dir_entry.specs.declared.DirEntry.{DirEntry}
+use Rattle.dir_entry.specs.Shown.{headOf}
 use Rattle.read_dir.specs.declared.Listed.the-variants as listed
 use Rattle.read_dir.specs.Walk.{Walk, item, finished, damaged}
 use Rattle.read_dir.specs.Finds.{recordOf, skip, listFrom, recordsFrom}
-use Rattle.tree_walk.specs.Shown.{headOf, itemsOf, walkOf}
+use Rattle.tree_walk.specs.Shown.{itemsOf, walkOf}
 use Rattle.on_tree.specs.Named.{recordsLong, recordsOf, fitting, listedFrom}
 
 -- ---- a buffer that takes all

@@ -1,7 +1,7 @@
 -- After an accepted write a seek and a read through the handle that it answered give the file's old bytes before the position, then what was written.
 use mathlib.Core.Path.{_≡_, refl, sym, ap, _∙_, subst}
 use mathlib.Core.Bool.{false, not}
-use mathlib.Core.Option.{Option, none, some}
+use mathlib.Core.Option.{some}
 use mathlib.Core.List.{List, [], _++_}
 use Prim.Native.Nat.{ℕ, _+_, _-_, _^_, _≤_, _<_, min}
 use native.Mathlib.Omega.{arith}
@@ -9,22 +9,17 @@ use lib.ListN.{length, take, drop}
 use lib.Seq.{length-take-le}
 use borrow.Author.Tests.{le-leb}
 use Rattle.wire.specs.Be.{splice}
-use Rattle.model.specs.Tree.{Name, Cell, Node, file, device, sub, Entry, Below, Tree, lookup, change, Some, find}
-use Rattle.model.specs.Render.{cellsAt, blocksAt}
+use Rattle.model.specs.Tree.{Name, Cell, Tree, lookup, change, Some, find}
+use Rattle.model.specs.Render.{blocksAt}
 use Rattle.model.specs.Geometry.{Geo, blockSize, geoAt}
-use Rattle.model.specs.Volume.{GoodFile, WellFormed, maxDepth}
-use Rattle.model.specs.Calls.{DirAt, freeBlocks, fileEntry, contents, rewrite, refiled, rewritten}
+use Rattle.model.specs.Volume.{WellFormed, maxDepth}
+use Rattle.model.specs.Calls.{DirAt, freeBlocks, fileEntry, contents, rewrite, rewritten, refiled}
 use Rattle.model.specs.Calls.{Writes as TreeWrite}
-use Rattle.model.proofs.Alike.{change-at}
 use Rattle.model.proofs.Areas.{size-large}
 use Rattle.model.proofs.Contents.{contents-rewrite}
-use Rattle.model.proofs.Dirs.{lookup-change}
-use Rattle.model.proofs.Edits.{find-edit, refiled-name}
 use Rattle.model.proofs.OneVolume.{well-formed-geo}
 use Rattle.model.proofs.Opens.{passes, first-of-none}
-use Rattle.model.proofs.Reached.{path-is}
 use Rattle.model.proofs.Replies.{number-some}
-use Rattle.file_write.proofs.Writes.{good-file}
 use Rattle.file.specs.declared.Handle.{Handle}
 use Rattle.file.specs.declared.SeekFrom.the-variants.{Start}
 use Rattle.file.specs.declared.Outcome.{Outcome}
@@ -40,31 +35,12 @@ use Rattle.file.specs.Writing.{grownHandle}
 use Rattle.file.specs.OnTree.{OnFile}
 use Rattle.file.proofs.Seeks.{fresh}
 use Rattle.file.proofs.Targets.{accepted-is}
-use Rattle.file.proofs.Renewed.{renewed-on, still-fresh}
+use Rattle.file.proofs.Renewed.{still-fresh, was-good, there-after, starts-after, held-after, from-after}
 use Rattle.mfs.specs.Reading.{size, area, end, readCall, Reads}
 use Rattle.mfs.specs.Changing.{Writes}
 use Rattle.on_tree.specs.Handles.{HandleOf}
 use Rattle.on_tree.proofs.Calls.{read-file, read-bytes}
 use Rattle.on_tree.proofs.Changing.{volume-at, write-passed, write-handle}
-
--- ---- the blocks of the file that a name gives in a directory
-
-abbrev nodeCells : {X : Type 0} → Node X → List Cell
-nodeCells (file z cs) = cs
-nodeCells (device z cs) = []
-nodeCells (sub x) = []
-
-abbrev entryCells : {X : Type 0} → Option (Entry X) → List Cell
-entryCells none = []
-entryCells (some e) = nodeCells (e .node)
-
-abbrev fileCells : Name → Option Some → List Cell
-fileCells n none = []
-fileCells n (some s) = entryCells (lookup n (s .1))
-
-file-cells : (n : Name) (o : Option Some) (s : Some) (k z : ℕ) (cs : List Cell) → o ≡ some s → lookup n (s .1) ≡ some (fileEntry n k z cs) → fileCells n o ≡ cs
-unfolding fileEntry
-file-cells n o s k z cs a l = ap (fileCells n) a ∙ ap entryCells l
 
 -- ---- the file after a write
 
@@ -83,62 +59,24 @@ module _ (K : ℕ) (I J : List ℕ) (w : WellFormed K I) (h : Handle) (now : ℕ
   abbrev u : Tree maxDepth
   u = rewritten maxDepth q (nameOf h) now long es (w .tree)
 
-  -- the file's directory, and what becomes of it
-  abbrev dir : Some
-  dir = m .occupied .dir
-
-  abbrev renew : Entry (Below (m .occupied .dir .0)) → Entry (Below (m .occupied .dir .0))
-  renew x = refiled now long es (x .name) (x .time) (x .node)
-
+  -- what becomes of the file's directory
   abbrev dir′ : Some
-  dir′ = (m .occupied .dir .0, change (nameOf h) renew (m .occupied .dir .1))
+  dir′ = (m .occupied .dir .0, change (nameOf h) (λ x. refiled now long es (x .name) (x .time) (x .node)) (m .occupied .dir .1))
 
   abbrev after : WellFormed K J
   after = record { numbers = geoAt K I; here = ap (λ (x : Geo). x .K) (sym (well-formed-geo K I w)) ∙ w .here; tree = u; volume = m .makes .volume }
 
-  held : lookup (nameOf h) (m .occupied .dir .1) ≡ some (fileEntry (nameOf h) (m .time) (m .size) (m .cells))
-  held = m .occupied .held ∙ ap some (m .is-file)
+  there : find maxDepth q u ≡ some dir′
+  there = there-after g I J (w .tree) (volume-at K I w) h now buf q s m on
 
-  good : GoodFile (blockSize g) (m .size) (m .cells)
-  good = good-file g I maxDepth (w .tree) (volume-at K I w) q (nameOf h) dir (m .occupied .there) (m .time) (m .size) (m .cells) held
+  held : lookup (nameOf h) (dir′ .1) ≡ some (fileEntry (nameOf h) now long es)
+  held = held-after g I J (w .tree) (volume-at K I w) h now buf q s m on
 
   -- The bytes of the file are the old ones before the position, then the buffer.
   pub bytes-written : contents long es ≡ take (h .position) (contents (m .size) (m .cells)) ++ buf
   bytes-written =
-      contents-rewrite (blockSize g) (m .size) (h .position) (freeBlocks g maxDepth (w .tree)) buf (m .cells) (omega (arith, size-large g)) good (m .position) (m .room)
-
-  there : find maxDepth q u ≡ some dir′
-  unfolding rewritten
-  there = find-edit maxDepth q (λ k. k) (λ e bs. change (nameOf h) (λ x. refiled now long es (x .name) (x .time) (x .node)) bs) (w .tree) dir (m .occupied .there)
-
-  same-dir : s .dir ≡ m .occupied .dir
-  same-dir = let a : some (s .dir) ≡ some (m .occupied .dir) = sym (s .there) ∙ m .occupied .there in cc
-
-  starts : blocksAt (dir′ .1) ≡ h .dir .0
-  starts = change-at (nameOf h) renew (dir .1) ∙ sym (ap (λ (x : Some). blocksAt (x .1)) same-dir) ∙ s .starts
-
-  held′ : lookup (nameOf h) (dir′ .1) ≡ some (fileEntry (nameOf h) now long es)
-  unfolding fileEntry refiled
-  held′ = lookup-change (nameOf h) renew (λ x. refiled-name now long es (x .name) (x .time) (x .node)) (dir .1) (fileEntry (nameOf h) (m .time) (m .size) (m .cells)) held
-
-  -- the handle that is answered is on that file
-  renewed : OnFile maxDepth u (grownHandle h (length buf))
-  renewed = renewed-on g I J (w .tree) (volume-at K I w) h now buf q s m on
-
-  same-path : q ≡ renewed .path
-  same-path =
-      let d : DirAt maxDepth (h .dir .0) q u = record { dir = dir′; there = there; starts = starts } in
-      let a : some q ≡ some (renewed .path)
-      = sym (path-is g J maxDepth u _ (h .dir .0) q (m .makes .volume .laid) d) ∙ path-is g J maxDepth u _ (h .dir .0) (renewed .path) (m .makes .volume .laid) (renewed .there) in
-      cc
-
-  from-is : cellsAt es ≡ h .addr .0
-  from-is =
-      let a : es ≡ renewed .file .cells
-      = sym (file-cells (nameOf h) (find maxDepth q u) dir′ now long es there held′)
-      ∙ ap (λ (x : List Name). fileCells (nameOf h) (find maxDepth x u)) same-path
-      ∙ file-cells (nameOf h) (find maxDepth (renewed .path) u) (renewed .there .dir) (renewed .file .time) long (renewed .file .cells) (renewed .there .there) (renewed .file .held) in
-      ap cellsAt a ∙ renewed .file .starts
+      contents-rewrite (blockSize g) (m .size) (h .position) (freeBlocks g maxDepth (w .tree)) buf (m .cells) (omega (arith, size-large g))
+      (was-good g I J (w .tree) (volume-at K I w) h now buf q s m on) (m .position) (m .room)
 
   module _ (name : length (h .name) ≡ 255) (few : h .len ≤ 255) (i : ℕ) (inside : i ≤ long) where
     abbrev at : Handle
@@ -146,26 +84,33 @@ module _ (K : ℕ) (I J : List ℕ) (w : WellFormed K I) (h : Handle) (now : ℕ
 
     handle-of : HandleOf (blocksAt (dir′ .1)) (nameOf h) long es at
     handle-of =
-        record { dir = sym starts; name = refl; letters = sym (length-take-le (h .len) (h .name) (omega arith)); addr = sym from-is; size = refl; position = inside }
+        record {
+          dir = sym (starts-after g I J (w .tree) (volume-at K I w) h now buf q s m on);
+          name = refl;
+          letters = sym (length-take-le (h .len) (h .name) (omega arith));
+          addr = sym (from-after g I J (w .tree) (volume-at K I w) h now buf q s m on);
+          size = refl;
+          position = inside;
+        }
 
     module _ (len : ℕ) where
       -- A read through the answered handle, moved to a position in the file, is accepted,
       pub reads-back : readCall K J (moved (grownHandle h (length buf)) i) len ≡ 0
       unfolding fileEntry readCall
-      reads-back = read-file K J after q dir′ there (nameOf h) (fileEntry (nameOf h) now long es) held′ long es refl at handle-of len
+      reads-back = read-file K J after q dir′ there (nameOf h) (fileEntry (nameOf h) now long es) held long es refl at handle-of len
 
       -- and gives those bytes from there on: as many as are asked for, or as there are.
       pub bytes-back : bytesRead (size K J) (area K J) (end K J) J (moved (grownHandle h (length buf)) i) len
           ≡ take (min len (h .position + length buf - i)) (drop i (take (h .position) (contents (m .size) (m .cells)) ++ buf))
       unfolding fileEntry
       bytes-back =
-          read-bytes K J after q dir′ there (nameOf h) (fileEntry (nameOf h) now long es) held′ long es refl at handle-of len
+          read-bytes K J after q dir′ there (nameOf h) (fileEntry (nameOf h) now long es) held long es refl at handle-of len
           ∙ ap (λ (l : List ℕ). take (min len (long - i)) (drop i l)) bytes-written
 
 -- ---- the calls
 
 -- A read that is not refused counts its bytes and stores them.
-reads-given : (k : ℕ) (h f : Handle) (vs l m : List ℕ) (c : Counted) → k ≡ 0 → CountedIs k h f vs l m c → (c ≡ counted.Bytes (toRead h (length l))) × (m ≡ splice l 0 vs)
+pub reads-given : (k : ℕ) (h f : Handle) (vs l m : List ℕ) (c : Counted) → k ≡ 0 → CountedIs k h f vs l m c → (c ≡ counted.Bytes (toRead h (length l))) × (m ≡ splice l 0 vs)
 reads-given k h f vs l m (counted.Bytes j) z a = (ap counted.Bytes (a .count), a .stored)
 reads-given k h f vs l m (counted.Refused x) z a = absurd (omega (arith, a .refused, number-some x))
 

@@ -1,6 +1,6 @@
 -- A directory's own entry: where it stands, and the image with its size and time renewed. B is the block size. Definitions alone.
 use mathlib.Core.Path.{_≡_}
-use mathlib.Core.Option.{none, some}
+use mathlib.Core.Option.{some}
 use mathlib.Core.List.{List, []}
 use Prim.Native.Nat.{ℕ, _+_, _-_, _*_, _≤_}
 use lib.ListN.{length}
@@ -8,7 +8,12 @@ use Rattle.wire.specs.Be.{bytes, splice}
 use Rattle.block.specs.Block.{blockBytes}
 use Rattle.model.specs.Tree.{Name, Tree}
 use Rattle.model.specs.Render.{ownTime}
+use Rattle.model.specs.Geometry.{Geo, blockSize, dataAt}
 use Rattle.dir_entry.specs.Entry.{header, placeAt}
+use Rattle.read_dir.specs.declared.Summed.{Summed}
+use Rattle.read_dir.specs.declared.Summed.the-variants.{Total, Damaged}
+use Rattle.read_dir.specs.Walk.{walk}
+use Rattle.read_dir.specs.Finds.{sumFrom}
 use Rattle.own_entry.specs.declared.Own.{Own}
 use Rattle.own_entry.specs.declared.Own.the-variants.{Root, At}
 
@@ -21,6 +26,14 @@ OwnIn I (At p) = (blockBytes * p .block .0 + blockBytes ≤ length I) × (p .off
 abbrev pub ownRenewed : ℕ → List ℕ → Own → ℕ → ℕ → List ℕ
 ownRenewed B I Root z k = I
 ownRenewed B I (At p) z k = splice (splice I (placeAt B (p .block .0) (p .offset) + 5) (bytes 4 z)) (placeAt B (p .block .0) (p .offset) + 9) (bytes 8 k)
+
+-- "The new sum": that of the directory whose first block is dir, as it is now. (A volume's directory has one.)
+abbrev pub ownSummed : ℕ → List ℕ → Own → ℕ → Summed → List ℕ
+ownSummed B I own time (Total z) = ownRenewed B I own z time
+ownSummed B I own time Damaged = I
+
+unfoldable pub sumRenewed : Geo → List ℕ → ℕ → Own → ℕ → List ℕ
+sumRenewed g I dir own time = ownSummed (blockSize g) I own time (sumFrom 0 (walk (blockSize g) (dataAt g) (g .n) I dir))
 
 -- That is where the own entry of the directory at path p of the tree stands: the root's path is empty, and it has none.
 abbrev pub OwnOf : ℕ → (d : ℕ) → List Name → Tree d → Own → Type 0

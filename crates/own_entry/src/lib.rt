@@ -1,11 +1,15 @@
 // A directory's own entry, which stands in the directory above it: its size and time are stored here, and nowhere else.
-// May use: wire, block, model, dir_entry, read_dir.
+// May use: wire, block, model, super_block, dir_entry, read_dir; the proofs also bits, bitmap_block, tree_walk.
+use block::Addr;
 use dir_entry::DirEntry;
 use read_dir::Place;
+use read_dir::Summed;
+use super_block::SuperBlock;
 ghost use mathlib.Core.Path.{_≡_};
 ghost use lib.ListN.{length};
 ghost use Rattle.block.specs.Block.{blockBytes};
-ghost use Rattle.own_entry.specs.Own.{OwnIn, ownRenewed};
+ghost use Rattle.super_block.specs.Super.{geoOf, Fit};
+ghost use Rattle.own_entry.specs.Own.{OwnIn, ownRenewed, sumRenewed};
 ghost use Rattle.own_entry.specs.declared.Own.the-variants.{At};
 
 // Where a directory's own entry stands; the root has none.
@@ -26,12 +30,24 @@ fn renew_at(img: &mut [u8], p: Place, size: u32, time: u64)
 }
 
 // The new size and the time go into a directory's own entry, if it has one.
-pub fn renew(img: &mut [u8], own: Own, size: u32, time: u64)
+fn renew(img: &mut [u8], own: Own, size: u32, time: u64)
     requires { ⌜ OwnIn (now img) own ⌝ }
     ensures { λ _. ⌜ now (img .exit) ≡ ownRenewed blockBytes (now (img .entry)) own size time ⌝ }
 {
     match own {
         Own::Root => {}
         Own::At(p) => renew_at(img, p, size, time),
+    }
+}
+
+// The sum of a directory as it is now, and the time, go into its own entry.
+pub fn renew_sum(img: &mut [u8], s: SuperBlock, dir: Addr, own: Own, time: u64)
+    requires { ⌜ Fit s (now img) ⌝ }
+    requires { ⌜ OwnIn (now img) own ⌝ }
+    ensures { λ _. ⌜ now (img .exit) ≡ sumRenewed (geoOf s) (now (img .entry)) (dir .0) own time ⌝ }
+{
+    match read_dir::sum(img, s, dir) {
+        Summed::Total(z) => renew(img, own, z, time),
+        Summed::Damaged => {}
     }
 }

@@ -4,12 +4,13 @@ use mathlib.Core.List.{List, [], _∷_, _++_}
 use Prim.Native.Nat.{ℕ, zero, suc, _-_, _≤_, _<_}
 use native.Mathlib.Nat.{sub-zero, zero-sub, suc-sub-suc}
 use native.Mathlib.Omega.{arith}
-use lib.ListN.{length, getD, take, drop}
+use lib.ListN.{length, getD, take, drop, length-drop}
 use lib.Seq.{take-suc, take-nil, take-take, length-take-le}
 use borrow.Author.Tests.{lt-ltb, le-ltb, ne-eqb}
 use Rattle.wire.proofs.Picks.{pick-true, pick-false}
 use Rattle.path.specs.Path.{slash, untrailed, trimmed, beforeName, lastName, dirPart}
 use Rattle.path.specs.Post.{between, PartsIs}
+use Rattle.path.specs.declared.Parts.{Parts}
 
 -- ---- one byte more at the end
 
@@ -153,3 +154,8 @@ module _ (full : List ℕ) (len to from : ℕ) (inside : len ≤ length full) (t
 
   pub parts-long : 1 < from → PartsIs full len (record { dir = from - 1; from = from; to = to })
   parts-long h = parts-at (from - 1) (omega arith) (dir-long h)
+
+-- The last name's length, by its places.
+pub name-long : (full : List ℕ) (len : ℕ) (p : Parts) → len ≤ length full → PartsIs full len p → length (lastName (take len full)) ≡ p .to - p .from
+name-long full len p h i =
+    ap length (sym (i .name)) ∙ length-take-le (p .to - p .from) (drop (p .from) full) (rw length-drop (omega (arith, i .from-in, i .to-in)))

@@ -12,10 +12,11 @@ use borrow.Author.Tests.{ltb-false, leb-true, eqb-true, eqb-false, not-false}
 use Rattle.wire.specs.Be.{splice}
 use Rattle.wire.specs.Pick.{same}
 use Rattle.wire.proofs.Laws.{length-splice}
-use Rattle.wire.proofs.Picks.{either, not-both, pick-true, pick-false, same-refl}
+use Rattle.wire.proofs.Picks.{either, not-both, pick-true, pick-false, same-refl, and-both}
 use Rattle.model.specs.Render.{count}
 use Rattle.model.specs.Volume.{All, NameByte}
 use Rattle.model.proofs.Counts.{count-same, count-other, count-none}
+use Rattle.model.proofs.Opens.{or-false}
 use Rattle.path.specs.Path.{slash, pathLimit, pathBytes, startsSlash, realPath, badPath, trimmed, untrailed, beforeName, lastName, dirPart, split, unled, steps}
 use Rattle.path.specs.Post.{between, Stores, RealIs, FirstIs}
 use Rattle.path.specs.declared.Real.{Real}
@@ -51,28 +52,13 @@ all-drop P (suc n) (x ∷ l) h = all-drop P n l (h .1)
 
 -- ---- an accepted full path
 
-and-left : (a b : Bool) → a && b ≡ true → a ≡ true
-and-left true b e = refl
-and-left false b e = e
-
-and-right : (a b : Bool) → a && b ≡ true → b ≡ true
-and-right true b e = e
-and-right false b e = absurd (not-both e refl)
-
-or-left : (a b : Bool) → (a || b) ≡ false → a ≡ false
-or-left true b e = e
-or-left false b e = refl
-
-or-right : (a b : Bool) → (a || b) ≡ false → b ≡ false
-or-right true b e = absurd (not-both refl e)
-or-right false b e = e
-
 pub bytes-all : (l : List ℕ) → pathBytes l ≡ true → All PathByte l
 unfolding pathBytes
 bytes-all [] e = tt
 bytes-all (c ∷ l) e =
-    let a : leb 32 c && leb c 126 ≡ true = and-left (leb 32 c && leb c 126) (pathBytes l) e in
-    ((leb-true 32 c (and-left _ (leb c 126) a), leb-true c 126 (and-right (leb 32 c) _ a)), bytes-all l (and-right (leb 32 c && leb c 126) _ e))
+    let a : leb 32 c && leb c 126 ≡ true = and-both (leb 32 c && leb c 126) (pathBytes l) e .0 in
+    let b = and-both (leb 32 c) (leb c 126) a in
+    ((leb-true 32 c (b .0), leb-true c 126 (b .1)), bytes-all l (and-both (leb 32 c && leb c 126) (pathBytes l) e .1))
 
 name-byte : (c : ℕ) → PathByte c → NoSlash c → NameByte c
 name-byte c h k = (h .0, h .1, k)
@@ -85,20 +71,20 @@ starts-append (c ∷ a) b e = e
 module _ (cwd p : List ℕ) (h : badPath cwd p ≡ false) where
   real-rest : (ltb pathLimit (length (realPath cwd p)) || not (pathBytes (realPath cwd p))) ≡ false
   unfolding badPath
-  real-rest = or-right (not (startsSlash p) && not (startsSlash cwd)) _ h
+  real-rest = or-false (not (startsSlash p) && not (startsSlash cwd)) _ h .1
 
   pub real-short : length (realPath cwd p) ≤ pathLimit
-  real-short = ltb-false pathLimit (length (realPath cwd p)) (or-left _ (not (pathBytes (realPath cwd p))) real-rest)
+  real-short = ltb-false pathLimit (length (realPath cwd p)) (or-false _ (not (pathBytes (realPath cwd p))) real-rest .0)
 
   pub real-bytes : pathBytes (realPath cwd p) ≡ true
-  real-bytes = not-false _ (or-right (ltb pathLimit (length (realPath cwd p))) _ real-rest)
+  real-bytes = not-false _ (or-false (ltb pathLimit (length (realPath cwd p))) _ real-rest .1)
 
   pub real-all : All PathByte (realPath cwd p)
   real-all = bytes-all (realPath cwd p) real-bytes
 
   pub real-starts : startsSlash (realPath cwd p) ≡ true
   unfolding badPath realPath
-  real-starts = go (either (startsSlash p)) (either (startsSlash cwd)) (or-left _ _ h)
+  real-starts = go (either (startsSlash p)) (either (startsSlash cwd)) (or-false _ _ h .0)
     where
       go : (startsSlash p ≡ true) ⊎ (startsSlash p ≡ false) → (startsSlash cwd ≡ true) ⊎ (startsSlash cwd ≡ false)
           → (not (startsSlash p) && not (startsSlash cwd)) ≡ false → startsSlash (realPath cwd p) ≡ true

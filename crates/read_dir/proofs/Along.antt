@@ -31,10 +31,6 @@ use Rattle.read_dir.proofs.Names.{length-name}
 use Rattle.read_dir.proofs.Records.{length-record, take-stored, drop-stored, drop-later, all-stored, skip-item, skip-none, skip-finished, skip-damaged}
 use Rattle.read_dir.proofs.Sizes.{weigh, count-fits, weigh-fits, skip-fits}
 
--- there is a data area
-pub room : (s : SuperBlock) (I : List ℕ) → Fit s I → s .area .0 ≤ s .blocks
-room s I f = omega (arith, placed f .some-data)
-
 -- A new cursor has the whole walk before it.
 pub start-walk : (B D n : ℕ) (I : List ℕ) (c : ReadDir) (dir : Addr) → c ≡ start D n dir → cursorWalk B D n I c ≡ walk B D n I (dir .0)
 start-walk B D n I c dir b = ap (cursorWalk B D n I) b ∙ sym (chain-rest B D n I (n - D) (dir .0))

@@ -8,11 +8,10 @@ use native.Mathlib.Omega.{arith}
 use lib.Dec.{eqb}
 use borrow.Author.Tests.{eqb-false}
 use Rattle.wire.specs.Pick.{same}
-use Rattle.wire.proofs.Picks.{either, not-both, pick-true, pick-false, same-eq, same-refl}
+use Rattle.wire.proofs.Picks.{either, not-both, pick-true, pick-false, same-eq, same-refl, pick-case}
 use Rattle.dir_entry.specs.declared.DirEntry.{DirEntry}
 use Rattle.dir_entry.specs.declared.Slot.the-variants.{Entry}
 use Rattle.dir_entry.specs.Entry.{placeAt, nameAt, slotAt}
-use Rattle.dir_entry.proofs.Slots.{pick-case}
 use Rattle.read_dir.specs.Walk.{Walk, item, finished, damaged, shown, entriesFrom, chainFrom, walk}
 use Rattle.read_dir.specs.Cursor.{count}
 use Rattle.read_dir.specs.Finds.{placed, findIn, skip, listFrom}

@@ -8,14 +8,14 @@ use native.Mathlib.Decide.{decLt}
 use native.Mathlib.Omega.{arith}
 use lib.Dec.{eqb}
 use borrow.Author.Tests.{eqb-true, eqb-false, eq-eqb, ne-eqb}
-use Rattle.wire.proofs.Picks.{either, pick-true, pick-false}
+use Rattle.wire.proofs.Picks.{either, pick-true, pick-false, pick-case}
 use Rattle.block.specs.Block.{next}
 use Rattle.block.specs.declared.Addr.{Addr}
 use Rattle.dir_entry.specs.declared.DirEntry.{DirEntry}
 use Rattle.dir_entry.specs.declared.Slot.{Slot}
 use Rattle.dir_entry.specs.declared.Slot.the-variants as slot
 use Rattle.dir_entry.specs.Entry.{header, placeAt, nameAt, slotAt}
-use Rattle.dir_entry.proofs.Slots.{slot-stands, pick-case}
+use Rattle.dir_entry.proofs.Slots.{slot-stands}
 use Rattle.read_dir.specs.Walk.{Walk, item, finished, damaged, inArea}
 use Rattle.read_dir.specs.Cursor.{past, here, overMove, hopMove, onDecoded, moveAt, cursorWalk, Lies, Stepped}
 use Rattle.read_dir.specs.declared.Step.the-variants as step

@@ -5,8 +5,9 @@ use Prim.Native.Nat.{ℕ, zero, suc, _+_, _-_, _*_, _^_, _≤_, _<_}
 use native.Mathlib.Nat.{mul-suc}
 use native.Mathlib.Omega.{arith}
 use lib.Dec.{eqb}
+use Rattle.wire.proofs.Picks.{pick-case}
 use Rattle.dir_entry.specs.Entry.{header}
-use Rattle.dir_entry.proofs.Slots.{slot-stands, pick-case}
+use Rattle.dir_entry.proofs.Slots.{slot-stands}
 use Rattle.read_dir.specs.Walk.{Walk, item, finished, damaged, shown, entriesFrom, chainFrom, walk}
 use Rattle.read_dir.specs.Cursor.{count}
 use Rattle.read_dir.specs.Finds.{sumFrom, skip}

@@ -7,13 +7,13 @@ use native.Mathlib.Omega.{arith}
 use lib.Dec.{leb, ltb, eqb}
 use borrow.Author.Tests.{leb-true, ltb-true, eqb-true, eqb-false, lt-ltb, le-ltb, le-leb, lt-leb, eq-eqb, ne-eqb}
 use Rattle.wire.specs.Pick.{pick}
-use Rattle.wire.proofs.Picks.{not-both, pick-true, pick-false}
+use Rattle.wire.proofs.Picks.{not-both, pick-true, pick-false, pick-case}
 use Rattle.block.specs.Block.{next}
 use Rattle.dir_entry.specs.declared.DirEntry.{DirEntry}
 use Rattle.dir_entry.specs.declared.Slot.{Slot}
 use Rattle.dir_entry.specs.declared.Slot.the-variants.{Entry, Stop}
 use Rattle.dir_entry.specs.Entry.{header, placeAt, nameAt, slotAt}
-use Rattle.dir_entry.proofs.Slots.{stop-offset, pick-case}
+use Rattle.dir_entry.proofs.Slots.{stop-offset}
 use Rattle.read_dir.specs.Walk.{Walk, item, finished, damaged, onSlot, inArea, shown, entriesFrom, chainFrom}
 use Rattle.read_dir.specs.Cursor.{restFrom}
 

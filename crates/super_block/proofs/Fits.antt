@@ -1,13 +1,14 @@
--- What `Fit` gives: the places of superblock, bitmap and data in the image.
+-- What `Fit` gives: the places of superblock, bitmap and data in the image, and the volume of an image that was checked.
 use mathlib.Core.Path.{_≡_, refl, sym, ap, _∙_, subst}
 use mathlib.Core.List.{List}
-use Prim.Native.Nat.{ℕ, _+_, _-_, _*_, _/_, _%_, _^_, _≤_, _<_}
+use Prim.Native.Nat.{ℕ, _+_, _-_, _*_, _≤_, _<_}
 use native.Mathlib.Omega.{arith}
 use lib.ListN.{length}
-use Rattle.block.specs.Block.{Kept}
-use Rattle.model.specs.Geometry.{Geo, geo, geoAt, formatGeo, blockSize, mapAt, dataAt, reach, mapBits, Sound, openRefusal, formatRefusal}
-use Rattle.model.proofs.Areas.{Area, area, few}
+use Rattle.model.specs.Geometry.{Geo, geo, geoAt, formatGeo, dataAt, reach, Sound, openRefusal, formatRefusal, countAt}
+use Rattle.model.proofs.Areas.{area, few}
 use Rattle.model.proofs.Opens.{opens-sound, format-sound}
+use Rattle.model.specs.Volume.{Volume, WellFormed, maxDepth}
+use Rattle.model.proofs.OneVolume.{well-formed-geo}
 use Rattle.super_block.specs.declared.SuperBlock.{SuperBlock}
 use Rattle.super_block.specs.Super.{geoOf, superBlock, Fit}
 
@@ -60,3 +61,19 @@ placed {s} {I} f =
       reached = omega (arith, a .reached, f .reach);
       enough = rw (b, d) (a .enough);
     }
+
+-- there is a data area,
+pub area-inside : {s : SuperBlock} {I : List ℕ} → Fit s I → s .area .0 ≤ s .blocks
+area-inside f = omega (arith, placed f .some-data)
+
+-- blocks are few,
+pub few-blocks : {s : SuperBlock} {I : List ℕ} → Fit s I → s .blocks ≤ 8388608
+few-blocks f = placed f .few
+
+-- and each lies in the image, and in every image of its length
+pub fit-inside : (s : SuperBlock) (I J : List ℕ) (a b : ℕ) → Fit s I → length J ≡ length I → a ≡ b → b < s .blocks → 512 * a + 512 ≤ length J
+fit-inside s I J a b f e q h = omega (arith, placed f .inside)
+
+-- The volume of a checked image, by the struct's own numbers.
+pub well-volume : (s : SuperBlock) (I : List ℕ) (w : WellFormed (s .addr .0) I) → s .blocks ≡ countAt (s .addr .0) I → Volume (geoOf s) I maxDepth (w .tree)
+well-volume s I w b = subst (λ (g : Geo). Volume g I maxDepth (w .tree)) (well-formed-geo (s .addr .0) I w ∙ ap (geo (s .addr .0)) (sym b)) (w .volume)

@@ -3,7 +3,7 @@ use mathlib.Core.Path.{_≡_, refl, sym, ap, _∙_, subst}
 use mathlib.Core.Bool.{Bool, true, false}
 use mathlib.Core.Option.{Option, none, some}
 use mathlib.Core.List.{List, [], _∷_}
-use Prim.Native.Nat.{ℕ, zero, suc, _+_, _-_, _*_, _≤_, _<_}
+use Prim.Native.Nat.{ℕ, suc, _+_, _-_, _*_, _≤_, _<_}
 use native.Mathlib.Omega.{arith}
 use lib.Dec.{eqb}
 use lib.ListN.{length}
@@ -12,14 +12,14 @@ use Rattle.wire.specs.Pick.{pick}
 use Rattle.wire.proofs.Picks.{pick-true, pick-false}
 use Rattle.block.specs.Block.{next}
 use Rattle.model.specs.Tree.{Cell, then}
-use Rattle.model.proofs.Lists.{then-some}
+use Rattle.model.proofs.Lists.{then-some, then-none}
 use Rattle.super_block.specs.declared.SuperBlock.{SuperBlock}
 use Rattle.super_block.specs.Super.{Fit}
 use Rattle.super_block.proofs.Fits.{placed}
 use Rattle.survey.specs.Survey.{Claimed, withFound, claim, cellsOf, chainOf}
 use Rattle.tally.specs.Tally.{markBytes}
 use Rattle.survey.specs.Marks.{seenOf, Checks, Inside}
-use Rattle.survey.proofs.Goes.{Check, then-none, Goes, goes-refl, goes-end, goes-stop, goes-no, goes-yes}
+use Rattle.survey.proofs.Goes.{Check, Goes, goes-refl, goes-end, goes-stop, goes-no, goes-yes}
 
 -- ---- what is claimed along the chain
 
@@ -58,12 +58,6 @@ module _ (B D n : ℕ) (I : List ℕ) where
       ap seenOf (then-none (λ t. withFound (λ cs. record { at = a; body = _ } ∷ cs) (cellsOf B D n I k (next B I a) t)) (claim-any B D n I a seen ∙ e)) ∙ seen-none (List Cell)
 
 -- ---- what the loop's calls ask
-
-pub few-blocks : (s : SuperBlock) (I : List ℕ) → Fit s I → s .blocks ≤ 8388608
-few-blocks s I f = placed f .few
-
-pub area-inside : (s : SuperBlock) (I : List ℕ) → Fit s I → s .area .0 ≤ s .blocks
-area-inside s I f = omega (arith, placed f .some-data)
 
 pub still-long : (s : SuperBlock) (W₀ W : List ℕ) → markBytes (s .area .0) (s .blocks) ≤ length W₀ → length W ≡ length W₀ → markBytes (s .area .0) (s .blocks) ≤ length W
 still-long s W₀ W h e = omega arith

@@ -9,21 +9,17 @@ use lib.ListN.{length}
 use Rattle.model.specs.Tree.{Block, Tree, sum}
 use Rattle.model.specs.Render.{View, blocksAt, dirPieces, view, render, count, blocks, ShowsAll}
 use Rattle.model.specs.Geometry.{Geo, blockSize, dataAt, Sound}
-use Rattle.model.specs.Volume.{All, GoodBlock, GoodDir, GoodBelow, GoodTree, Laid}
+use Rattle.model.specs.Volume.{GoodDir, GoodBelow, GoodTree, Laid}
 use Rattle.model.proofs.Areas.{area, few}
-use Rattle.model.proofs.Counts.{count-cons, count-none, tally}
+use Rattle.model.proofs.Counts.{count-cons, count-none, tally, count-self}
+use Rattle.model.proofs.Sums.{sum-long}
 use Rattle.survey.specs.Survey.{survey}
-use Rattle.survey.proofs.CompleteLaws.{Free, Yields, free-as, free-left, one-self, Ground, few-blocks}
+use Rattle.survey.proofs.CompleteLaws.{Free, Yields, free-as, free-left, Ground, address-small}
 use Rattle.survey.proofs.CompleteCells.{free-few}
 use Rattle.survey.proofs.CompleteBlocks.{own, ownCount, own-long}
 use Rattle.survey.proofs.CompleteDirs.{inside, inner, dir-parts, find-check}
 
 -- ---- a directory's size fits its field
-
-sum-long : {X : Type 0} (B : ℕ) (S : X → Type 0) (bs : List (Block X)) → All (GoodBlock B S) bs → sum bs ≤ (B - 5) * length bs
-unfolding sum
-sum-long B S [] a = omega arith
-sum-long B S (b ∷ bs) a = omega (arith, sum-long B S bs (a .1), a .0 .fits, mul-suc (B - 5) (length bs))
 
 module _ {X : Type 0} {B D n : ℕ} {I : List ℕ} (g : Ground B D n I) (v : View X) (S : X → Type 0) where
   dir-fits : (bs : List (Block X)) (seen : List ℕ) → GoodDir B S bs → Free D n seen (inside (dirPieces B v bs)) → ((blocksAt bs < 2 ^ 32) × (blocksAt bs ≡ 0 → ⊥)) × (sum bs < 2 ^ 32)
@@ -33,11 +29,11 @@ module _ {X : Type 0} {B D n : ℕ} {I : List ℕ} (g : Ground B D n I) (v : Vie
       let c : ℕ → ℕ = ownCount (b ∷ bs) in
       let m : ℕ → ℕ = inside (inner v (b ∷ bs)) in
       let q : Free D n seen c = free-left c m (free-as (inside (dirPieces B v (b ∷ bs))) (λ i. c i + m i) (λ i. dir-parts B v i (b ∷ bs)) f) in
-      let h : (D ≤ b .at) × (b .at < n) = q .range (b .at) (omega (arith, count-cons (b .at) (b .at) (own bs), one-self (b .at))) in
+      let h : (D ≤ b .at) × (b .at < n) = q .range (b .at) (omega (arith, count-cons (b .at) (b .at) (own bs), count-self (b .at))) in
       let k : ℕ = length (b ∷ bs) in
       let l : suc k ≤ n = omega (arith, own-long (b ∷ bs), free-few seen (own (b ∷ bs)) q, g .first) in
       let w : (B - 5) * k ≤ B * k = omega (arith, mul-comm (B - 5) k, mul-comm B k, mul-le-mul-left k (let e : B - 5 ≤ B = omega arith in e)) in
-      ((few-blocks g (b .at) (h .1), λ z. omega (arith, g .first, h .0)), omega (arith, sum-long B S (b ∷ bs) (a .all), w, mul-le-mul-left B l, mul-suc B k, mul-comm B n, g .few, g .large))
+      ((address-small g (b .at) (h .1), λ z. omega (arith, g .first, h .0)), omega (arith, sum-long B S (b ∷ bs) (a .all), w, mul-le-mul-left B l, mul-suc B k, mul-comm B n, g .few, g .large))
 
 module _ {B D n : ℕ} {I : List ℕ} (g : Ground B D n I) where
   -- by depth

@@ -1,5 +1,5 @@
 -- The blocks of a directory that an image shows are those that the check finds.
-use mathlib.Core.Path.{_≡_, refl, sym, ap, _∙_, subst}
+use mathlib.Core.Path.{_≡_, refl, sym, ap, _∙_}
 use mathlib.Core.Bool.{true}
 use mathlib.Core.Option.{Option, none, some}
 use mathlib.Core.List.{List, [], _∷_, _++_}
@@ -9,20 +9,19 @@ use lib.ListN.{length}
 use borrow.Author.Tests.{eq-eqb, ne-eqb}
 use Rattle.wire.specs.Be.{bytes}
 use Rattle.wire.specs.Pick.{pick}
-use Rattle.wire.proofs.Laws.{length-bytes}
 use Rattle.wire.proofs.Picks.{pick-true, pick-false}
 use Rattle.block.specs.Block.{next}
 use Rattle.model.specs.Tree.{Entry, Block, then, Filled, Packed}
 use Rattle.model.specs.Render.{View, blocksAt, padded, entriesBytes, entryPieces, dirPieces, count, Shows, ShowsAll}
 use Rattle.model.specs.Volume.{All, GoodBlock}
-use Rattle.model.proofs.Commit.{shows-two}
-use Rattle.model.proofs.Counts.{count-cons, count-none}
+use Rattle.model.proofs.Counts.{count-cons, count-none, count-self}
 use Rattle.model.proofs.Frame.{shows-right}
-use Rattle.dir_entry.specs.Entry.{placeAt}
+use Rattle.model.proofs.Entries.{next-shown}
+use Rattle.dir_entry.proofs.Shown.{Legible, data-shown}
 use Rattle.survey.specs.Survey.{Raw, RawBlock, hasSome, Claimed, withFound, claim, rawsFrom, laterOf, blocksOf}
-use Rattle.survey.proofs.CompleteLaws.{Free, Yields, free-as, free-right, finds-end, finds-as, finds-same, finds-test, finds-with, finds-claim, one, one-self, Ground, block-inside, few-blocks}
-use Rattle.survey.proofs.CompleteCells.{next-shown, free-few}
-use Rattle.survey.proofs.CompleteRaws.{rawsOf, Legible, find-raws}
+use Rattle.survey.proofs.CompleteLaws.{Free, Yields, free-as, free-right, finds-end, finds-as, finds-same, finds-test, finds-with, finds-claim, one, Ground, ground-inside, address-small}
+use Rattle.survey.proofs.CompleteCells.{free-few}
+use Rattle.survey.proofs.CompleteRaws.{rawsOf, find-raws}
 use Rattle.survey.proofs.CompleteNames.{rawBlocks}
 
 -- The addresses of a directory's own blocks, and how often i is one.
@@ -52,19 +51,13 @@ module _ {X : Type 0} {B D n : ℕ} {I : List ℕ} (g : Ground B D n I) (v : Vie
   block-raws : (b : Block X) (z : ℕ) → b .at < n → GoodBlock B S b → Clear v b → Shows I (B * b .at) (bytes 4 z ++ padded (B - 4) (entriesBytes v (b .entries)))
       → rawsFrom B I B (b .at) 0 ≡ some (rawsOf v (b .entries))
   block-raws b z h a l s =
-      let m : List ℕ = padded (B - 4) (entriesBytes v (b .entries)) in
-      let x : B * b .at + length (bytes 4 z) ≡ placeAt B (b .at) 0 = omega (arith, length-bytes 4 z) in
-      let y : B - 4 ≡ B - 4 - 0 = omega arith in
-      let t : Shows I (placeAt B (b .at) 0) (padded (B - 4 - 0) (entriesBytes v (b .entries)))
-      = subst (λ (j : ℕ). Shows I (placeAt B (b .at) 0) (padded j (entriesBytes v (b .entries)))) y
-      (subst (λ (j : ℕ). Shows I j m) x (shows-two I (B * b .at) (bytes 4 z) m s)) in
-      find-raws B D n I v (b .at) (g .large) (block-inside g (b .at) h) (b .entries) B 0 (omega arith) (omega (arith, a .fits)) l t
+      find-raws B D n I v (b .at) (g .large) (ground-inside g (b .at) h) (b .entries) B 0 (omega arith) (omega (arith, a .fits)) l (data-shown B I v (b .at) z (b .entries) s)
 
   -- a next address fits its field
   own-small : (bs : List (Block X)) (seen : List ℕ) → Free D n seen (ownCount bs) → blocksAt bs < 2 ^ 32
   unfolding own blocksAt
   own-small [] seen f = omega arith
-  own-small (b ∷ bs) seen f = few-blocks g (b .at) (f .range (b .at) (omega (arith, count-cons (b .at) (b .at) (own bs), one-self (b .at))) .1)
+  own-small (b ∷ bs) seen f = address-small g (b .at) (f .range (b .at) (omega (arith, count-cons (b .at) (b .at) (own bs), count-self (b .at))) .1)
 
   after : (b : Block X) (bs : List (Block X)) → ShowsAll B I (dirPieces B v (b ∷ bs)) → ShowsAll B I (dirPieces B v bs)
   unfolding dirPieces
@@ -78,7 +71,7 @@ module _ {X : Type 0} {B D n : ℕ} {I : List ℕ} (g : Ground B D n I) (v : Vie
   unfolding dirPieces own then
   find-block b bs seen f y a l s r go =
       let q : Free D n seen (λ i. one (b .at) i + ownCount bs i) = free-as (ownCount (b ∷ bs)) (λ i. one (b .at) i + ownCount bs i) (λ i. count-cons i (b .at) (own bs)) r in
-      let h : (D ≤ b .at) × (b .at < n) = q .range (b .at) (omega (arith, one-self (b .at))) in
+      let h : (D ≤ b .at) × (b .at < n) = q .range (b .at) (omega (arith, count-self (b .at))) in
       let rest : Free D n (b .at ∷ seen) (ownCount bs) = free-right (one (b .at)) (ownCount bs) (b .at ∷ seen) (λ i. omega (arith, count-cons i (b .at) seen)) q in
       let z : next B I (b .at) ≡ blocksAt bs = next-shown B I (b .at) (blocksAt bs) (padded (B - 4) (entriesBytes v (b .entries))) (own-small bs (b .at ∷ seen) rest) (s .0) in
       let w : rawsFrom B I B (b .at) 0 ≡ some (rawsOf v (b .entries)) = block-raws b (blocksAt bs) (h .1) a l (s .0) in
@@ -100,7 +93,7 @@ module _ {X : Type 0} {B D n : ℕ} {I : List ℕ} (g : Ground B D n I) (v : Vie
   find-later [] (suc k) seen h p a l s r = finds-same _ _ [] seen _ (pick-true _ _ (eq-eqb 0 0 refl)) (finds-end [] seen _ (λ i. count-none i))
   find-later (b ∷ bs) zero seen h p a l s r = absurd (omega arith)
   find-later (b ∷ bs) (suc k) seen h p a l s r =
-      let m : (D ≤ b .at) × (b .at < n) = r .range (b .at) (omega (arith, count-cons (b .at) (b .at) (own bs), one-self (b .at))) in
+      let m : (D ≤ b .at) × (b .at < n) = r .range (b .at) (omega (arith, count-cons (b .at) (b .at) (own bs), count-self (b .at))) in
       finds-same _ _ (rawBlocks v (b ∷ bs)) seen _ (pick-false _ _ (ne-eqb (b .at) 0 (λ z. omega (arith, m .0, g .first))))
       (find-block b bs seen (λ rs z t. pick (hasSome rs) (withFound (with (b .at) rs) (laterOf B D n I k z t)) none) (rawBlocks v (b ∷ bs)) (a .0) (l .0) s r
       (λ q. finds-test _ _ _ (b .at ∷ seen) _ (has-some v (b .entries) (p .0))

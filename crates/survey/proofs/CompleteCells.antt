@@ -5,8 +5,7 @@ use mathlib.Core.List.{List, [], _∷_, _++_}
 use Prim.Native.Nat.{ℕ, zero, suc, _+_, _-_, _*_, _^_, _≤_, _<_}
 use native.Mathlib.Omega.{arith}
 use lib.Dec.{eqb}
-use lib.ListN.{length, take, drop, length-take, length-drop}
-use lib.Seq.{ext-getD, getD-take, getD-drop}
+use lib.ListN.{length, take, drop}
 use borrow.Author.Tests.{eq-eqb, ne-eqb}
 use Rattle.wire.specs.Be.{bytes}
 use Rattle.wire.specs.Pick.{pick}
@@ -16,18 +15,13 @@ use Rattle.block.specs.Block.{next}
 use Rattle.model.specs.Tree.{Cell, then}
 use Rattle.model.specs.Render.{cellsAt, cellPieces, ats, count, Shows, ShowsAll}
 use Rattle.model.specs.Volume.{All, GoodCell}
-use Rattle.model.proofs.Commit.{shows-one, shows-two}
-use Rattle.model.proofs.Counts.{count-cons, tally, tally-none}
-use Rattle.model.proofs.Entries.{be-shown}
+use Rattle.model.proofs.Commit.{shows-two}
+use Rattle.model.proofs.Counts.{count-cons, tally, tally-none, count-self, cells-long}
+use Rattle.model.proofs.Entries.{next-shown}
 use Rattle.model.proofs.OneVolume.{shown-part}
 use Rattle.model.proofs.Sums.{row}
 use Rattle.survey.specs.Survey.{Claimed, withFound, claim, bodyAt, cellsOf, chainOf}
-use Rattle.survey.proofs.CompleteLaws.{Free, Yields, free-as, free-right, finds-end, finds-as, finds-same, finds-test, finds-with, finds-claim, one, one-self, Ground, block-inside, few-blocks}
-
--- a block that the image shows has the next address that it shows
-pub next-shown : (B : ℕ) (I : List ℕ) (a z : ℕ) (l : List ℕ) → z < 2 ^ 32 → Shows I (B * a) (bytes 4 z ++ l) → next B I a ≡ z
-unfolding next
-next-shown B I a z l h s = be-shown I (B * a) 4 z h (shows-one I (B * a) (bytes 4 z) l s)
+use Rattle.survey.proofs.CompleteLaws.{Free, Yields, free-as, free-right, finds-end, finds-as, finds-same, finds-test, finds-with, finds-claim, one, Ground, ground-inside, address-small}
 
 -- bytes that the image shows are read, so many as they are
 read-part : (I : List ℕ) (at k : ℕ) (l : List ℕ) → length l ≡ k → at + k ≤ length I → Shows I at l → take k (drop at I) ≡ l
@@ -47,20 +41,20 @@ module _ {B D n : ℕ} {I : List ℕ} (g : Ground B D n I) where
   pub cells-small : (cs : List Cell) (seen : List ℕ) → Free D n seen (λ i. tally i (cellPieces cs)) → cellsAt cs < 2 ^ 32
   unfolding cellsAt
   cells-small [] seen f = omega arith
-  cells-small (c ∷ cs) seen f = few-blocks g (c .at) (f .range (c .at) (omega (arith, cells-tally (c .at) c cs, one-self (c .at))) .1)
+  cells-small (c ∷ cs) seen f = address-small g (c .at) (f .range (c .at) (omega (arith, cells-tally (c .at) c cs, count-self (c .at))) .1)
 
   -- and where there is a block it is not 0
   pub cells-real : (cs : List Cell) (seen : List ℕ) → 1 ≤ length cs → Free D n seen (λ i. tally i (cellPieces cs)) → cellsAt cs ≡ 0 → ⊥
   unfolding cellsAt
   cells-real [] seen h f z = absurd (omega arith)
-  cells-real (c ∷ cs) seen h f z = omega (arith, g .first, f .range (c .at) (omega (arith, cells-tally (c .at) c cs, one-self (c .at))) .0)
+  cells-real (c ∷ cs) seen h f z = omega (arith, g .first, f .range (c .at) (omega (arith, cells-tally (c .at) c cs, count-self (c .at))) .0)
 
   -- what a block of a chain shows: its next address and its body
   cell-is : (c : Cell) (cs : List Cell) → c .at < n → cellsAt cs < 2 ^ 32 → GoodCell B c → Shows I (B * c .at) (bytes 4 (cellsAt cs) ++ c .body)
       → (next B I (c .at) ≡ cellsAt cs) × (bodyAt B D n I (c .at) ≡ c .body)
   cell-is c cs h m k s =
       let z : Shows I (B * c .at + 4) (c .body) = subst (λ (j : ℕ). Shows I (B * c .at + j) (c .body)) (length-bytes 4 (cellsAt cs)) (shows-two I (B * c .at) (bytes 4 (cellsAt cs)) (c .body) s) in
-      (next-shown B I (c .at) (cellsAt cs) (c .body) m s, read-part I (B * c .at + 4) (B - 4) (c .body) (k .whole) (omega (arith, block-inside g (c .at) h, g .large)) z)
+      (next-shown B I (c .at) (cellsAt cs) (c .body) m s, read-part I (B * c .at + 4) (B - 4) (c .body) (k .whole) (omega (arith, ground-inside g (c .at) h, g .large)) z)
 
   -- one block is claimed and found, then the others
   find-cell : (c : Cell) (cs : List Cell) (seen : List ℕ) (f : List ℕ → ℕ → Option (Claimed (List Cell))) → GoodCell B c → ShowsAll B I (cellPieces (c ∷ cs)) → Free D n seen (chain (c ∷ cs))
@@ -69,7 +63,7 @@ module _ {B D n : ℕ} {I : List ℕ} (g : Ground B D n I) where
   unfolding cellPieces
   find-cell c cs seen f k s r go =
       let q : Free D n seen (λ i. one (c .at) i + chain cs i) = free-as (chain (c ∷ cs)) (λ i. one (c .at) i + chain cs i) (λ i. cells-tally i c cs) r in
-      let h : (D ≤ c .at) × (c .at < n) = q .range (c .at) (omega (arith, one-self (c .at))) in
+      let h : (D ≤ c .at) × (c .at < n) = q .range (c .at) (omega (arith, count-self (c .at))) in
       let after : Free D n (c .at ∷ seen) (chain cs) = free-right (one (c .at)) (chain cs) (c .at ∷ seen) (λ i. omega (arith, count-cons i (c .at) seen)) q in
       let e = cell-is c cs (h .1) (cells-small cs (c .at ∷ seen) after) k (s .0) in
       let with-body : List ℕ → Cell = λ b. record { at = c .at; body = b } in
@@ -104,18 +98,13 @@ module _ {B D n : ℕ} {I : List ℕ} (g : Ground B D n I) where
   find-chain (suc k) c (b ∷ cs) seen l m s r =
       find-cell c (b ∷ cs) seen (more (suc k)) (m .0) s r
       (λ q.
-      let h : (D ≤ b .at) × (b .at < n) = q .range (b .at) (omega (arith, cells-tally (b .at) b cs, one-self (b .at))) in
+      let h : (D ≤ b .at) × (b .at < n) = q .range (b .at) (omega (arith, cells-tally (b .at) b cs, count-self (b .at))) in
       finds-same _ _ (b ∷ cs) (c .at ∷ seen) _ (pick-false _ _ (ne-eqb (b .at) 0 (λ z. omega (arith, h .0, g .first))))
       (find-chain k b cs (c .at ∷ seen) (omega arith) (m .1) (s .1) q))
 
 -- Free blocks are no more than the area has.
 pub free-few : {D n : ℕ} (seen l : List ℕ) → Free D n seen (λ i. count i l) → length l ≤ n - D
 free-few {D} {n} seen l f = row (n - D) D l (λ i. omega (arith, f .once i)) (λ i h. let r = f .range i h in (omega arith, omega arith))
-
-cells-long : (cs : List Cell) → length (ats (cellPieces cs)) ≡ length cs
-unfolding cellPieces ats
-cells-long [] = refl
-cells-long (c ∷ cs) = ap suc (cells-long cs)
 
 module _ {B D n : ℕ} {I : List ℕ} (g : Ground B D n I) where
   -- A device's chain, which has a block.

@@ -2,7 +2,7 @@
 use mathlib.Core.Path.{_≡_, refl, sym, ap, _∙_, subst}
 use mathlib.Core.Option.{Option}
 use mathlib.Core.List.{List, [], _∷_, _++_}
-use Prim.Native.Nat.{ℕ, _+_, _-_, _^_, _<_}
+use Prim.Native.Nat.{ℕ, _+_, _-_, _^_, _<_, _≤_}
 use native.Mathlib.Omega.{arith}
 use lib.ListN.{length}
 use borrow.Author.Tests.{le-leb, eq-eqb}
@@ -13,10 +13,12 @@ use Rattle.model.proofs.Contents.{blocks-some}
 use Rattle.model.proofs.Counts.{count-cons, count-none, tally, tally-none, tally-append, dir-tally, entries-tally}
 use Rattle.model.proofs.Frame.{shows-left, shows-right}
 use Rattle.dir_entry.specs.declared.DirEntry.{DirEntry}
+use Rattle.dir_entry.specs.Shown.{kindIs, headOf}
+use Rattle.dir_entry.proofs.Shown.{Legible}
 use Rattle.survey.specs.Survey.{Claimed, withFound, cellsOf, chainOf, subOf, nodeOf, entriesOf, dirOf, checkDir, blocksOf}
 use Rattle.survey.proofs.CompleteLaws.{Free, Yields, free-as, free-part, free-left, free-right, finds-end, finds-as, finds-same, finds-test, finds-with, finds-then, Ground}
 use Rattle.survey.proofs.CompleteCells.{cells-small, cells-real, find-cells, find-device}
-use Rattle.survey.proofs.CompleteRaws.{kindIs, headOf, rawsOf, Legible}
+use Rattle.survey.proofs.CompleteRaws.{rawsOf}
 use Rattle.survey.proofs.CompleteNames.{rawBlocks, names-pass}
 use Rattle.survey.proofs.CompleteBlocks.{own, ownCount, Clear, find-blocks}
 
@@ -118,11 +120,15 @@ module _ {X : Type 0} {B D n : ℕ} {I : List ℕ} (g : Ground B D n I) (v : Vie
   node-fits (device z cs) seen a f = ((cells-small g cs seen f, cells-real g cs seen (a .some-block) f), a .limit)
   node-fits (sub x) seen a f = sb .fits x seen a f
 
+  -- a number that is not 0
+  some : {k : ℕ} → (k ≡ 0 → ⊥) → 1 ≤ k
+  some h = omega arith
+
   entries-clear : (es : List (Entry X)) (seen : List ℕ) → All (GoodEntry B S) es → Free D n seen (inside (entryPieces v es)) → All (Legible v) es
   entries-clear [] seen a f = tt
   entries-clear (e ∷ es) seen a f =
       let r = node-fits (e .node) seen (a .0 .below) (free-part _ (inside (nodePieces v (e .node))) (λ i. omega (arith, entries-tally B v i e es)) f) in (
-        record { good-name = a .0 .good-name; address = r .0 .0; real = r .0 .1; size = r .1; time = a .0 .clock },
+        record { good-name = a .0 .good-name; some-address = some (r .0 .1); address = r .0 .0; size = r .1; time = a .0 .clock },
         entries-clear es seen (a .1) (free-part _ (inside (entryPieces v es)) (λ i. omega (arith, entries-tally B v i e es)) f),
       )
 

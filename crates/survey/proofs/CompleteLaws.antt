@@ -3,18 +3,18 @@ use mathlib.Core.Path.{_≡_, refl, ap, _∙_}
 use mathlib.Core.Bool.{Bool, true}
 use mathlib.Core.Option.{Option, none, some}
 use mathlib.Core.List.{List, [], _∷_}
-use Prim.Native.Nat.{ℕ, suc, _+_, _-_, _*_, _^_, _≤_, _<_}
-use native.Mathlib.Nat.{mul-suc, mul-comm, mul-le-mul-left}
+use Prim.Native.Nat.{ℕ, _+_, _*_, _^_, _≤_, _<_}
+use native.Mathlib.Nat.{mul-le-mul-left}
 use lib.ListN.{length}
 use native.Mathlib.Omega.{arith}
-use borrow.Author.Tests.{le-leb, lt-ltb, eq-eqb}
+use Rattle.survey.proofs.Claims.{claim-free}
 use Rattle.wire.specs.Pick.{pick}
 use Rattle.wire.proofs.Picks.{pick-true}
 use Rattle.model.specs.Tree.{then}
 use Rattle.model.specs.Render.{count}
-use Rattle.model.proofs.Counts.{count-same, count-cons, count-none}
+use Rattle.model.proofs.Counts.{count-cons, count-self}
+use Rattle.model.proofs.Areas.{row-inside}
 use Rattle.survey.specs.Survey.{Claimed, withFound, claim}
-use Rattle.survey.proofs.SoundCells.{block-whole}
 
 -- Blocks, of which i stands c i times: they are in D..n-1, none is there twice, and none is claimed.
 pub record Free (D n : ℕ) (seen : List ℕ) (c : ℕ → ℕ) : Type 0 where
@@ -83,15 +83,7 @@ finds-then {X} {Y} o f x y seen c e r k =
 abbrev pub one : ℕ → ℕ → ℕ
 one a i = count i (a ∷ [])
 
-pub one-self : (a : ℕ) → one a a ≡ 1
-one-self a = count-same a a [] refl ∙ ap suc (count-none a)
-
 module _ (B D n : ℕ) (I : List ℕ) (a : ℕ) (seen : List ℕ) where
-  -- A block of the area that nobody has is claimed.
-  pub claim-free : (D ≤ a) × (a < n) → count a seen ≡ 0 → claim B D n I a seen ≡ some (a ∷ seen)
-  unfolding claim
-  claim-free h z = pick-true _ _ (rw (le-leb D a (h .0), lt-ltb a n (h .1), eq-eqb (count a seen) 0 z))
-
   -- a block is claimed, then another step
   pub finds-claim : {Y : Type 0} (f : List ℕ → Option (Claimed Y)) (y : Y) (e : ℕ → ℕ) → Free D n seen (λ i. one a i + e i)
       → (Free D n (a ∷ seen) e → Yields (f (a ∷ seen)) y (a ∷ seen) e) → Yields (then (claim B D n I a seen) f) y seen (λ i. one a i + e i)
@@ -99,7 +91,7 @@ module _ (B D n : ℕ) (I : List ℕ) (a : ℕ) (seen : List ℕ) where
   finds-claim f y e r k =
       let q : (i : ℕ) → count i (a ∷ seen) ≡ count i seen + one a i = λ i. omega (arith, count-cons i a seen) in
       let m : Yields (f (a ∷ seen)) y (a ∷ seen) e = k (free-right (one a) e (a ∷ seen) q r) in
-      let z : claim B D n I a seen ≡ some (a ∷ seen) = claim-free (r .range a (omega (arith, one-self a))) (omega (arith, one-self a, r .once a)) in
+      let z : claim B D n I a seen ≡ some (a ∷ seen) = let h = r .range a (omega (arith, count-self a)) in claim-free B D n I a seen (h .0) (h .1) (omega (arith, count-self a, r .once a)) in
       record { now = m .now; is = ap (λ (x : Option (List ℕ)). then x f) z ∙ m .is; counts = λ i. omega (arith, m .counts i, q i) }
 
 -- ---- the volume's numbers
@@ -113,8 +105,8 @@ pub record Ground (B D n : ℕ) (I : List ℕ) : Type 0 where
 
 module _ {B D n : ℕ} {I : List ℕ} (g : Ground B D n I) where
   -- a block of the volume is in the image, and its address fits four bytes
-  pub block-inside : (a : ℕ) → a < n → B * a + B ≤ length I
-  block-inside a h = block-whole B n I a (g .inside) h
+  pub ground-inside : (a : ℕ) → a < n → B * a + B ≤ length I
+  ground-inside a h = row-inside B n (length I) a (g .inside) h
 
-  pub few-blocks : (a : ℕ) → a < n → a < 2 ^ 32
-  few-blocks a h = omega (arith, g .few, mul-le-mul-left n (g .large))
+  pub address-small : (a : ℕ) → a < n → a < 2 ^ 32
+  address-small a h = omega (arith, g .few, mul-le-mul-left n (g .large))

@@ -1,16 +1,15 @@
 -- A directory's blocks and names: what the code knows where it answers.
 use mathlib.Core.Path.{_≡_, refl, sym, ap, _∙_, subst}
 use mathlib.Core.Bool.{Bool, true, false, not, _&&_}
-use mathlib.Core.Option.{Option, none, some}
+use mathlib.Core.Option.{none, some}
 use mathlib.Core.List.{List, []}
-use Prim.Native.Nat.{ℕ, suc, _+_, _-_, _*_, _≤_, _<_}
+use Prim.Native.Nat.{ℕ, suc, _-_, _≤_}
 use native.Mathlib.Omega.{arith}
-use lib.ListN.{length}
 use Rattle.wire.specs.Pick.{pick}
 use Rattle.wire.proofs.Picks.{pick-true, pick-false}
 use Rattle.block.specs.Block.{next}
 use Rattle.model.specs.Tree.{then}
-use Rattle.model.proofs.Lists.{then-some}
+use Rattle.model.proofs.Lists.{then-some, then-none}
 use Rattle.super_block.specs.declared.SuperBlock.{SuperBlock}
 use Rattle.super_block.specs.Super.{Fit}
 use Rattle.super_block.proofs.Fits.{placed}
@@ -21,7 +20,7 @@ use Rattle.survey.specs.Marks.{seenOf, Checks, Inside}
 use Rattle.survey.specs.Steps.{heldAt, mayStand, blockCheck, openDir}
 use Rattle.survey.specs.declared.Held.{Held}
 use Rattle.survey.specs.declared.Held.the-variants as held
-use Rattle.survey.proofs.Goes.{Check, then-none, Goes, goes-end, goes-stop, goes-last, step-no, step-yes}
+use Rattle.survey.proofs.Goes.{Check, Goes, goes-end, goes-stop, goes-last, step-no, step-yes}
 use Rattle.survey.proofs.Chains.{Along, Left, left-step, left-stop}
 use Rattle.survey.proofs.WalkedBlocks.{block-steps, later-steps, later-end, later-over, open-steps}
 

@@ -1,11 +1,11 @@
 -- A check in steps: what is left to check from the marks Z on is what was to be checked from the marks W on.
-use mathlib.Core.Path.{_≡_, refl, sym, ap, _∙_, subst}
+use mathlib.Core.Path.{_≡_, refl, _∙_, subst}
 use mathlib.Core.Bool.{Bool, true, false}
 use mathlib.Core.Option.{Option, none, some}
 use mathlib.Core.List.{List}
 use Prim.Native.Nat.{ℕ}
 use Rattle.model.specs.Tree.{then}
-use Rattle.model.proofs.Lists.{then-some}
+use Rattle.model.proofs.Lists.{then-some, then-none}
 use Rattle.survey.specs.Marks.{Marks, Beyond, Answers, Checks}
 use Rattle.survey.proofs.Claims.{beyond-refl}
 
@@ -15,10 +15,6 @@ Check = List ℕ → Option (List ℕ)
 
 pub beyond-trans : {D n : ℕ} {W Z U : List ℕ} → Beyond D n W Z → Beyond D n Z U → Beyond D n W U
 beyond-trans p q = record { long = q .long ∙ p .long; rest = λ j h. q .rest j h ∙ p .rest j h }
-
-pub then-none : {X Y : Type 0} {o : Option X} (f : X → Option Y) → o ≡ none → then o f ≡ none
-unfolding then
-then-none f e = ap (λ (o : Option _). then o f) e
 
 pub record Goes (D n : ℕ) (f g : Check) (W Z : List ℕ) : Type 0 where
   pub beyond : Beyond D n W Z

@@ -1,12 +1,11 @@
 -- One block of a directory, entry after entry: what the loop that looks at it keeps, and one law for each answer.
-use mathlib.Core.Path.{_≡_, refl, sym, ap, _∙_, subst}
+use mathlib.Core.Path.{_≡_, refl, sym, ap, _∙_}
 use mathlib.Core.Bool.{Bool, true, false, not, _&&_}
 use mathlib.Core.Option.{Option, none, some}
 use mathlib.Core.List.{List, [], _∷_}
-use Prim.Native.Nat.{ℕ, zero, suc, _+_, _-_, _*_, _≤_, _<_}
+use Prim.Native.Nat.{ℕ, zero, suc, _+_, _-_, _≤_, _<_}
 use native.Mathlib.Omega.{arith}
 use lib.Dec.{eqb}
-use lib.ListN.{length}
 use borrow.Author.Tests.{eq-eqb, ne-eqb}
 use Rattle.wire.specs.Pick.{pick, zeroFrom}
 use Rattle.wire.proofs.Picks.{pick-true, pick-false}
@@ -21,7 +20,6 @@ use Rattle.survey.specs.Survey.{Raw, hasSome, passes, onSlot, rawsFrom}
 use Rattle.survey.specs.Steps.{heldAt, restAt}
 use Rattle.survey.specs.declared.Held.{Held}
 use Rattle.survey.specs.declared.Held.the-variants as held
-use Rattle.read_dir.specs.Finds.{sumFrom}
 use Rattle.read_dir.specs.declared.Summed.{Summed}
 use Rattle.read_dir.specs.declared.Summed.the-variants as summed
 use Rattle.survey.specs.Steps.{isTotal}
@@ -70,12 +68,12 @@ total-none size s m e g = ap (isTotal size) (sym g ∙ e)
 
 module _ (B : ℕ) (I : List ℕ) (a : ℕ) where
   -- what is read where e is at offset o, and where the entries stop there
-  abbrev reads : ℕ → ℕ → DirEntry → Option (List Raw)
+  abbrev pub reads : ℕ → ℕ → DirEntry → Option (List Raw)
   reads f o e =
       pick (passes e (nameAt I (placeAt B a o) (e .len)))
       (then (rawsFrom B I f a (o + header + e .len)) (λ rs. some (record { head = e; name = nameAt I (placeAt B a o) (e .len) } ∷ rs))) none
 
-  abbrev stops : ℕ → Option (List Raw)
+  abbrev pub stops : ℕ → Option (List Raw)
   stops o = pick (zeroFrom I (placeAt B a o) (B - 4 - o)) (some []) none
 
   slot-same : (s : Slot) (g h : DirEntry → Option (List Raw)) (x : Option (List Raw)) → ((e : DirEntry) → s ≡ slot.Entry e → g e ≡ h e) → onSlot s g x ≡ onSlot s h x

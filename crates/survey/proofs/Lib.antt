@@ -8,6 +8,7 @@ pub mod SoundRaws
 pub mod Walked
 pub mod WalkedBlocks
 pub mod WalkedDirs
+pub mod Times
 pub mod SoundDirs
 pub mod Sound
 pub mod CompleteLaws

@@ -3,7 +3,6 @@ use mathlib.Core.Path.{_≡_, refl, sym, ap, _∙_, subst}
 use mathlib.Core.Option.{some}
 use mathlib.Core.List.{List, [], _∷_, _++_}
 use Prim.Native.Nat.{ℕ, zero, suc, _+_, _-_, _*_, _≤_, _<_}
-use native.Mathlib.Nat.{mul-suc, mul-comm, mul-le-mul-left}
 use native.Mathlib.Omega.{arith}
 use lib.Dec.{eqb}
 use lib.ListN.{length, take, drop, length-drop}
@@ -18,7 +17,8 @@ use Rattle.model.specs.Render.{cellsAt, cellPieces, ats, Shows, ShowsAll}
 use Rattle.model.specs.Volume.{All, GoodCell}
 use Rattle.model.specs.Steps.{Bytes}
 use Rattle.model.proofs.Commit.{shows-both}
-use Rattle.dir_entry.proofs.Heads.{bytes-shown}
+use Rattle.model.proofs.Entries.{bytes-shown}
+use Rattle.model.proofs.Areas.{row-inside}
 use Rattle.survey.specs.Survey.{Claimed, claim, bodyAt, cellsOf, chainOf}
 use Rattle.survey.proofs.SoundLaws.{Each, each-none, each-some, each-then, each-pick, each-test, each-with, Claims, claims-none, claims-both, Claim, each-claim}
 
@@ -31,10 +31,6 @@ part-shown I p k h i q =
 -- and it has its length
 pub part-long : (I : List ℕ) (p k : ℕ) → p + k ≤ length I → length (take k (drop p I)) ≡ k
 part-long I p k h = length-take-le k (drop p I) (rw length-drop (omega arith))
-
--- a block of the volume is inside the image
-pub block-whole : (B n : ℕ) (I : List ℕ) (a : ℕ) → n * B ≤ length I → a < n → B * a + B ≤ length I
-block-whole B n I a h q = omega (arith, mul-suc B a, mul-comm n B, mul-le-mul-left B q)
 
 -- What is found for a chain from a on: it begins at a, its blocks are whole, the image shows them, and they alone were claimed.
 pub record CellsFound (B D n : ℕ) (I : List ℕ) (a : ℕ) (seen : List ℕ) (c : Claimed (List Cell)) : Type 0 where
@@ -54,7 +50,7 @@ module _ (B D n : ℕ) (I : List ℕ) (large : 4 ≤ B) (all-bytes : Bytes I) (f
       → CellsFound B D n I a seen (record { found = record { at = a; body = bodyAt B D n I a } ∷ c .found; seen = c .seen })
   unfolding cellsAt cellPieces ats next
   cells-more a seen now c k f =
-      let w : B * a + B ≤ length I = block-whole B n I a fits (k .high) in
+      let w : B * a + B ≤ length I = row-inside B n (length I) a fits (k .high) in
       let x : Shows I (B * a) (bytes 4 (be 4 I (B * a))) = bytes-shown 4 I (B * a) all-bytes in
       let p : B * a + 4 ≡ B * a + length (bytes 4 (be 4 I (B * a))) = omega (arith, length-bytes 4 (be 4 I (B * a))) in
       let y : Shows I (B * a + length (bytes 4 (be 4 I (B * a)))) (bodyAt B D n I a)

@@ -1,20 +1,18 @@
 -- The directory that the check finds, over any check of what is below it.
 use mathlib.Core.Path.{_≡_, refl, sym, ap, _∙_, subst}
-use mathlib.Core.Bool.{true, false, not}
-use mathlib.Core.Logic.{_⊎_, inl, inr}
+use mathlib.Core.Bool.{true}
 use mathlib.Core.Option.{Option}
 use mathlib.Core.List.{List, [], _∷_, _++_, append-assoc}
 use Prim.Native.Nat.{ℕ, _+_, _-_, _*_, _^_, _≤_, _<_}
 use native.Mathlib.Omega.{arith}
 use lib.Dec.{leb, eqb}
 use lib.ListN.{length}
-use borrow.Author.Tests.{eqb-true, leb-true, not-true}
+use borrow.Author.Tests.{eqb-true, leb-true}
 use Rattle.wire.specs.Be.{bytes}
 use Rattle.wire.specs.Pick.{pick, same}
 use Rattle.wire.proofs.Laws.{length-bytes}
-use Rattle.wire.proofs.Picks.{either, not-both, pick-true, pick-false, same-eq}
-use Rattle.wire.proofs.Zeros.{and-both}
-use Rattle.model.specs.Tree.{Name, Node, file, device, Entry, Block, any, called, weight, used, Filled, Packed}
+use Rattle.wire.proofs.Picks.{not-both}
+use Rattle.model.specs.Tree.{Name, Node, file, device, Entry, Block, called, weight, used, Filled, Packed}
 use Rattle.model.specs.Render.{Piece, View, blocksAt, padded, kindOf, addressOf, sizeOf, entryBytes, entriesBytes, nodePieces, entryPieces, dirPieces, ats, count, Shows, ShowsAll}
 use Rattle.model.specs.Volume.{All, named, namedIn, fileLimit, blocksFor, GoodNode, GoodEntry, GoodBlock, GoodDir}
 use Rattle.model.specs.Steps.{Bytes}
@@ -25,47 +23,12 @@ use Rattle.dir_entry.specs.declared.Kind.{Kind}
 use Rattle.dir_entry.specs.declared.Kind.the-variants as kind
 use Rattle.dir_entry.specs.declared.DirEntry.{DirEntry}
 use Rattle.dir_entry.specs.Entry.{kindByte, headBytes, placeAt}
-use Rattle.names.specs.Names.{oneOf, distinct}
+use Rattle.names.specs.Names.{distinct}
 use Rattle.survey.specs.Survey.{Raw, RawBlock, namesOf, allNames, hasSome, Claimed, cellsOf, chainOf, blocksOf, subOf, nodeOf, entriesOf, dirOf, checkDir}
 use Rattle.survey.proofs.SoundLaws.{Each, each-some, each-then, each-test, each-with, Claims, claims-none, claims-both, claims-same}
 use Rattle.survey.proofs.SoundCells.{cells-found, chain-found}
 use Rattle.survey.proofs.SoundRaws.{GoodRaw, rawBytes, rawsBytes, rawsUsed, rawsAt, rawAts, BlockFound, ChainFound, RawFilled, RawPacked, blocks-found}
-
--- ---- names
-
--- how often a name stands in a list
-unfoldable pub times : Name → List Name → ℕ
-times x [] = 0
-times x (y ∷ ys) = pick (same x y) 1 0 + times x ys
-
-times-append : (x : Name) (ys zs : List Name) → times x (ys ++ zs) ≡ times x ys + times x zs
-unfolding times
-times-append x [] zs = omega arith
-times-append x (y ∷ ys) zs = omega (arith, times-append x ys zs)
-
-times-none : (x : Name) (ys : List Name) → oneOf x ys ≡ false → times x ys ≡ 0
-unfolding oneOf any times
-times-none x [] h = refl
-times-none x (y ∷ ys) h = go (either (same x y)) (times-none x ys)
-  where
-    go : (same x y ≡ true) ⊎ (same x y ≡ false) → (any (same x) ys ≡ false → times x ys ≡ 0) → pick (same x y) 1 0 + times x ys ≡ 0
-    go (inl e) r = absurd (not-both (pick-true true (any (same x) ys) e) h)
-    go (inr e) r = omega (arith, pick-false {A = ℕ} 1 0 e, r (sym (pick-false true (any (same x) ys) e) ∙ h))
-
--- In a list of distinct names each stands once at most.
-pub distinct-once : (ys : List Name) → distinct ys ≡ true → (x : Name) → times x ys ≤ 1
-unfolding distinct times
-distinct-once [] h x = omega arith
-distinct-once (y ∷ ys) h x = go (either (same x y)) (distinct-once ys (p .1) x)
-  where
-    p : (not (oneOf y ys) ≡ true) × (distinct ys ≡ true)
-    p = and-both (not (oneOf y ys)) (distinct ys) h
-
-    go : (same x y ≡ true) ⊎ (same x y ≡ false) → times x ys ≤ 1 → pick (same x y) 1 0 + times x ys ≤ 1
-    go (inl e) r =
-        let z : times x ys ≡ 0 = times-none x ys (subst (λ (w : Name). oneOf w ys ≡ false) (sym (same-eq x y e)) (not-true (oneOf y ys) (p .0))) in
-        omega (arith, pick-true {A = ℕ} 1 0 e)
-    go (inr e) r = omega (arith, pick-false {A = ℕ} 1 0 e)
+use Rattle.survey.proofs.Times.{times, times-append, distinct-once}
 
 -- a directory's blocks: its own, and those below
 blocks-split : (i a : ℕ) (ps qs : List Piece) (own inner : List ℕ) → count i (ats qs) ≡ count i own + count i inner

@@ -9,8 +9,7 @@ use native.Mathlib.Decide.{decLt, ℕ-discrete}
 use lib.Dec.{ltb, leb, eqb}
 use borrow.Author.Tests.{ltb-true, leb-true, eqb-true}
 use Rattle.wire.specs.Pick.{pick}
-use Rattle.wire.proofs.Picks.{not-both}
-use Rattle.wire.proofs.Zeros.{and-both}
+use Rattle.wire.proofs.Picks.{and-both}
 use Rattle.model.specs.Tree.{then}
 use Rattle.model.specs.Render.{count}
 use Rattle.model.proofs.Lists.{not-some}

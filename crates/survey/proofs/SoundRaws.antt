@@ -2,33 +2,35 @@
 use mathlib.Core.Path.{_≡_, refl, sym, ap, _∙_, subst}
 use mathlib.Core.Bool.{true, not, _&&_}
 use mathlib.Core.Option.{Option, some}
-use mathlib.Core.List.{List, [], _∷_, _++_, append-assoc}
+use mathlib.Core.List.{List, [], _∷_, _++_}
 use Prim.Native.Nat.{ℕ, zero, suc, _+_, _-_, _*_, _^_, _≤_, _<_}
-use native.Mathlib.Nat.{add-zero, pow-suc}
 use native.Mathlib.Omega.{arith}
 use lib.Dec.{leb, eqb}
-use lib.ListN.{length, getD, replicate, length-append, getD-replicate}
+use lib.ListN.{length, getD, length-append, getD-replicate}
 use borrow.Author.Tests.{eqb-true, eqb-false, leb-true, not-true}
 use Rattle.wire.specs.Be.{be, bytes}
 use Rattle.wire.specs.Pick.{zeroFrom}
-use Rattle.wire.proofs.Zeros.{and-both, zeros-shown}
+use Rattle.wire.proofs.Zeros.{zeros-shown}
+use Rattle.wire.proofs.Picks.{and-both}
 use Rattle.block.specs.Block.{next}
 use Rattle.model.specs.Tree.{Name}
 use Rattle.model.specs.Render.{padded, Shows}
 use Rattle.model.specs.Volume.{All, NameByte, GoodName}
 use Rattle.model.specs.Steps.{Bytes}
 use Rattle.model.proofs.Commit.{shows-both}
-use Rattle.model.proofs.Full.{length-padded}
+use Rattle.model.proofs.Full.{length-padded, padded-none, padded-after}
+use Rattle.model.proofs.Entries.{bytes-shown, be-fits}
+use Rattle.model.proofs.Areas.{row-inside}
 use Rattle.dir_entry.specs.declared.DirEntry.{DirEntry}
 use Rattle.dir_entry.specs.declared.Slot.{Slot}
 use Rattle.dir_entry.specs.declared.Slot.the-variants as slot
 use Rattle.dir_entry.specs.Entry.{header, entryAt, headBytes, placeAt, nameAt, slotAt}
-use Rattle.dir_entry.proofs.Heads.{bytes-shown, head-shown, length-head}
+use Rattle.dir_entry.proofs.Heads.{head-shown, length-head}
 use Rattle.dir_entry.proofs.Slots.{Stands, slot-stands}
 use Rattle.names.specs.Names.{nameBytes}
 use Rattle.survey.specs.Survey.{Raw, passes, RawBlock, hasSome, Claimed, onSlot, claim, rawsFrom, laterOf, blocksOf}
 use Rattle.survey.proofs.SoundLaws.{Each, each-none, each-some, each-then, each-pick, each-test, each-with, Claims, claims-none, claims-both, Claim, each-claim}
-use Rattle.survey.proofs.SoundCells.{part-shown, part-long, block-whole}
+use Rattle.survey.proofs.SoundCells.{part-shown, part-long}
 
 -- ---- one entry
 
@@ -45,12 +47,6 @@ name-allowed (c ∷ x) h =
 passes-bytes : (e : DirEntry) (x : Name) → passes e x ≡ true → nameBytes x ≡ true
 unfolding passes
 passes-bytes e x h = and-both (not (eqb (e .addr .0) 0)) (nameBytes x) h .1
-
--- a number that is read fits its field
-pub be-fits : (n : ℕ) (I : List ℕ) (at : ℕ) → Bytes I → be n I at < 256 ^ n
-unfolding be
-be-fits zero I at b = omega arith
-be-fits (suc n) I at b = rw pow-suc (omega (arith, be-fits n I at b, b (at + n)))
 
 -- An entry's fixed part and name that can stand in a block.
 pub record GoodRaw (r : Raw) : Type 0 where
@@ -73,20 +69,10 @@ rawsUsed (r ∷ rs) = 18 + length (r .name) + rawsUsed rs
 
 -- ---- zeros
 
-padded-none : (k : ℕ) → padded k [] ≡ replicate k 0
-unfolding padded
-padded-none k = let e : k - 0 ≡ k = omega arith in ap (λ (j : ℕ). replicate {A = ℕ} j 0) e
-
 rest-shown : (I : List ℕ) (p k : ℕ) → zeroFrom I p k ≡ true → Shows I p (padded k [])
 rest-shown I p k h i q =
     let m : i < k = omega (arith, length-padded k [] (omega arith)) in
     zeros-shown I p k h i m ∙ sym (getD-replicate k i 0 0 m) ∙ ap (λ (l : List ℕ). getD l i 0) (sym (padded-none k))
-
-padded-more : (c : ℕ) (l m : List ℕ) → padded c (l ++ m) ≡ l ++ padded (c - length l) m
-unfolding padded
-padded-more c l m =
-    let k : c - (length l + length m) ≡ c - length l - length m = omega arith in
-    rw (length-append, k, append-assoc)
 
 -- What is found in block a from offset o on: the image shows it there, then zeros; its entries are good and end by 507.
 pub record RawsFound (B : ℕ) (I : List ℕ) (a o : ℕ) (rs : List Raw) : Type 0 where
@@ -153,7 +139,7 @@ module _ (B D n : ℕ) (I : List ℕ) (all-bytes : Bytes I) (a : ℕ) (whole : B
       = subst (λ (j : ℕ). Shows I j (padded (B - 4 - o - length (rawBytes r)) (rawsBytes rs))) x
       (subst (λ (j : ℕ). Shows I (placeAt B a (o + header + e .len)) (padded j (rawsBytes rs))) y (f .shown)) in
       record {
-        shown = subst (Shows I p) (sym (padded-more (B - 4 - o) (rawBytes r) (rawsBytes rs)))
+        shown = subst (Shows I p) (sym (padded-after (B - 4 - o) (rawBytes r) (rawsBytes rs)))
             (shows-both I p (rawBytes r) (padded (B - 4 - o - length (rawBytes r)) (rawsBytes rs)) (raw-shown o e s) w);
         good = (g, f .good);
         ends = omega (arith, f .ends, g .len);
@@ -222,7 +208,7 @@ module _ (B D n : ℕ) (I : List ℕ) (large : 5 ≤ B) (all-bytes : Bytes I) (f
   unfolding rawsAt rawAts next
   raw-more a seen now rs c e g f =
       let k : Claim D n a seen now = each-claim D n B I a seen .is now e in
-      let w : B * a + B ≤ length I = block-whole B n I a fits (k .high) in
+      let w : B * a + B ≤ length I = row-inside B n (length I) a fits (k .high) in
       record {
         first = refl;
         chain = (

@@ -9,12 +9,12 @@ use lib.Dec.{eqb}
 use lib.ListN.{length}
 use borrow.Author.Tests.{not-true}
 use Rattle.wire.specs.Pick.{pick, zeroFrom}
-use Rattle.wire.proofs.Picks.{pick-true, pick-false}
-use Rattle.wire.proofs.Zeros.{and-both}
+use Rattle.wire.proofs.Picks.{pick-true, pick-false, and-both}
 use Rattle.block.specs.Block.{next}
 use Rattle.model.specs.Tree.{Name}
 use Rattle.model.specs.Render.{count}
 use Rattle.model.specs.Volume.{All}
+use Rattle.model.proofs.Areas.{row-inside}
 use Rattle.dir_entry.specs.declared.DirEntry.{DirEntry}
 use Rattle.dir_entry.specs.declared.Slot.{Slot}
 use Rattle.dir_entry.specs.declared.Slot.the-variants as slot
@@ -25,7 +25,7 @@ use Rattle.read_dir.specs.Walk as walks
 use Rattle.names.specs.Names.{nameBytes, distinct, namesIn, ends}
 use Rattle.survey.specs.Survey.{Raw, RawBlock, namesOf, allNames, hasSome, Claimed, onSlot, passes, claim, rawsFrom, laterOf, blocksOf}
 use Rattle.survey.proofs.SoundLaws.{Each, each-none, each-some, each-then, each-pick, each-test, each-with, Claim, each-claim}
-use Rattle.survey.proofs.SoundCells.{part-long, block-whole}
+use Rattle.survey.proofs.SoundCells.{part-long}
 
 -- ---- the walk of blocks that are found
 
@@ -194,7 +194,7 @@ module _ (B D n : ℕ) (I : List ℕ) where
 
   module _ (fits : n * B ≤ length I) where
     claimed-long : (a : ℕ) (seen now : List ℕ) (rs : List Raw) → claim B D n I a seen ≡ some now → rawsFrom B I B a 0 ≡ some rs → All LongName rs
-    claimed-long a seen now rs e g = raws-long B a 0 rs (block-whole B n I a fits (each-claim D n B I a seen .is now e .high)) g
+    claimed-long a seen now rs e g = raws-long B a 0 rs (row-inside B n (length I) a fits (each-claim D n B I a seen .is now e .high)) g
 
     abbrev Long : Claimed (List RawBlock) → Type 0
     Long c = LongNames (c .found)

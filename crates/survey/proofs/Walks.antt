@@ -1,10 +1,9 @@
 -- The walk of a directory and of an entry: what the code knows where it answers.
-use mathlib.Core.Path.{_≡_, refl, sym, ap, _∙_, subst}
+use mathlib.Core.Path.{_≡_, sym, ap, _∙_, subst}
 use mathlib.Core.Bool.{Bool, true, false}
-use mathlib.Core.Option.{Option, none, some}
+use mathlib.Core.Option.{none}
 use mathlib.Core.List.{List}
-use Prim.Native.Nat.{ℕ, zero, suc, _+_, _-_, _*_, _/_, _≤_, _<_, max}
-use native.Mathlib.Nat.{le-max-right, max-le}
+use Prim.Native.Nat.{ℕ, suc, _-_, _*_, _≤_, _<_}
 use native.Mathlib.Omega.{arith}
 use lib.Dec.{leb}
 use lib.ListN.{length}
@@ -14,13 +13,13 @@ use Rattle.wire.proofs.Picks.{pick-true, pick-false}
 use Rattle.block.specs.declared.Addr.{Addr}
 use Rattle.model.specs.Tree.{then}
 use Rattle.model.specs.Volume.{fileLimit, blocksFor}
-use Rattle.model.proofs.Lists.{then-some}
+use Rattle.model.proofs.Lists.{then-some, then-none}
 use Rattle.super_block.specs.declared.SuperBlock.{SuperBlock}
 use Rattle.super_block.specs.Super.{Fit}
 use Rattle.super_block.proofs.Fits.{placed}
 use Rattle.dir_entry.specs.declared.Kind.the-variants as kind
 use Rattle.dir_entry.specs.declared.DirEntry.{DirEntry}
-use Rattle.read_dir.specs.Walk.{Walk, item, finished, damaged, walk}
+use Rattle.read_dir.specs.Walk.{Walk, walk}
 use Rattle.read_dir.specs.Cursor.{start, cursorWalk, onStep, Stepped}
 use Rattle.read_dir.specs.Finds.{sumFrom}
 use Rattle.read_dir.specs.declared.ReadDir.{ReadDir}
@@ -30,10 +29,10 @@ use Rattle.read_dir.specs.declared.Step.the-variants as step
 use Rattle.read_dir.proofs.Along.{start-walk}
 use Rattle.names.specs.Filter.{clear}
 use Rattle.survey.specs.Survey.{cellsOf, chainOf}
-use Rattle.survey.specs.Marks.{seenOf, Answers, Checks}
+use Rattle.survey.specs.Marks.{seenOf, Checks}
 use Rattle.survey.specs.Steps.{openDir, through, isTotal, entryCheck, subCheck}
 use Rattle.survey.proofs.Claims.{beyond-refl}
-use Rattle.survey.proofs.Goes.{Check, then-none, Goes, goes-refl, goes-from, goes-end, goes-stop, goes-no, goes-yes, goes-last, step-no, step-yes}
+use Rattle.survey.proofs.Goes.{Check, Goes, goes-refl, goes-from, goes-end, goes-stop, goes-no, goes-yes, goes-last, step-no, step-yes}
 use Rattle.survey.proofs.WalkedDirs.{sub-steps, sub-none, file-steps, device-steps}
 
 -- the same check in other words
@@ -51,17 +50,6 @@ pub kept-long : (F G H : List ℕ) → F ≡ G → G ≡ H → length F ≡ leng
 kept-long F G H e h = ap length (e ∙ h)
 
 -- ---- a file's chain
-
-pub one-block : (size : ℕ) → size ≡ 0 → 1 ≡ blocksFor 512 size
-unfolding blocksFor
-one-block size z = let e : (size + 507) / 508 ≡ 0 = omega arith in sym (ap (λ (k : ℕ). max 1 k) e)
-
-pub some-blocks : (size : ℕ) → (size ≡ 0 → ⊥) → (size + 507) / 508 ≡ blocksFor 512 size
-unfolding blocksFor
-some-blocks size z =
-    let k : ℕ = (size + 507) / 508 in
-    let l : 1 ≤ k = omega arith in
-    omega (arith, le-max-right 1 k, max-le l (let w : k ≤ k = omega arith in w))
 
 module _ (D n : ℕ) (I : List ℕ) (a size : ℕ) (W : List ℕ) where
   abbrev pub fileOf : Check

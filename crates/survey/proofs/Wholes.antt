@@ -1,27 +1,25 @@
 -- The test of W1 to W5 is passed exactly by a volume: there is a tree whose volume the image is.
 use mathlib.Core.Path.{_≡_, refl, sym, ap, _∙_, subst}
-use mathlib.Core.Bool.{Bool, true, false, _&&_}
-use mathlib.Core.Logic.{_⊎_, inl, inr}
+use mathlib.Core.Bool.{Bool, true, _&&_}
 use mathlib.Core.Option.{Option, none, some}
 use mathlib.Core.List.{List, []}
-use Prim.Native.Nat.{ℕ, zero, suc, _+_, _-_, _*_, _^_, _≤_, _<_}
+use Prim.Native.Nat.{ℕ, zero, suc, _+_, _-_, _*_, _≤_, _<_}
 use native.Mathlib.Omega.{arith}
 use native.Mathlib.Decide.{ℕ-discrete}
 use lib.Dec.{eqb}
 use lib.ListN.{length}
 use borrow.Author.Tests.{eqb-true, eq-eqb}
 use Rattle.wire.specs.Pick.{zeroFrom}
-use Rattle.wire.proofs.Picks.{either, not-both}
-use Rattle.wire.proofs.Zeros.{and-both}
+use Rattle.wire.proofs.Picks.{not-both, and-both}
 use Rattle.bits.specs.Bit.{bit}
 use Rattle.model.specs.Tree.{Tree, then}
 use Rattle.model.specs.Render.{count, blocks, Shows}
 use Rattle.model.specs.Geometry.{Geo, blockSize, mapAt, dataAt, mapBits, setBits, usedCount, geoAt, superBytes, Sound, openRefusal}
-use Rattle.model.specs.Volume.{maxDepth, Laid, Volume, WellFormed}
+use Rattle.model.specs.Volume.{maxDepth, Volume, WellFormed}
 use Rattle.model.specs.Steps.{Bytes}
 use Rattle.model.proofs.Areas.{size-large}
 use Rattle.model.proofs.Lists.{not-some, then-some}
-use Rattle.model.proofs.OneVolume.{well-formed-geo, well-formed-opens}
+use Rattle.model.proofs.OneVolume.{well-formed-geo}
 use Rattle.tally.proofs.Top.{top-shown, volume-rest, volume-count}
 use Rattle.survey.specs.Survey.{Claimed, survey}
 use Rattle.survey.specs.Marks.{seenOf}

@@ -35,10 +35,7 @@ ghost use Rattle.survey.specs.Steps.{heldAt, restAt, blockCheck, openDir
 ghost use Rattle.survey.specs.Whole.{whole};
 
 // The bytes of the largest file.
-const FILE_LIMIT: u32 = 2_147_483_647;
-
-// The data bytes of a block, as sizes are counted.
-const CAPACITY: u32 = LinkedBlock::CAPACITY as u32;
+const FILE_LIMIT: u32 = model::FILE_LIMIT;
 
 // The root is at depth 0.
 const MAX_DEPTH: u32 = 16;
@@ -249,17 +246,6 @@ fn sized(img: &[u8], s: SuperBlock, a: Addr, size: u32) -> bool
     }
 }
 
-// How many blocks a file of that size has.
-fn blocks_for(size: u32) -> u32
-    requires { ⌜ size ≤ fileLimit ⌝ }
-    ensures { λ r. ⌜ r ≡ blocksFor blockBytes size ⌝ }
-{
-    if size == 0 {
-        return 1;
-    }
-    (size + (CAPACITY - 1)) / CAPACITY
-}
-
 // Whether a file of that size is within the limit and has the blocks for it, from a on.
 fn file_chain(img: &[u8], work: &mut [u8], s: SuperBlock, a: Addr, size: u32) -> bool
     requires { ⌜ Fit s (now img) ⌝ }
@@ -269,7 +255,7 @@ fn file_chain(img: &[u8], work: &mut [u8], s: SuperBlock, a: Addr, size: u32) ->
     if FILE_LIMIT < size {
         return false;
     }
-    cells(img, work, s, a, blocks_for(size))
+    cells(img, work, s, a, model::blocks_for(size))
 }
 
 // Walks an entry of a directory that may have `depth` levels below it: the chain of a file or a device, or a directory in its turn.

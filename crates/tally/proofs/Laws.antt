@@ -14,7 +14,7 @@ use Rattle.bits.proofs.Laws.{ones-le}
 use Rattle.model.specs.Geometry.{blockSize, mapAt, dataAt, reach, mapBits, setBits, usedCount}
 use Rattle.super_block.specs.declared.SuperBlock.{SuperBlock}
 use Rattle.super_block.specs.Super.{geoOf, Fit}
-use Rattle.super_block.proofs.Fits.{placed}
+use Rattle.super_block.proofs.Fits.{placed, area-inside, few-blocks}
 use Rattle.super_block.proofs.Laws.{made}
 use Rattle.tally.specs.Tally.{markBytes, mapFrom, mapLong, markLong, agreed}
 
@@ -26,12 +26,6 @@ rest-tested I k at r e f = f ∙ ap (λ (x : ℕ). zeroFrom I (x + 18) 494) e
 -- ---- the areas
 
 module _ {s : SuperBlock} {I : List ℕ} (f : Fit s I) where
-  pub area-in : s .area .0 ≤ s .blocks
-  area-in = let p = placed f in omega arith
-
-  pub few-in : s .blocks ≤ 8388608
-  few-in = placed f .few
-
   pub map-before : s .bitmap .0 ≤ s .area .0
   map-before = let p = placed f in omega arith
 
@@ -40,7 +34,7 @@ module _ {s : SuperBlock} {I : List ℕ} (f : Fit s I) where
   map-few =
       let d : s .addr .0 + 2 + (s .blocks - (s .addr .0 + 2) + 4096) / 4097 ≡ dataAt (geoOf s)
       = ap (λ (x : SuperBlock). x .area .0) (made (s .addr .0) (s .blocks) (reach (geoOf s)) refl) in
-      omega (arith, f .bitmap, f .area, few-in)
+      omega (arith, f .bitmap, f .area, few-blocks f)
 
   pub limit-fits : 4096 * (s .area .0 - s .bitmap .0) < 2 ^ 32
   limit-fits = omega (arith, map-few)
@@ -52,7 +46,7 @@ module _ {s : SuperBlock} {I : List ℕ} (f : Fit s I) where
     bits-in = let p = placed f in omega arith
 
     pub sum-fits : {c : ℕ} → c ≡ ones I at b → s .area .0 + c < 2 ^ 32
-    sum-fits {c} h = omega (arith, ones-le I at b, map-few, area-in, few-in)
+    sum-fits {c} h = omega (arith, ones-le I at b, map-few, area-inside f, few-blocks f)
 
     pub count-tested : {c u : ℕ} → c ≡ ones I at b → u ≡ usedCount (geoOf s) I
         → eqb u (s .area .0 + c) ≡ eqb (usedCount (geoOf s) I) (dataAt (geoOf s) + setBits I (geoOf s))

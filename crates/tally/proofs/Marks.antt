@@ -9,8 +9,8 @@ use native.Mathlib.Omega.{arith}
 use lib.ListN.{length, getD, take, drop, length-drop}
 use lib.Seq.{length-take-le, getD-take, getD-drop}
 use Rattle.wire.specs.Pick.{same, zeroFrom}
-use Rattle.wire.proofs.Picks.{same-eq, same-agree}
-use Rattle.wire.proofs.Zeros.{and-both, zeros-shown, zeros-pass}
+use Rattle.wire.proofs.Picks.{same-eq, same-agree, and-both}
+use Rattle.wire.proofs.Zeros.{zeros-shown, zeros-pass}
 use Rattle.bits.specs.Bit.{bit}
 use Rattle.bits.proofs.Laws.{bit-ext, bit-zero}
 use Rattle.model.specs.Geometry.{Geo, blockSize, mapAt, dataAt, mapBits, Sound}

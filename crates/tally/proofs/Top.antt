@@ -3,8 +3,7 @@
 use mathlib.Core.Path.{_≡_, sym, ap, _∙_, subst}
 use mathlib.Core.Bool.{true}
 use mathlib.Core.List.{List, [], _∷_, _++_}
-use Prim.Native.Nat.{ℕ, zero, suc, _+_, _-_, _*_, _/_, _%_, _^_, _<_}
-use native.Mathlib.Nat.{add-zero}
+use Prim.Native.Nat.{ℕ, _+_, _-_, _*_, _^_, _<_}
 use native.Mathlib.Omega.{arith}
 use lib.Dec.{eqb}
 use lib.ListN.{length, getD, take, drop, length-append, length-replicate}
@@ -23,24 +22,9 @@ use Rattle.model.specs.Volume.{Volume}
 use Rattle.model.specs.Steps.{Bytes}
 use Rattle.model.proofs.Areas.{sound-geo}
 use Rattle.model.proofs.Commit.{shows-both, shows-two}
-use Rattle.model.proofs.Entries.{be-shown}
+use Rattle.model.proofs.Entries.{be-shown, bytes-shown}
 use Rattle.model.proofs.OneVolume.{top-reads, used-set}
 use Rattle.model.proofs.Opens.{opens-sound}
-
--- the bytes of a number that is read
-number-shown : (n : ℕ) (I : List ℕ) (at : ℕ) → Bytes I → Shows I at (bytes n (be n I at))
-unfolding be bytes
-number-shown zero I at b = λ i h. absurd (omega arith)
-number-shown (suc n) I at b =
-    let v : ℕ = be n I at * 256 + getD I (at + n) 0 in
-    let q : v / 256 ≡ be n I at = omega (arith, b (at + n)) in
-    let r : v % 256 ≡ getD I (at + n) 0 = omega (arith, b (at + n)) in
-    let l : length (bytes n (v / 256)) ≡ n = length-bytes n (v / 256) in
-    shows-both I at (bytes n (v / 256)) ((v % 256) ∷ [])
-    (subst (λ (x : ℕ). Shows I at (bytes n x)) (sym q) (number-shown n I at b))
-    (λ i h.
-    let z : i ≡ 0 = omega arith in
-    rw (z, l, add-zero) (sym r))
 
 -- signature, version and size code
 abbrev mark : List ℕ
@@ -77,7 +61,7 @@ pub rest-shown : (K : ℕ) (I : List ℕ) → openRefusal K I ≡ 0 → Bytes I 
 unfolding countAt usedCount
 rest-shown K I o b z =
     super-shown I K (be 4 I (512 * K + 10)) (be 4 I (512 * K + 14)) (mark-shown I (512 * K) (opens-sound K I o .1))
-    (number-shown 4 I (512 * K + 10) b) (number-shown 4 I (512 * K + 14) b) (zeros-shown I (512 * K + 18) 494 z)
+    (bytes-shown 4 I (512 * K + 10) b) (bytes-shown 4 I (512 * K + 14) b) (zeros-shown I (512 * K + 18) 494 z)
 
 -- Back: a superblock that is shown ends in zeros,
 rest-zeros : (K n : ℕ) (I : List ℕ) (u : ℕ) → Shows I (512 * K) (superBytes (geo K n) u) → (i : ℕ) → i < 494 → getD I (512 * K + 18 + i) 0 ≡ 0

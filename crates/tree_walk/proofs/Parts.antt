@@ -1,27 +1,26 @@
--- What an image holds of a part of the tree: its pieces, in blocks of the data area, and from there the numbers that entries and chains show.
+-- What an image holds of a part of the tree: its pieces, in blocks of the data area, and from there what entries and chains show.
 use mathlib.Core.Path.{_≡_, refl, ap, subst}
 use mathlib.Core.Option.{some}
 use mathlib.Core.List.{List, [], _∷_, _++_}
-use Prim.Native.Nat.{ℕ, zero, suc, _+_, _-_, _*_, _^_, _≤_, _<_}
-use native.Mathlib.Nat.{mul-suc, mul-comm, mul-le-mul-left}
+use Prim.Native.Nat.{ℕ, zero, suc, _-_, _*_, _^_, _≤_, _<_}
 use native.Mathlib.Omega.{arith}
 use lib.ListN.{length}
-use Rattle.wire.specs.Be.{bytes}
 use Rattle.block.specs.Block.{next}
 use Rattle.model.specs.Tree.{Name, Cell, Node, file, device, sub, Entry, Block, Below, Tree, lookup, sum, Some, find, Packed}
-use Rattle.model.specs.Render.{Piece, View, cellsAt, blocksAt, addressOf, sizeOf, cellPieces, nodePieces, entryPieces, dirPieces, view, render, ats, count, Shows, ShowsAll}
+use Rattle.model.specs.Render.{Piece, View, cellsAt, blocksAt, addressOf, sizeOf, cellPieces, nodePieces, entryPieces, dirPieces, view, render, ats, count, Shows, ShowsAll, padded, entriesBytes}
 use Rattle.model.specs.Geometry.{Geo, blockSize, dataAt, Sound}
 use Rattle.model.specs.Volume.{All, GoodNode, GoodEntry, GoodBlock, GoodBelow, GoodTree, Laid}
 use Rattle.model.proofs.Areas.{area, few, size-large}
-use Rattle.model.proofs.Commit.{shows-one}
 use Rattle.model.proofs.Contents.{blocks-some}
-use Rattle.model.proofs.Counts.{ats-append, length-ats, count-append, count-same}
+use Rattle.model.proofs.Counts.{ats-append, count-append, count-same}
 use Rattle.model.proofs.Cuts.{site, dir-split, entries-split, upTo, found, sub-of}
-use Rattle.model.proofs.Entries.{be-shown}
+use Rattle.model.proofs.Entries.{next-shown}
 use Rattle.model.proofs.Frame.{shows-left, shows-right}
 use Rattle.model.proofs.Full.{good-lookup}
 use Rattle.model.proofs.Lists.{not-some}
-use Rattle.model.proofs.Sums.{row}
+use Rattle.model.proofs.Sums.{row, sum-blocks}
+use Rattle.dir_entry.specs.Entry.{placeAt}
+use Rattle.dir_entry.proofs.Shown.{Legible, data-shown}
 
 -- ---- pieces
 
@@ -107,23 +106,6 @@ part-find g I (suc d) (n ∷ p) t s a f =
 
 -- ---- chains
 
-module _ {X : Type 0} (B : ℕ) (v : View X) where
-  -- a directory has no more blocks of its own than it reaches
-  pub chain-long : (bs : List (Block X)) → length bs ≤ length (ats (dirPieces B v bs))
-  unfolding dirPieces ats
-  chain-long [] = omega arith
-  chain-long (b ∷ bs) = omega (arith, chain-long bs, length-ats (entryPieces v (b .entries)) (dirPieces B v bs))
-
-pub cells-long : (cs : List Cell) → length (ats (cellPieces cs)) ≡ length cs
-unfolding cellPieces ats
-cells-long [] = refl
-cells-long (c ∷ cs) = ap suc (cells-long cs)
-
-sum-long : {X : Type 0} (B : ℕ) (S : X → Type 0) (bs : List (Block X)) → All (GoodBlock B S) bs → sum bs ≤ (B - 5) * length bs
-unfolding sum
-sum-long B S [] a = omega arith
-sum-long B S (b ∷ bs) a = omega (arith, sum-long B S bs (a .1), a .0 .fits, mul-suc (B - 5) (length bs))
-
 module _ (g : Geo) (I : List ℕ) where
   -- a chain with a block begins in the data area
   pub cells-in : (cs : List Cell) → 1 ≤ length cs → Stored g I (cellPieces cs) → (dataAt g ≤ cellsAt cs) × (cellsAt cs < g .n)
@@ -136,15 +118,7 @@ module _ (g : Geo) (I : List ℕ) where
   blocks-in v [] h s = absurd h
   blocks-in v (b ∷ bs) h s = stored-in g I _ _ s
 
--- ---- the numbers that an entry shows
-
--- They fit their fields, and neither address nor name length is 0.
-pub record Legible {X : Type 0} (v : View X) (e : Entry X) : Type 0 where
-  pub some-name : 1 ≤ length (e .name)
-  pub some-address : 1 ≤ addressOf v (e .node)
-  pub address : addressOf v (e .node) < 2 ^ 32
-  pub size : sizeOf v (e .node) < 2 ^ 32
-  pub time : e .time < 2 ^ 64
+-- ---- the numbers that an entry shows fit their fields
 
 module _ (g : Geo) (I : List ℕ) (sound : Sound g (length I)) where
   in-field : (a : ℕ) → (dataAt g ≤ a) × (a < g .n) → (1 ≤ a) × (a < 2 ^ 32)
@@ -154,8 +128,8 @@ module _ (g : Geo) (I : List ℕ) (sound : Sound g (length I)) where
   sum-small S v bs a s =
       let B : ℕ = blockSize g in
       let e : B ≡ 512 = ap (λ (c : ℕ). 512 * 2 ^ c) (sound .known .1) in
-      let b : sum bs ≤ 507 * length bs = subst (λ (z : ℕ). sum bs ≤ (z - 5) * length bs) e (sum-long B S bs a) in
-      omega (arith, b, chain-long B v bs, stored-few g I (dirPieces B v bs) s, few g (length I) sound)
+      let b : sum bs ≤ 507 * length (ats (dirPieces B v bs)) = subst (λ (z : ℕ). sum bs ≤ (z - 5) * length (ats (dirPieces B v bs))) e (sum-blocks B S v bs a) in
+      omega (arith, b, stored-few g I (dirPieces B v bs) s, few g (length I) sound)
 
   sub-legible : (d : ℕ) (x : Below d) → GoodBelow (blockSize g) d x → Stored g I (view (blockSize g) d .pieces x)
       → (1 ≤ view (blockSize g) d .from x) × (view (blockSize g) d .from x < 2 ^ 32) × (view (blockSize g) d .size x < 2 ^ 32)
@@ -183,14 +157,39 @@ module _ (g : Geo) (I : List ℕ) (sound : Sound g (length I)) where
   entries-legible d (e ∷ es) a s =
       let v = view (blockSize g) d in
       let r = node-legible d (e .node) (a .0 .below) (stored-left g I (nodePieces v (e .node)) (entryPieces v es) s) in (
-        record { some-name = a .0 .good-name .some-bytes; some-address = r .0; address = r .1; size = r .2; time = a .0 .clock },
+        record { good-name = a .0 .good-name; some-address = r .0; address = r .1; size = r .2; time = a .0 .clock },
         entries-legible d es (a .1) (stored-right g I (nodePieces v (e .node)) (entryPieces v es) s),
       )
 
-  -- A block of the data area lies in the image, and its next address is the one that it shows.
-  pub block-inside : (a : ℕ) → a < g .n → blockSize g * a + blockSize g ≤ length I
-  block-inside a h = omega (arith, mul-le-mul-left (blockSize g) h, mul-suc (blockSize g) a, mul-comm (blockSize g) (g .n), sound .inside-image)
+-- ---- the chain of a directory
 
-pub next-shown : (B : ℕ) (I : List ℕ) (a z : ℕ) (l : List ℕ) → z < 2 ^ 32 → Shows I (B * a) (bytes 4 z ++ l) → next B I a ≡ z
-unfolding next
-next-shown B I a z l h s = be-shown I (B * a) 4 z h (shows-one I (B * a) (bytes 4 z) l s)
+module _ {X : Type 0} (g : Geo) (I : List ℕ) (v : View X) where
+  -- a block's own address is in the data area
+  pub block-data : (b : Block X) (bs : List (Block X)) → Stored g I (dirPieces (blockSize g) v (b ∷ bs)) → (dataAt g ≤ b .at) × (b .at < g .n)
+  unfolding dirPieces
+  block-data b bs s = stored-in g I _ _ s
+
+  -- the blocks after the first
+  pub chain-after : (b : Block X) (bs : List (Block X)) → Stored g I (dirPieces (blockSize g) v (b ∷ bs)) → Stored g I (dirPieces (blockSize g) v bs)
+  unfolding dirPieces
+  chain-after b bs s = stored-right g I (entryPieces v (b .entries)) (dirPieces (blockSize g) v bs) (stored-tail g I _ _ s)
+
+  -- and what the entries of the first stand for
+  pub below-stored : (b : Block X) (bs : List (Block X)) → Stored g I (dirPieces (blockSize g) v (b ∷ bs)) → Stored g I (entryPieces v (b .entries))
+  unfolding dirPieces
+  below-stored b bs s = stored-left g I (entryPieces v (b .entries)) (dirPieces (blockSize g) v bs) (stored-tail g I _ _ s)
+
+  -- a next address fits its field, and is the one that is read
+  pub next-small : Sound g (length I) → (bs : List (Block X)) → Stored g I (dirPieces (blockSize g) v bs) → blocksAt bs < 2 ^ 32
+  unfolding blocksAt dirPieces
+  next-small sound [] s = omega arith
+  next-small sound (c ∷ bs) s = omega (arith, stored-in g I _ _ s .1, few g (length I) sound)
+
+  pub block-next : Sound g (length I) → (b : Block X) (bs : List (Block X)) → Stored g I (dirPieces (blockSize g) v (b ∷ bs)) → next (blockSize g) I (b .at) ≡ blocksAt bs
+  unfolding dirPieces
+  block-next sound b bs s = next-shown (blockSize g) I (b .at) (blocksAt bs) _ (next-small sound bs (unfold dirPieces in chain-after b bs s)) (s .shown .0)
+
+  -- the data of a block
+  pub block-shown : (b : Block X) (bs : List (Block X)) → Stored g I (dirPieces (blockSize g) v (b ∷ bs)) → Shows I (placeAt (blockSize g) (b .at) 0) (padded (blockSize g - 4 - 0) (entriesBytes v (b .entries)))
+  unfolding dirPieces
+  block-shown b bs s = data-shown (blockSize g) I v (b .at) (blocksAt bs) (b .entries) (s .shown .0)

@@ -1,33 +1,14 @@
 -- What a directory of the tree shows to a reader. Definitions alone.
 use mathlib.Core.List.{List, [], _∷_}
 use Prim.Native.Nat.{ℕ, _+_}
-use lib.ListN.{length}
 use Rattle.wire.specs.Pick.{pick}
-use Rattle.model.specs.Tree.{Name, Node, file, device, sub, Entry, Block, holds, weight}
-use Rattle.model.specs.Render.{View, addressOf, sizeOf, offset}
-use Rattle.dir_entry.specs.declared.Kind.{Kind}
-use Rattle.dir_entry.specs.declared.Kind.the-variants.{Dir, File, Device}
+use Rattle.model.specs.Tree.{Name, Entry, Block, holds, weight}
+use Rattle.model.specs.Render.{View, offset}
 use Rattle.dir_entry.specs.declared.DirEntry.{DirEntry}
+use Rattle.dir_entry.specs.Shown.{headOf}
 use Rattle.read_dir.specs.Walk.{Walk, item, finished, damaged}
 use Rattle.read_dir.specs.Finds.{placed}
 use Rattle.read_dir.specs.declared.Place.{Place}
-
--- The kind of what an entry stands for.
-abbrev pub kindIs : {X : Type 0} → Node X → Kind
-kindIs (file s cs) = File
-kindIs (device s cs) = Device
-kindIs (sub x) = Dir
-
--- The fixed part that an entry shows.
-unfoldable pub headOf : {X : Type 0} → View X → Entry X → DirEntry
-headOf v e =
-    record {
-      kind = kindIs (e .node);
-      addr = record { 0 = addressOf v (e .node) };
-      size = sizeOf v (e .node);
-      time = e .time;
-      len = length (e .name);
-    }
 
 -- The entries of a block at address a, the first of them at offset o, and then w.
 unfoldable pub itemsOf : {X : Type 0} → View X → ℕ → ℕ → List (Entry X) → Walk → Walk

@@ -1,16 +1,15 @@
 -- The laws of `splice`, `be` and `bytes`, over the width. Callers cite these and unfold none of the three.
-use mathlib.Core.Path.{_≡_, refl, sym, ap, _∙_, subst}
+use mathlib.Core.Path.{_≡_, refl, sym, ap, _∙_}
 use mathlib.Core.List.{List, [], _∷_, _++_, append-assoc, append-nil}
-use mathlib.Core.Logic.{_⊎_, inl, inr}
 use Prim.Native.Nat.{ℕ, zero, suc, _+_, _-_, _*_, _/_, _%_, _^_, _≤_, _<_}
-use native.Mathlib.Nat.{add-zero, zero-add, add-suc, suc-add, add-assoc, pow-suc, pow-succ', one-le-pow, div-one, mul-assoc, div-lt-iff-lt-mul, div-div-eq-div-mul, mul-comm}
+use native.Mathlib.Nat.{add-zero, zero-add, add-suc, suc-add, add-assoc, pow-suc, pow-succ', one-le-pow, div-one, mul-assoc, div-lt-iff-lt-mul, div-div-eq-div-mul}
 use native.Mathlib.Decide.{decLt}
 use native.Mathlib.Omega.{arith}
-use native.Mathlib.Numerals.{add-one, towards-suc}
+use native.Mathlib.Numerals.{add-one}
 use lib.Dec.{lit<}
-use lib.Arith.{mod-mul, digits-div, digits-mod}
+use lib.Arith.{mod-mul}
 use lib.ListN.{length, getD, take, drop, set, take-append-drop, length-append, length-take, length-drop, List·getD-append, List·getD-eq-default, length-replicate, getD-replicate}
-use lib.Seq.{sets, sets-eq, take-suc, length-take-le, getD-take, getD-drop, getD-append-add, getD-at, ext-getD}
+use lib.Seq.{sets, sets-eq, take-suc, length-take-le, getD-take, getD-drop, getD-append-add, getD-at, ext-getD, take-append-add, drop-append-add}
 use Rattle.wire.specs.Be.{be, bytes, splice, zeros}
 
 -- ---- zeros
@@ -22,6 +21,11 @@ getD-zeros k i = go (decLt i k)
     go : Dec (i < k) → _≡_ {A = ℕ} (getD (zeros k) i 0) 0
     go (yes h) = getD-replicate k i 0 0 h
     go (no h) = List·getD-eq-default (zeros k) 0 (rw length-replicate (omega arith))
+
+pub drop-zeros : (k m : ℕ) → drop k (zeros m) ≡ zeros (m - k)
+drop-zeros zero m = let e : m ≡ m - 0 = omega arith in ap zeros e
+drop-zeros (suc k) zero = let e : _≡_ {A = ℕ} 0 (0 - suc k) = omega arith in ap zeros e
+drop-zeros (suc k) (suc m) = let e : m - k ≡ suc m - suc k = omega arith in drop-zeros k m ∙ ap zeros e
 
 -- ---- splice
 
@@ -166,6 +170,12 @@ splice-append a b l at h =
 pub splice-nil : (l : List ℕ) (at : ℕ) → splice l at [] ≡ l
 unfolding splice
 splice-nil l at = rw add-zero (take-append-drop at l)
+
+-- a store past the first of two lists side by side
+pub splice-past : (a m : List ℕ) (k : ℕ) (x : List ℕ) → splice (a ++ m) (length a + k) x ≡ a ++ splice m k x
+unfolding splice
+splice-past a m k x =
+    rw (take-append-add a m k, add-assoc (length a) k (length x), drop-append-add a m (k + length x), append-assoc a (take k m) (x ++ drop (k + length x) m))
 
 -- a splice that grows by one store: what a loop that copies or fills does
 pub splice-more : (l : List ℕ) (at : ℕ) (vs : List ℕ) (i : ℕ) → i < length vs → at + length vs ≤ length l

@@ -1,6 +1,6 @@
 -- The laws of `pick` and `same`, and of a test that is true or false.
 use mathlib.Core.Path.{_≡_, refl, sym, ap, _∙_, subst}
-use mathlib.Core.Bool.{Bool, true, false}
+use mathlib.Core.Bool.{Bool, true, false, _&&_}
 use mathlib.Core.Logic.{_⊎_, inl, inr}
 use mathlib.Core.List.{List, [], _∷_}
 use Prim.Native.Nat.{ℕ, _+_, _≤_, _<_}
@@ -18,6 +18,14 @@ either false = inr refl
 pub not-both : {b : Bool} → b ≡ true → b ≡ false → ⊥
 not-both p q = let z : _≡_ {A = ℕ} 0 1 = cc in omega arith
 
+-- two tests that both hold
+pub and-both : (a b : Bool) → (a && b) ≡ true → (a ≡ true) × (b ≡ true)
+and-both true b h = (refl, h)
+and-both false b h = absurd (not-both h refl)
+
+pub both-and : {a b : Bool} → a ≡ true → b ≡ true → (a && b) ≡ true
+both-and {a} {b} p q = rw p q
+
 pub pick-true : {A : Type 0} {b : Bool} (x y : A) → b ≡ true → pick b x y ≡ x
 unfolding pick
 pick-true {A} x y e = ap (λ (b : Bool). pick b x y) e
@@ -25,6 +33,12 @@ pick-true {A} x y e = ap (λ (b : Bool). pick b x y) e
 pub pick-false : {A : Type 0} {b : Bool} (x y : A) → b ≡ false → pick b x y ≡ y
 unfolding pick
 pick-false x y e = ap (λ (b : Bool). pick b x y) e
+
+-- by cases
+pub pick-case : {A : Type 0} (P : A → Type 0) (t : Bool) (x y : A) → (t ≡ true → P x) → (t ≡ false → P y) → P (pick t x y)
+unfolding pick
+pick-case P true x y f g = f refl
+pick-case P false x y f g = g refl
 
 pub same-refl : (n : List ℕ) → same n n ≡ true
 unfolding same
@@ -41,6 +55,15 @@ same-eq (a ∷ n) (b ∷ m) e = go (either (eqb a b)) (same-eq n m)
     go : (eqb a b ≡ true) ⊎ (eqb a b ≡ false) → (same n m ≡ true → n ≡ m) → a ∷ n ≡ b ∷ m
     go (inl t) r = let p = eqb-true a b t in let q = r (sym (pick-true _ _ t) ∙ e) in cc
     go (inr f) r = absurd (not-both e (pick-false (same n m) false f))
+
+-- in either order
+pub same-swap : (l m : List ℕ) → same l m ≡ same m l
+same-swap l m = go (either (same l m)) (either (same m l))
+  where
+    go : (same l m ≡ true) ⊎ (same l m ≡ false) → (same m l ≡ true) ⊎ (same m l ≡ false) → same l m ≡ same m l
+    go (inl a) b = let e : l ≡ m = same-eq l m a in subst (λ (x : List ℕ). same l x ≡ same x l) e refl
+    go (inr a) (inl b) = let e : m ≡ l = same-eq m l b in subst (λ (x : List ℕ). same x m ≡ same m x) e refl
+    go (inr a) (inr b) = a ∙ sym b
 
 -- lists that differ at a place are not the same
 pub same-differ : (l m : List ℕ) (i : ℕ) → (getD l i 0 ≡ getD m i 0 → ⊥) → same l m ≡ false

@@ -9,11 +9,7 @@ use lib.Dec.{eqb}
 use lib.ListN.{getD}
 use borrow.Author.Tests.{eqb-true, eq-eqb, ne-eqb}
 use Rattle.wire.specs.Pick.{zeroFrom}
-use Rattle.wire.proofs.Picks.{not-both}
-
-pub and-both : (a b : Bool) → (a && b) ≡ true → (a ≡ true) × (b ≡ true)
-and-both true b h = (refl, h)
-and-both false b h = absurd (not-both h refl)
+use Rattle.wire.proofs.Picks.{and-both}
 
 -- bytes that pass the test are zero
 pub zeros-shown : (I : List ℕ) (p k : ℕ) → zeroFrom I p k ≡ true → (i : ℕ) → i < k → getD I (p + i) 0 ≡ 0

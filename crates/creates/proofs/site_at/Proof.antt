@@ -1,4 +1,4 @@
-use Rattle.creates.proofs.Sites.{site-damaged, site-full, site-owned, site-lost, spot-room, spot-in, own-in}
+use Rattle.creates.proofs.Sites.{site-damaged, site-full, site-owned, site-lost, spot-room, spot-in}
 use borrow.Author.Needs.{needs}
 use Rattle.creates.proofs.site_at.Statement.{statement}
 use Rattle.creates.proofs.site_at.Tie as tie
@@ -6,6 +6,7 @@ use Rattle.creates.proofs.site_at.Reads as reads
 use Rattle.creates.proofs.site_at.Lts as lts
 use Rattle.bitmap_block.proofs.count_free.Reads as count-free-reads
 use Rattle.dir.proofs.own.Reads as own-reads
+use Rattle.dir.proofs.HoldLaws.{own-in}
 use Rattle.dir_create.proofs.blocks_needed.Reads as blocks-needed-reads
 use Rattle.dir_create.proofs.spot_for.Reads as spot-for-reads
 

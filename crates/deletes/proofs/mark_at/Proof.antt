@@ -1,4 +1,4 @@
-use Rattle.deletes.proofs.Laws.{at-full, at-owned, at-lost, own-inside}
+use Rattle.deletes.proofs.Laws.{at-full, at-owned, at-lost}
 use borrow.Author.Needs.{needs}
 use Rattle.deletes.proofs.mark_at.Statement.{statement}
 use Rattle.deletes.proofs.mark_at.Tie as tie
@@ -6,6 +6,7 @@ use Rattle.deletes.proofs.mark_at.Reads as reads
 use Rattle.deletes.proofs.mark_at.Lts as lts
 use Rattle.deletes.proofs.has_entries.Reads as has-entries-reads
 use Rattle.dir.proofs.own.Reads as own-reads
+use Rattle.dir.proofs.HoldLaws.{own-in}
 
 -- src/lib.rt:56:8
 has-entries-requires : tie.Need-has-entries-requires
@@ -29,7 +30,7 @@ enum-told c = search needs
 
 -- src/lib.rt:49:1
 returns-2 : tie.Need-returns-2
-returns-2 c = (search at-owned, search own-inside)
+returns-2 c = (search at-owned, search own-in)
 
 -- src/lib.rt:49:1
 returns-3 : tie.Need-returns-3

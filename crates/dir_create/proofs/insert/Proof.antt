@@ -7,7 +7,7 @@ use Rattle.dir_create.proofs.insert.Reads as reads
 use Rattle.dir_create.proofs.insert.Lts as lts
 use Rattle.dir_create.proofs.enter.Reads as enter-reads
 use Rattle.dir_create.proofs.open_place.Reads as open-place-reads
-use Rattle.dir_create.proofs.recount.Reads as recount-reads
+use Rattle.own_entry.proofs.renew_sum.Reads as renew-sum-reads
 
 -- src/lib.rt:182:9
 open-place-requires : tie.Need-open-place-requires
@@ -18,8 +18,8 @@ enter-requires : tie.Need-enter-requires
 enter-requires c κs = (search open-fit, (search open-room, (search open-inside, (search open-fits, search needs))))
 
 -- src/lib.rt:184:5
-recount-requires : tie.Need-recount-requires
-recount-requires c κs =
+renew-sum-requires : tie.Need-renew-sum-requires
+renew-sum-requires c κs =
     let spot = c .before .before .before .before .before .before .before .before .before .before .before .args .spot in
     let own = c .before .before .before .before .before .before .before .before .before .before .before .args .own in
     let pre = c .before .before .before .before .before .before .before .before .before .before .before .pre in
@@ -39,4 +39,4 @@ returns c = (search (insert-image, needs), search (insert-block, needs))
 
 pub insert-spec : {M : Type 1} → statement M
 insert-spec =
-    tie.close (tie.spec open-place-requires enter-requires recount-requires same-length returns)
+    tie.close (tie.spec open-place-requires enter-requires renew-sum-requires same-length returns)

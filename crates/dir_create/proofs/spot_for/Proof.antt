@@ -1,4 +1,4 @@
-use Rattle.dir_create.proofs.Spots.{area-inside, block-inside, same-inside, left-over, left-below, left-above, left-in, left-after, left-again}
+use Rattle.dir_create.proofs.Spots.{left-over, left-below, left-above, left-in, left-after, left-again}
 use Rattle.dir_create.specs.Create.{spotFrom, spotFor}
 use mathlib.Core.Path.{_≡_, refl}
 use Prim.Native.Nat.{_≤_}
@@ -9,6 +9,7 @@ use Rattle.dir_create.proofs.spot_for.Reads as reads
 use Rattle.dir_create.proofs.spot_for.Lts as lts
 use Rattle.block.proofs.LinkedBlock.new.Reads as new-reads
 use Rattle.block.proofs.LinkedBlock.next_addr.Reads as next-addr-reads
+use Rattle.super_block.proofs.Fits.{area-inside, fit-inside}
 use Rattle.dir_create.proofs.used_bytes.Reads as used-bytes-reads
 
 abbrev Inv-loop : tie.InvT-loop
@@ -35,7 +36,7 @@ returns-2 c = search left-above
 
 -- src/lib.rt:65:13
 used-bytes-requires : tie.Need-used-bytes-requires Inv-loop μ-loop
-used-bytes-requires c κs = search (block-inside, needs)
+used-bytes-requires c κs = search (fit-inside, needs)
 
 -- src/lib.rt:66:12
 add-if3 : tie.Need-add-if3 Inv-loop μ-loop
@@ -59,7 +60,7 @@ new-requires c κs = search needs
 
 -- src/lib.rt:72:13
 next-addr-requires : tie.Need-next-addr-requires Inv-loop μ-loop
-next-addr-requires c κs = search (same-inside, needs)
+next-addr-requires c κs = search (fit-inside, needs)
 
 -- src/lib.rt:74:13
 returns-4 : tie.Need-returns-4 Inv-loop μ-loop

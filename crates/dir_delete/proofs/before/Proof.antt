@@ -2,13 +2,14 @@ use mathlib.Core.Path.{_≡_, refl}
 use Prim.Native.Nat.{_-_, _<_}
 use borrow.Author.Needs.{needs}
 use Rattle.dir_delete.specs.Delete.{beforeFrom}
-use Rattle.dir_delete.proofs.Laws.{area-inside, block-inside, before-here, before-out, before-more, before-end}
+use Rattle.dir_delete.proofs.Laws.{before-here, before-out, before-more, before-end}
 use Rattle.dir_delete.proofs.before.Statement.{statement}
 use Rattle.dir_delete.proofs.before.Tie as tie
 use Rattle.dir_delete.proofs.before.Reads as reads
 use Rattle.dir_delete.proofs.before.Lts as lts
 use Rattle.block.proofs.LinkedBlock.new.Reads as new-reads
 use Rattle.block.proofs.LinkedBlock.next_addr.Reads as next-addr-reads
+use Rattle.super_block.proofs.Fits.{area-inside, fit-inside}
 
 abbrev Inv-loop : tie.InvT-loop
 Inv-loop img s b a₀ left₀ a left = (a .0 < s .blocks) × (beforeFrom 512 (s .blocks) img left (a .0) (b .0) ≡ beforeFrom 512 (s .blocks) img (s .blocks - s .area .0) (a₀ .0) (b .0))
@@ -30,7 +31,7 @@ new-requires c κs = search needs
 
 -- src/lib.rt:80:13
 next-addr-requires : tie.Need-next-addr-requires Inv-loop μ-loop
-next-addr-requires c κs = search (block-inside, needs)
+next-addr-requires c κs = search (fit-inside, needs)
 
 -- src/lib.rt:82:13
 returns : tie.Need-returns Inv-loop μ-loop

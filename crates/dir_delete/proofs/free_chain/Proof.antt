@@ -3,8 +3,9 @@ use Prim.Native.Nat.{_-_}
 use lib.ListN.{length}
 use borrow.Author.Needs.{needs}
 use Rattle.super_block.specs.Super.{geoOf}
+use Rattle.super_block.proofs.Fits.{area-inside, fit-inside}
 use Rattle.dir_delete.specs.Delete.{chainFreed}
-use Rattle.dir_delete.proofs.Laws.{area-inside, still-fit, block-inside, chain-low, chain-high, chain-more, chain-end}
+use Rattle.dir_delete.proofs.Laws.{still-fit, chain-low, chain-high, chain-more, chain-end}
 use Rattle.dir_delete.proofs.free_chain.Statement.{statement}
 use Rattle.dir_delete.proofs.free_chain.Tie as tie
 use Rattle.dir_delete.proofs.free_chain.Reads as reads
@@ -49,7 +50,7 @@ new-requires c κs = search needs
 
 -- src/lib.rt:63:13
 next-addr-requires : tie.Need-next-addr-requires Inv-loop μ-loop
-next-addr-requires c κs = search (block-inside, needs)
+next-addr-requires c κs = search (fit-inside, needs)
 
 -- src/lib.rt:64:9
 release-requires : tie.Need-release-requires Inv-loop μ-loop

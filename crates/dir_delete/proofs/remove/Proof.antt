@@ -5,7 +5,7 @@ use Rattle.dir_delete.proofs.remove.Tie as tie
 use Rattle.dir_delete.proofs.remove.Reads as reads
 use Rattle.dir_delete.proofs.remove.Lts as lts
 use Rattle.dir_delete.proofs.free_chain.Reads as free-chain-reads
-use Rattle.dir_delete.proofs.renew_sum.Reads as renew-sum-reads
+use Rattle.own_entry.proofs.renew_sum.Reads as renew-sum-reads
 use Rattle.dir_delete.proofs.take_out.Reads as take-out-reads
 
 -- src/lib.rt:162:5

@@ -1,6 +1,6 @@
-use Rattle.read_dir.proofs.Along.{room}
 use Rattle.file.proofs.Follows.{begin-none, begin-over, begin-lost, begin-cut, begin-found}
 use borrow.Author.Needs.{needs}
+use Rattle.super_block.proofs.Fits.{area-inside}
 use Rattle.file.proofs.begin.Statement.{statement}
 use Rattle.file.proofs.begin.Tie as tie
 
@@ -17,7 +17,7 @@ add-m-2 : tie.Need-add-m-2
 add-m-2 c = search needs
 
 sub-if2 : tie.Need-sub-if2
-sub-if2 c = search room
+sub-if2 c = search area-inside
 
 returns-2 : tie.Need-returns-2
 returns-2 c = search begin-over

@@ -1,7 +1,8 @@
 use mathlib.Core.Path.{_≡_, refl}
 use borrow.Author.Needs.{needs}
+use Rattle.super_block.proofs.Fits.{fit-inside}
 use Rattle.file.specs.Post.{after}
-use Rattle.file.proofs.Follows.{block-inside, follow-end, follow-low, follow-high, follow-again}
+use Rattle.file.proofs.Follows.{follow-end, follow-low, follow-high, follow-again}
 use Rattle.file.proofs.follow.Statement.{statement}
 use Rattle.file.proofs.follow.Tie as tie
 
@@ -24,7 +25,7 @@ new-requires : tie.Need-new-requires Inv-loop μ-loop
 new-requires c κs = search needs
 
 next-addr-requires : tie.Need-next-addr-requires Inv-loop μ-loop
-next-addr-requires c κs = search block-inside
+next-addr-requires c κs = search (fit-inside, needs)
 
 sub-left : tie.Need-sub-left Inv-loop μ-loop
 sub-left c = search needs

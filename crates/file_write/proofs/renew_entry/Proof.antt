@@ -1,6 +1,6 @@
 use Rattle.file_write.specs.Write.{filed}
-use Rattle.file_write.proofs.Loops.{two-stores}
 use borrow.Author.Needs.{needs}
+use Rattle.model.proofs.Owns.{two-stores}
 use Rattle.file_write.proofs.renew_entry.Statement.{statement}
 use Rattle.file_write.proofs.renew_entry.Tie as tie
 

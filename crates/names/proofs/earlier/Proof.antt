@@ -1,10 +1,11 @@
 use Rattle.names.proofs.Along.{earlier-again, earlier-hit, earlier-end, earlier-bad, earlier-none}
 use Rattle.names.specs.Names.{oneOf, namesIn}
-use Rattle.read_dir.proofs.Along.{room, entry-inside, entry-ends}
+use Rattle.read_dir.proofs.Along.{entry-inside, entry-ends}
 use Rattle.read_dir.specs.Cursor.{cursorWalk}
 use lib.ListN.{take}
 use borrow.Author.Needs.{needs}
 use mathlib.Core.Path.{_≡_, refl}
+use Rattle.super_block.proofs.Fits.{area-inside}
 use Rattle.names.proofs.earlier.Statement.{statement}
 use Rattle.names.proofs.earlier.Tie as tie
 use Rattle.names.proofs.earlier.Reads as reads
@@ -21,7 +22,7 @@ abbrev μ-loop : tie.MeasureT-loop
 
 -- src/lib.rt:101:9
 new-requires : tie.Need-new-requires Inv-loop μ-loop
-new-requires c κs = search room
+new-requires c κs = search area-inside
 
 -- src/lib.rt:103:5
 loop-holds : tie.Need-loop-holds Inv-loop μ-loop

@@ -2,10 +2,11 @@ use lib.ListN.{length}
 use Rattle.names.proofs.Along.{forget-start, forget-again, forget-end, forget-bad}
 use Rattle.names.specs.Filter.{Within}
 use Rattle.names.specs.Names.{namesIn}
-use Rattle.read_dir.proofs.Along.{room, entry-inside, entry-ends, step-less}
+use Rattle.read_dir.proofs.Along.{entry-inside, entry-ends, step-less}
 use Rattle.read_dir.specs.Cursor.{cursorWalk, count}
 use borrow.Author.Needs.{needs}
 use mathlib.Core.Path.{_≡_, refl}
+use Rattle.super_block.proofs.Fits.{area-inside}
 use Rattle.names.proofs.forget.Statement.{statement}
 use Rattle.names.proofs.forget.Tie as tie
 use Rattle.names.proofs.forget.Reads as reads
@@ -24,7 +25,7 @@ abbrev μ-loop : tie.MeasureT-loop
 
 -- src/lib.rt:166:9
 new-requires : tie.Need-new-requires Inv-loop μ-loop
-new-requires c κs = search room
+new-requires c κs = search area-inside
 
 -- src/lib.rt:167:5
 loop-holds : tie.Need-loop-holds Inv-loop μ-loop

@@ -1,10 +1,11 @@
 use lib.ListN.{length}
 use Rattle.names.proofs.Along.{Met, met-start, met-within, tested-again, tested-hit, tested-end, tested-bad}
-use Rattle.read_dir.proofs.Along.{room, entry-inside, entry-ends, step-less, number-fits}
+use Rattle.read_dir.proofs.Along.{entry-inside, entry-ends, step-less, number-fits}
 use Rattle.read_dir.specs.Cursor.{cursorWalk, count}
 use Rattle.read_dir.specs.Walk.{walk}
 use borrow.Author.Needs.{needs}
 use mathlib.Core.Path.{_≡_, refl}
+use Rattle.super_block.proofs.Fits.{area-inside}
 use Rattle.names.proofs.tested.Statement.{statement}
 use Rattle.names.proofs.tested.Tie as tie
 use Rattle.names.proofs.tested.Reads as reads
@@ -24,7 +25,7 @@ abbrev μ-loop : tie.MeasureT-loop
 
 -- src/lib.rt:140:9
 new-requires : tie.Need-new-requires Inv-loop μ-loop
-new-requires c κs = search room
+new-requires c κs = search area-inside
 
 -- src/lib.rt:142:5
 loop-holds : tie.Need-loop-holds Inv-loop μ-loop

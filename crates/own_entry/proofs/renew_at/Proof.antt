@@ -1,11 +1,11 @@
 use borrow.Author.Needs.{needs}
-use Rattle.own_entry.proofs.Laws.{two-stores}
 use Rattle.own_entry.proofs.renew_at.Statement.{statement}
 use Rattle.own_entry.proofs.renew_at.Tie as tie
 use Rattle.own_entry.proofs.renew_at.Reads as reads
 use Rattle.own_entry.proofs.renew_at.Lts as lts
 use Rattle.dir_entry.proofs.place.Reads as place-reads
 use Rattle.wire.proofs.put.Reads as put-reads
+use Rattle.model.proofs.Owns.{two-stores}
 
 -- src/lib.rt:23:9
 place-requires : tie.Need-place-requires

@@ -3,10 +3,11 @@ use mathlib.Core.Path.{_≡_, refl}
 use native.Mathlib.Omega.{arith}
 use borrow.Author.Needs.{needs}
 use Rattle.read_dir.specs.Cursor.{cursorWalk, count}
-use Rattle.read_dir.proofs.Along.{room, step-less}
+use Rattle.read_dir.proofs.Along.{step-less}
 use Rattle.reached.proofs.Steps.{rest, reach-here, reach-last, rest-again, rest-hit, rest-end, rest-bad, entry-file, entry-device, entry-down}
 use borrow.Fn.Kinds.{In}
 use borrow.Fn.PlainCycle.{Measures, is, falls, and}
+use Rattle.super_block.proofs.Fits.{area-inside}
 use Rattle.reached.proofs.dir_reaches.Reads as dir-reaches
 use Rattle.reached.proofs.dir_reaches.Kinds as dir-reaches-kinds
 use Rattle.reached.proofs.+dir_reaches+entry_reaches.Lts-dir_reaches as dir-reaches-lts
@@ -92,7 +93,7 @@ dir-reaches-new-requires : (t : ℕ) → dir-reaches-lts.Need-new-requires (
   entry-reaches-below t,
   entry-reaches.Post,
 ) (dir-reaches-at t) dir-reaches.Post dir-reaches-Inv-loop dir-reaches-μ-loop
-dir-reaches-new-requires t c κs = search room
+dir-reaches-new-requires t c κs = search area-inside
 
 -- src/lib.rt:36:5
 dir-reaches-loop-holds : (t : ℕ) → dir-reaches-lts.Need-loop-holds (

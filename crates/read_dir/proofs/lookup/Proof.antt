@@ -1,8 +1,9 @@
-use Rattle.read_dir.proofs.Along.{room, entry-inside, entry-ends, step-less, find-again, find-hit, find-none, find-bad}
+use Rattle.read_dir.proofs.Along.{entry-inside, entry-ends, step-less, find-again, find-hit, find-none, find-bad}
 use Rattle.read_dir.specs.Finds.{findIn}
 use Rattle.read_dir.specs.Cursor.{cursorWalk, count}
 use borrow.Author.Needs.{needs}
 use mathlib.Core.Path.{_≡_, refl}
+use Rattle.super_block.proofs.Fits.{area-inside}
 use Rattle.read_dir.proofs.lookup.Statement.{statement}
 use Rattle.read_dir.proofs.lookup.Tie as tie
 use Rattle.read_dir.proofs.lookup.Reads as reads
@@ -19,7 +20,7 @@ abbrev μ-loop : tie.MeasureT-loop
 
 -- src/lib.rt:195:9
 new-requires : tie.Need-new-requires Inv-loop μ-loop
-new-requires c κs = search room
+new-requires c κs = search area-inside
 
 -- src/lib.rt:196:5
 loop-holds : tie.Need-loop-holds Inv-loop μ-loop

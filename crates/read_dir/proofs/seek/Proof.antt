@@ -1,8 +1,9 @@
-use Rattle.read_dir.proofs.Along.{room, seek-again, seek-end, seek-bad, seek-at}
+use Rattle.read_dir.proofs.Along.{seek-again, seek-end, seek-bad, seek-at}
 use Rattle.read_dir.specs.Finds.{skip}
 use Rattle.read_dir.specs.Cursor.{cursorWalk}
 use borrow.Author.Needs.{needs}
 use mathlib.Core.Path.{_≡_, refl}
+use Rattle.super_block.proofs.Fits.{area-inside}
 use Rattle.read_dir.proofs.seek.Statement.{statement}
 use Rattle.read_dir.proofs.seek.Tie as tie
 use Rattle.read_dir.proofs.seek.Reads as reads
@@ -18,7 +19,7 @@ abbrev μ-loop : tie.MeasureT-loop
 
 -- src/lib.rt:234:9
 new-requires : tie.Need-new-requires Inv-loop μ-loop
-new-requires c κs = search room
+new-requires c κs = search area-inside
 
 -- src/lib.rt:236:5
 loop-holds : tie.Need-loop-holds Inv-loop μ-loop

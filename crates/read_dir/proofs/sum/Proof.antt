@@ -1,10 +1,11 @@
-use Rattle.read_dir.proofs.Along.{room, start-weigh, step-less, sum-again, weigh-again, total-fits, sum-end, sum-bad}
+use Rattle.read_dir.proofs.Along.{start-weigh, step-less, sum-again, weigh-again, total-fits, sum-end, sum-bad}
 use Rattle.read_dir.proofs.Sizes.{weigh}
 use Rattle.read_dir.specs.Finds.{sumFrom}
 use Rattle.read_dir.specs.Cursor.{cursorWalk, count}
 use Prim.Native.Nat.{_+_, _<_, _^_}
 use borrow.Author.Needs.{needs}
 use mathlib.Core.Path.{_≡_, refl}
+use Rattle.super_block.proofs.Fits.{area-inside}
 use Rattle.read_dir.proofs.sum.Statement.{statement}
 use Rattle.read_dir.proofs.sum.Tie as tie
 use Rattle.read_dir.proofs.sum.Reads as reads
@@ -20,7 +21,7 @@ abbrev μ-loop : tie.MeasureT-loop
 
 -- src/lib.rt:215:9
 new-requires : tie.Need-new-requires Inv-loop μ-loop
-new-requires c κs = search room
+new-requires c κs = search area-inside
 
 -- src/lib.rt:217:5
 loop-holds : tie.Need-loop-holds Inv-loop μ-loop

@@ -5,12 +5,13 @@ use borrow.Author.Needs.{needs}
 use borrow.Author.Tests.{not-true, not-false}
 use lib.ListN.{length}
 use Rattle.read_dir.specs.Cursor.{cursorWalk, count}
-use Rattle.read_dir.proofs.Along.{room, step-less}
+use Rattle.read_dir.proofs.Along.{step-less}
 use Rattle.survey.specs.Steps.{entryCheck}
 use Rattle.survey.proofs.Chains.{still-long}
 use Rattle.survey.proofs.Walks.{Rest, rest-start, rest-no, rest-on, rest-end, rest-bad, inside-image, entry-file, entry-device, entry-deep, entry-shut, entry-size, entry-down, still-clear, kept-filter, kept-long}
 use borrow.Fn.Kinds.{In}
 use borrow.Fn.PlainCycle.{Measures, is, falls, and}
+use Rattle.super_block.proofs.Fits.{area-inside}
 use Rattle.survey.proofs.walk_dir.Reads as walk-dir
 use Rattle.survey.proofs.walk_dir.Kinds as walk-dir-kinds
 use Rattle.survey.proofs.+walk_dir+walk_entry.Lts-walk_dir as walk-dir-lts
@@ -62,7 +63,7 @@ walk-dir-new-requires : (t : ℕ) → walk-dir-lts.Need-new-requires (
   walk-entry-below t,
   walk-entry.Post,
 ) (walk-dir-at t) walk-dir.Post walk-dir-Inv-loop walk-dir-μ-loop
-walk-dir-new-requires t c κs = search (room, needs)
+walk-dir-new-requires t c κs = search (area-inside, needs)
 
 -- src/lib.rt:301:5
 walk-dir-loop-holds : (t : ℕ) → walk-dir-lts.Need-loop-holds (

@@ -1,6 +1,7 @@
 use borrow.Author.Needs.{needs}
 use borrow.Author.Tests.{not-true, not-false}
-use Rattle.survey.proofs.Chains.{few-blocks, claimed-inside}
+use Rattle.super_block.proofs.Fits.{few-blocks}
+use Rattle.survey.proofs.Chains.{claimed-inside}
 use Rattle.survey.proofs.DirBlocks.{block-no, block-damaged, block-nothing, block-entries, inside-any, inside-yes}
 use Rattle.survey.proofs.block.Statement.{statement}
 use Rattle.survey.proofs.block.Tie as tie

@@ -2,7 +2,7 @@ use borrow.Author.Needs.{needs}
 use mathlib.Core.Path.{refl, ap, _∙_}
 use borrow.Author.Tests.{not-true, not-false}
 use Rattle.block.specs.Block.{next}
-use Rattle.survey.proofs.Chains.{area-inside, claimed-inside}
+use Rattle.survey.proofs.Chains.{claimed-inside}
 use Rattle.survey.proofs.DirBlocks.{blocks-no, blocks-yes, later-few}
 use Rattle.survey.proofs.blocks.Statement.{statement}
 use Rattle.survey.proofs.blocks.Tie as tie
@@ -10,6 +10,7 @@ use Rattle.survey.proofs.blocks.Reads as reads
 use Rattle.survey.proofs.blocks.Lts as lts
 use Rattle.block.proofs.LinkedBlock.new.Reads as new-reads
 use Rattle.block.proofs.LinkedBlock.next_addr.Reads as next-addr-reads
+use Rattle.super_block.proofs.Fits.{area-inside}
 use Rattle.survey.proofs.block.Reads as block-reads
 use Rattle.survey.proofs.later.Reads as later-reads
 

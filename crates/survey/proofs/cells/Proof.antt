@@ -6,13 +6,14 @@ use borrow.Author.Tests.{not-true, not-false}
 use lib.ListN.{length}
 use Rattle.block.specs.Block.{next}
 use Rattle.tally.specs.Tally.{markBytes}
-use Rattle.survey.proofs.Chains.{Left, left-start, left-step, left-stop, left-end, left-over, fileCheck, file-done, file-over, file-stop, file-next, few-blocks, still-long, claimed-inside}
+use Rattle.survey.proofs.Chains.{Left, left-start, left-step, left-stop, left-end, left-over, fileCheck, file-done, file-over, file-stop, file-next, still-long, claimed-inside}
 use Rattle.survey.proofs.cells.Statement.{statement}
 use Rattle.survey.proofs.cells.Tie as tie
 use Rattle.survey.proofs.cells.Reads as reads
 use Rattle.survey.proofs.cells.Lts as lts
 use Rattle.block.proofs.LinkedBlock.new.Reads as new-reads
 use Rattle.block.proofs.LinkedBlock.next_addr.Reads as next-addr-reads
+use Rattle.super_block.proofs.Fits.{few-blocks}
 use Rattle.survey.proofs.claim.Reads as claim-reads
 
 abbrev Inv-loop : tie.InvT-loop

@@ -6,13 +6,14 @@ use borrow.Author.Tests.{not-true, not-false}
 use lib.ListN.{length}
 use Rattle.block.specs.Block.{next}
 use Rattle.tally.specs.Tally.{markBytes}
-use Rattle.survey.proofs.Chains.{Left, left-start, left-step, left-stop, left-over, left-last, deviceCheck, device-over, device-stop, device-last, device-next, few-blocks, area-inside, still-long, claimed-inside}
+use Rattle.survey.proofs.Chains.{Left, left-start, left-step, left-stop, left-over, left-last, deviceCheck, device-over, device-stop, device-last, device-next, still-long, claimed-inside}
 use Rattle.survey.proofs.chain.Statement.{statement}
 use Rattle.survey.proofs.chain.Tie as tie
 use Rattle.survey.proofs.chain.Reads as reads
 use Rattle.survey.proofs.chain.Lts as lts
 use Rattle.block.proofs.LinkedBlock.new.Reads as new-reads
 use Rattle.block.proofs.LinkedBlock.next_addr.Reads as next-addr-reads
+use Rattle.super_block.proofs.Fits.{few-blocks, area-inside}
 use Rattle.survey.proofs.claim.Reads as claim-reads
 
 abbrev Inv-loop : tie.InvT-loop

@@ -1,5 +1,5 @@
 use borrow.Author.Needs.{needs}
-use Rattle.survey.proofs.Chains.{few-blocks, area-inside, still-long}
+use Rattle.survey.proofs.Chains.{still-long}
 use Rattle.survey.proofs.Decides.{none-marked, again-zero}
 use Rattle.survey.proofs.check.Statement.{statement}
 use Rattle.survey.proofs.check.Tie as tie
@@ -8,6 +8,7 @@ use Rattle.survey.proofs.check.Lts as lts
 use Rattle.survey.proofs.decide.Reads as decide-reads
 use Rattle.tally.proofs.mark_bytes.Reads as mark-bytes-reads
 use Rattle.wire.proofs.fill.Reads as fill-reads
+use Rattle.super_block.proofs.Fits.{few-blocks, area-inside}
 
 -- src/lib.rt:383:9
 mark-bytes-requires : tie.Need-mark-bytes-requires

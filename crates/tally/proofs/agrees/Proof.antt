@@ -1,4 +1,4 @@
-use Rattle.tally.proofs.Laws.{area-in, few-in, marks-long, marks-in, marks-differ, past-in, past-image, marks-tested}
+use Rattle.tally.proofs.Laws.{marks-long, marks-in, marks-differ, past-in, past-image, marks-tested}
 use borrow.Author.Needs.{needs}
 use Rattle.tally.proofs.agrees.Statement.{statement}
 use Rattle.tally.proofs.agrees.Tie as tie
@@ -8,10 +8,11 @@ use Rattle.block.proofs.offset.Reads as offset-reads
 use Rattle.tally.proofs.mark_bytes.Reads as mark-bytes-reads
 use Rattle.wire.proofs.same_bytes.Reads as same-bytes-reads
 use Rattle.wire.proofs.zero_bytes.Reads as zero-bytes-reads
+use Rattle.super_block.proofs.Fits.{area-inside, few-blocks}
 
 -- src/lib.rt:50:9
 mark-bytes-requires : tie.Need-mark-bytes-requires
-mark-bytes-requires c κs = (search (area-in, needs), search (few-in, needs))
+mark-bytes-requires c κs = (search (area-inside, needs), search (few-blocks, needs))
 
 -- src/lib.rt:51:9
 offset-requires : tie.Need-offset-requires

@@ -1,7 +1,8 @@
 use mathlib.Core.Path.{_≡_, refl}
 use borrow.Author.Needs.{needs}
+use Rattle.super_block.proofs.Fits.{area-inside}
 use Rattle.read_dir.specs.Cursor.{cursorWalk, count}
-use Rattle.read_dir.proofs.Along.{room, entry-inside, entry-ends, step-less}
+use Rattle.read_dir.proofs.Along.{entry-inside, entry-ends, step-less}
 use Rattle.file.specs.Writing.{currentIn}
 use Rattle.file.proofs.Aims.{entry-again, entry-hit, entry-none, entry-bad}
 use Rattle.file.proofs.Handle.entry.Statement.{statement}
@@ -14,7 +15,7 @@ abbrev μ-loop : tie.MeasureT-loop
 μ-loop self img s c₀ c = count (cursorWalk 512 (s .area .0) (s .blocks) img c)
 
 new-requires : tie.Need-new-requires Inv-loop μ-loop
-new-requires c κs = search room
+new-requires c κs = search area-inside
 
 loop-holds : tie.Need-loop-holds Inv-loop μ-loop
 loop-holds c = refl

@@ -1,45 +1,45 @@
-use Rattle.dir_create.proofs.Steps.{recount-total, recount-damaged}
+use Rattle.own_entry.proofs.Laws.{sum-told, sum-damaged}
 use borrow.Author.Needs.{needs}
-use Rattle.dir_create.proofs.recount.Statement.{statement}
-use Rattle.dir_create.proofs.recount.Tie as tie
-use Rattle.dir_create.proofs.recount.Reads as reads
-use Rattle.dir_create.proofs.recount.Lts as lts
+use Rattle.own_entry.proofs.renew_sum.Statement.{statement}
+use Rattle.own_entry.proofs.renew_sum.Tie as tie
+use Rattle.own_entry.proofs.renew_sum.Reads as reads
+use Rattle.own_entry.proofs.renew_sum.Lts as lts
 use Rattle.own_entry.proofs.renew.Reads as renew-reads
 use Rattle.read_dir.proofs.sum.Reads as sum-reads
 
--- src/lib.rt:167:11
+-- src/lib.rt:144:11
 sum-requires : tie.Need-sum-requires
 sum-requires c κs = search needs
 
--- src/lib.rt:168:23
+-- src/lib.rt:145:23
 enum-known-z : tie.Need-enum-known-z
 enum-known-z c = search needs
 
--- src/lib.rt:168:29
+-- src/lib.rt:145:29
 renew-requires : tie.Need-renew-requires
 renew-requires c κs = search needs
 
 enum-told : tie.Need-enum-told
 enum-told c = search needs
 
--- src/lib.rt:162:1
+-- src/lib.rt:139:1
 same-length : tie.Need-same-length
 same-length c = search needs
 
--- src/lib.rt:162:1
+-- src/lib.rt:139:1
 returns : tie.Need-returns
-returns c = search (recount-total, needs)
+returns c = search (sum-told, needs)
 
--- src/lib.rt:162:1
+-- src/lib.rt:139:1
 same-length-2 : tie.Need-same-length-2
 same-length-2 c = search needs
 
--- src/lib.rt:162:1
+-- src/lib.rt:139:1
 returns-2 : tie.Need-returns-2
-returns-2 c = search (recount-damaged, needs)
+returns-2 c = search (sum-damaged, needs)
 
-pub recount-spec : {M : Type 1} → statement M
-recount-spec =
+pub renew-sum-spec : {M : Type 1} → statement M
+renew-sum-spec =
     tie.close
     (tie.spec
     sum-requires

@@ -1,34 +1,52 @@
--- The directory's own entry renewed, or none where it is the root: what the image is then.
+-- Stores in a directory, and then its own entry renewed, or none where it is the root: the image is the volume of the edited tree.
 use mathlib.Core.Path.{_≡_, refl, sym, ap, _∙_, subst}
 use mathlib.Core.Option.{Option, some}
-use mathlib.Core.List.{List, [], _∷_, _++_}
+use mathlib.Core.List.{List, [], _∷_}
 use Prim.Native.Nat.{ℕ, zero, suc, _+_, _^_, _≤_, _<_}
 use native.Mathlib.Omega.{arith}
 use lib.ListN.{length}
 use Rattle.block.specs.Block.{cell, Off, Kept}
 use Rattle.block.proofs.Laws.{kept-trans, kept-less}
 use Rattle.model.specs.Tree.{Name, Tree, sum, Edit, edit, Some, find}
-use Rattle.model.specs.Render.{Piece, render, ats, count, blocks, ownTime}
-use Rattle.model.specs.Geometry.{Geo, blockSize, dataAt, mapBits, superBytes, Sound}
-use Rattle.model.specs.Volume.{Volume}
+use Rattle.model.specs.Render.{Piece, blocksAt, render, ats, count, blocks, ownTime, ShowsAll}
+use Rattle.model.specs.Geometry.{Geo, blockSize, mapAt, dataAt, mapBits, superBytes, Sound}
+use Rattle.model.specs.Volume.{All, Volume}
 use Rattle.model.specs.Calls.{Makes}
 use Rattle.model.proofs.Areas.{area, size-large}
 use Rattle.model.proofs.Commit.{Commit, commit, commit-root}
-use Rattle.model.proofs.Counts.{count-same, count-append, ats-append}
-use Rattle.model.proofs.Cuts.{Cut, OwnCut, own-cut}
+use Rattle.model.proofs.Counts.{count-self, tally}
+use Rattle.model.proofs.Cuts.{OwnCut, own-cut}
 use Rattle.model.proofs.Demand.{whole-super}
-use Rattle.model.proofs.Frame.{SameBlock, shows-frame, blocks-edit}
-use Rattle.model.proofs.Full.{whole-tree}
+use Rattle.model.proofs.Frame.{SameBlock, shows-frame, blocks-edit, cut-within, cut-old, cut-new}
+use Rattle.model.proofs.Full.{Whole, whole-tree}
 use Rattle.model.proofs.Lists.{not-some}
 use Rattle.model.proofs.Owns.{renewedAt, shows-kept, own-kept, own-renewed}
+use Rattle.model.proofs.Paths.{sub-in}
 use Rattle.bitmap_block.specs.Bitmap.{mark}
 use Rattle.bitmap_block.proofs.Steps.{mark-is, mark-kept}
 use Rattle.dir_entry.specs.Entry.{placeAt}
+use Rattle.read_dir.specs.declared.Summed.{Summed}
+use Rattle.read_dir.specs.Walk.{walk}
+use Rattle.read_dir.specs.Finds.{sumFrom}
+use Rattle.tree_walk.proofs.Parts.{Part}
+use Rattle.tree_walk.proofs.Walks.{part-sum}
 use Rattle.own_entry.specs.declared.Own.{Own}
 use Rattle.own_entry.specs.declared.Own.the-variants.{Root, At}
-use Rattle.own_entry.specs.Own.{ownRenewed, OwnOf}
-use Rattle.dir_delete.proofs.Stay.{cut-old, cut-new}
-use Rattle.dir_delete.proofs.Made.{Made, fewer}
+use Rattle.own_entry.specs.Own.{ownRenewed, ownSummed, sumRenewed, OwnOf}
+
+-- What is so of J, in which all is stored but the directory's own entry: s is the directory, u what it becomes, and `left` what is left over.
+pub record Made (g : Geo) (I J : List ℕ) (d : ℕ) (t : Tree d) (e : ℕ) (s u : Tree e) (left : List Piece) : Type 0 where
+  pub commit : Commit g I J d t e s u
+  pub others : (b : ℕ) → 1 ≤ count b (blocks (blockSize g) d t) → count b (blocks (blockSize g) e s) ≡ 0 → SameBlock (blockSize g) I J b
+  pub remains : ShowsAll (blockSize g) J left
+  pub whole : All (Whole (blockSize g)) left
+  pub over : (i : ℕ) → count i (ats left) ≤ count i (blocks (blockSize g) e s)
+  pub frame : Kept (blockSize g) (λ b o. (b ≡ g .K → ⊥) × (mapAt g ≤ b → b < dataAt g → ⊥) × (count b (blocks (blockSize g) e u) + count b (ats left) ≡ 0)) I J
+
+-- The blocks of a directory at a path are among the tree's.
+pub sub-blocks : (B d : ℕ) (p : List Name) (t : Tree d) (s : Some) → find d p t ≡ some s → (i : ℕ) → count i (blocks B (s .0) (s .1)) ≤ count i (blocks B d t)
+unfolding tally
+sub-blocks B d p t s f i = sub-in B i d p t s f
 
 -- The root has no entry of its own.
 root-makes : (g : Geo) (I J : List ℕ) (d : ℕ) (t u : Tree d) (left : List Piece) → Volume g I d t → Made g I J d t d t u left → Makes g d u left I J
@@ -37,20 +55,6 @@ root-makes g I J d t u left v m = record {
   remains = m .remains;
   frame = kept-less (λ b o h. (h .0 .not-super, h .0 .not-map, omega (arith, h .0 .not-reached, h .1))) (m .frame);
 }
-
--- the block of the own entry is none of the directory's
-cut-apart : (B : ℕ) (xs ys us vs : List Piece) (q : ℕ) (E E′ : List ℕ) (c : Cut B xs ys us vs q E E′) → ((i : ℕ) → count i (ats xs) ≤ 1) → count (c .at) (ats us) ≡ 0
-unfolding ats
-cut-apart B xs ys us vs q E E′ c once =
-    omega (
-      arith,
-      rw (c .old, ats-append, count-append) at (once (c .at)),
-      count-same (c .at) (c .at) (ats (c .between ++ (us ++ c .after))) refl,
-      ap (count (c .at)) (ats-append (c .between) (us ++ c .after)),
-      count-append (c .at) (ats (c .between)) (ats (us ++ c .after)),
-      ap (count (c .at)) (ats-append us (c .after)),
-      count-append (c .at) (ats us) (ats (c .after)),
-    )
 
 module _ (g : Geo) (I J : List ℕ) (d : ℕ) (t : Tree d) (n : Name) (p : List Name) (now : ℕ) (f : Edit) (s : Some) (left : List Piece)
     (v : Volume g I d t) (h : find d (n ∷ p) t ≡ some s) (m : Made g I J d t (s .0) (s .1) (f (s .0) (s .1)) left)
@@ -66,7 +70,7 @@ module _ (g : Geo) (I J : List ℕ) (d : ℕ) (t : Tree d) (n : Name) (p : List 
   unfolding K
   own-only = own-kept g I d t (n ∷ p) (λ _. now) f s v c J long (sum (f (s .0) (s .1))) now
 
-  -- the own entry's block
+  -- the own entry's block is one of the tree's, before and after, and none of the directory's
   in-tree : 1 ≤ count (c .cut .at) (blocks (blockSize g) d t)
   in-tree = cut-old _ _ _ _ _ _ _ _ (c .cut)
 
@@ -74,7 +78,7 @@ module _ (g : Geo) (I J : List ℕ) (d : ℕ) (t : Tree d) (n : Name) (p : List 
   in-new = cut-new _ _ _ _ _ _ _ _ (c .cut)
 
   not-own : count (c .cut .at) (blocks (blockSize g) (s .0) (s .1)) ≡ 0
-  not-own = cut-apart _ _ _ _ _ _ _ _ (c .cut) (v .laid .once)
+  not-own = omega (arith, cut-within _ _ _ _ _ _ _ _ (c .cut) (c .cut .at), count-self (c .cut .at), v .laid .once (c .cut .at))
 
   in-data : dataAt g ≤ c .cut .at
   in-data = v .laid .range (c .cut .at) in-tree .0
@@ -119,7 +123,7 @@ module _ (g : Geo) (I J : List ℕ) (d : ℕ) (t : Tree d) (n : Name) (p : List 
         shown = shows-frame B J K (render B (s .0) (f (s .0) (s .1))) (whole-tree B (omega (arith, size-large g)) (s .0) (f (s .0) (s .1)) (o .good)) (λ b q. other b (of-new b q)) (o .shown);
       }
 
-  pub below-makes : now < 2 ^ 64 → Makes g d (edit d (n ∷ p) (λ _. now) f t) left I (renewedAt J (c .place) (sum (f (s .0) (s .1))) now)
+  below-makes : now < 2 ^ 64 → Makes g d (edit d (n ∷ p) (λ _. now) f t) left I (renewedAt J (c .place) (sum (f (s .0) (s .1))) now)
   unfolding K cell
   below-makes small =
       let B : ℕ = blockSize g in
@@ -136,7 +140,7 @@ module _ (g : Geo) (I J : List ℕ) (d : ℕ) (t : Tree d) (n : Name) (p : List 
     where
       gone : (b : ℕ) → count b (blocks (blockSize g) d (edit d (n ∷ p) (λ _. now) f t)) ≡ 0 → count b (ats left) ≡ 0
           → count b (blocks (blockSize g) (s .0) (f (s .0) (s .1))) + count b (ats left) ≡ 0
-      gone b x y = omega (arith, blocks-edit (blockSize g) d (n ∷ p) (λ _. now) f t s h b, fewer g I d t v (n ∷ p) s h b)
+      gone b x y = omega (arith, blocks-edit (blockSize g) d (n ∷ p) (λ _. now) f t s h b, sub-blocks (blockSize g) d (n ∷ p) t s h b)
 
 -- ---- both
 
@@ -144,8 +148,8 @@ module _ (g : Geo) (I J : List ℕ) (d : ℕ) (t : Tree d) (n : Name) (p : List 
 some-one : (a b : ℕ) (o : Option ℕ) → o ≡ some a → o ≡ some b → a ≡ b
 some-one a b o x y = let both : some a ≡ some b = sym x ∙ y in cc
 
--- The whole of it: the sum and the time stand in the own entry, and the image is the volume of the edited tree.
-pub renewed-makes : (g : Geo) (I J : List ℕ) (d : ℕ) (t : Tree d) (p : List Name) (now : ℕ) (f : Edit) (s : Some) (left : List Piece) (own : Own) → Volume g I d t → find d p t ≡ some s
+-- The sum and the time stand in the own entry, and the image is the volume of the edited tree.
+renewed-makes : (g : Geo) (I J : List ℕ) (d : ℕ) (t : Tree d) (p : List Name) (now : ℕ) (f : Edit) (s : Some) (left : List Piece) (own : Own) → Volume g I d t → find d p t ≡ some s
     → Made g I J d t (s .0) (s .1) (f (s .0) (s .1)) left → OwnOf (blockSize g) d p t own → now < 2 ^ 64
     → Makes g d (edit d p (λ _. now) f t) left I (ownRenewed (blockSize g) J own (sum (f (s .0) (s .1))) now)
 unfolding find edit ownTime
@@ -163,3 +167,19 @@ renewed-makes g I J d t (n ∷ p) now f s left (At q) v h m o small =
     let e : c .place + 9 ≡ placeAt (blockSize g) (q .block .0) (q .offset) + 9 = some-one _ _ (ownTime (blockSize g) d (n ∷ p) t) (c .own) o in
     let k : c .place ≡ placeAt (blockSize g) (q .block .0) (q .offset) = omega arith in
     subst (λ (z : ℕ). Makes g d (edit d (n ∷ p) (λ _. now) f t) left I (renewedAt J z (sum (f (s .0) (s .1))) now)) k (below-makes g I J d t n p now f s left v h m c small)
+
+-- The sum that is read of the directory then is that of what it becomes: the whole of it.
+pub sum-makes : (g : Geo) (I J : List ℕ) (d : ℕ) (t : Tree d) (p : List Name) (now : ℕ) (f : Edit) (s : Some) (left : List Piece) (own : Own) → Volume g I d t → find d p t ≡ some s
+    → Made g I J d t (s .0) (s .1) (f (s .0) (s .1)) left → OwnOf (blockSize g) d p t own → now < 2 ^ 64
+    → Makes g d (edit d p (λ _. now) f t) left I (sumRenewed g J (blocksAt (s .1)) own now)
+unfolding sumRenewed
+sum-makes g I J d t p now f s left own v h m o small =
+    let c : Commit g I J d t (s .0) (s .1) (f (s .0) (s .1)) = m .commit in
+    let q : Part g J (s .0) (f (s .0) (s .1)) = record {
+      sound = subst (Sound g) (sym (c .long)) (v .laid .sound);
+      stored = record { shown = c .shown; once = λ i. omega (arith, c .fresh i, sub-blocks (blockSize g) d p t s h i); range = c .inside };
+      good = c .good;
+    } in
+    let e = ap (λ (a : ℕ). sumFrom 0 (walk (blockSize g) (dataAt g) (g .n) J a)) (sym (c .first)) ∙ part-sum g J (s .0) (f (s .0) (s .1)) q in
+    subst (λ (z : Summed). Makes g d (edit d p (λ _. now) f t) left I (ownSummed (blockSize g) J own now z)) (sym e)
+    (renewed-makes g I J d t p now f s left own v h m o small)
