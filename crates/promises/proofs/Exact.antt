@@ -21,7 +21,7 @@ use Rattle.read_dir.specs.Walk.{walk}
 use Rattle.read_dir.specs.Finds.{findIn}
 use Rattle.path.specs.Path.{slash, realPath, badPath}
 use Rattle.dir.specs.Resolve.{onName}
-use Rattle.dir.proofs.Laws.{and-then-ok}
+use Rattle.model.proofs.Replies.{and-then-ok, not-accepted, first-refused}
 use Rattle.dir_tree.specs.Held.{HeldAt}
 use Rattle.dir_tree.proofs.Finds.{find-missing}
 use Rattle.dir_tree.proofs.Holding.{hold-is, hold-some}
@@ -42,7 +42,7 @@ use Rattle.on_tree.proofs.Calls.{open-none, open-file, open-handle, info-none}
 use Rattle.on_tree.proofs.Changing.{volume-at}
 use Rattle.promises.specs.Honest.{Deletable, HasEntries}
 use Rattle.promises.proofs.Files.{file-there}
-use Rattle.promises.proofs.Honest.{not-accepted, then-refused, refused-then, accepted-then, on-success, says-success, change-passes}
+use Rattle.promises.proofs.Honest.{refused-then, accepted-then, on-success, says-success, change-passes}
 
 -- ---- delete
 
@@ -70,7 +70,7 @@ module _ (K : ℕ) (I W : List ℕ) (b : Bytes I) (w : WellFormed K I) (long : m
   pub delete-not-empty : (says r ≡ refused 14) ↔ HasEntries maxDepth (wayOf cwd p) (lastOf cwd p) (w .tree)
   delete-not-empty = (
     λ e.
-        let x = refused-full (geoAt K I) I maxDepth (w .tree) (realPath cwd p) (volume-at K I w) (then-refused doomed (λ x. tt) 14 (sym delete-says ∙ e)) in
+        let x = refused-full (geoAt K I) I maxDepth (w .tree) (realPath cwd p) (volume-at K I w) (first-refused doomed (λ x. tt) 14 (sym delete-says ∙ e)) in
         record { there = x .0; some-entry = x .1 },
     λ h.
         delete-says

@@ -1,21 +1,21 @@
 -- The file or the device at a path: the entry that its directory has, and its blocks in the image.
-use mathlib.Core.Path.{_≡_, refl, sym, ap, _∙_, subst}
+use mathlib.Core.Path.{_≡_, refl, sym, _∙_, subst}
 use mathlib.Core.Logic.{_⊎_, inl, inr}
 use mathlib.Core.Option.{Option, none, some}
 use mathlib.Core.List.{List, [], _∷_}
 use Prim.Native.Nat.{ℕ, zero, suc, _+_, _*_, _≤_, _<_}
 use native.Mathlib.Omega.{arith}
-use lib.ListN.{getD, length-append}
-use Rattle.wire.proofs.Laws.{length-bytes}
+use lib.ListN.{getD}
 use Rattle.model.specs.Tree.{Name, Cell, Node, file, device, sub, Entry, Below, Tree, then, lookup, inside, Some, find}
-use Rattle.model.specs.Render.{cellsAt, cellPieces, nodePieces, view, render, ats, count, ShowsAll}
+use Rattle.model.specs.Render.{cellPieces, nodePieces, view, render, count, ShowsAll}
 use Rattle.model.specs.Geometry.{Geo, blockSize}
-use Rattle.model.specs.Volume.{All, GoodCell, GoodNode, GoodBelow, Laid}
+use Rattle.model.specs.Volume.{All, GoodNode, GoodBelow, Laid}
 use Rattle.model.specs.Calls.{Occupied, fileOf, fileAt, places}
 use Rattle.model.proofs.Alike.{alike-refl}
 use Rattle.model.proofs.Areas.{size-large}
 use Rattle.model.proofs.Demand.{shown-near}
-use Rattle.model.proofs.Full.{good-lookup, Whole}
+use Rattle.model.proofs.Full.{good-lookup, Whole, whole-cells}
+use Rattle.model.proofs.Counts.{ats-cells}
 use Rattle.model.proofs.Lists.{not-some, then-some}
 use Rattle.tree_walk.proofs.Parts.{laid-part, part-find, stored-lookup}
 use Rattle.promises.specs.Counter.{deviceOf, deviceAt}
@@ -92,16 +92,6 @@ module _ (d : ℕ) (p : List Name) (n : Name) (t : Tree d) (z k : ℕ) (cs : Lis
 
 -- ---- its blocks
 
-cell-places : (cs : List Cell) → ats (cellPieces cs) ≡ places cs
-unfolding ats cellPieces places
-cell-places [] = refl
-cell-places (c ∷ cs) = ap (λ (l : List ℕ). c .at ∷ l) (cell-places cs)
-
-whole-cells : (B : ℕ) → 5 ≤ B → (cs : List Cell) → All (GoodCell B) cs → All (Whole B) (cellPieces cs)
-unfolding cellPieces
-whole-cells B h [] a = tt
-whole-cells B h (c ∷ cs) a = (rw length-append (omega (arith, a .0 .whole, length-bytes 4 (cellsAt cs))), whole-cells B h cs (a .1))
-
 -- What the image shows of the blocks, each a whole one.
 pub record CellsShown (B : ℕ) (I : List ℕ) (cs : List Cell) : Type 0 where
   pub shown : ShowsAll B I (cellPieces cs)
@@ -123,12 +113,12 @@ module _ (g : Geo) (I : List ℕ) (d : ℕ) (t : Tree d) (u : ℕ) (l : Laid g I
       go (inl e) s b five =
           record {
             shown = subst (λ (x : Node (Below (o .dir .0))). ShowsAll (blockSize g) I (nodePieces (view (blockSize g) (o .dir .0)) x)) e s;
-            whole = whole-cells (blockSize g) five cs (subst (λ (x : Node (Below (o .dir .0))). GoodNode (blockSize g) (GoodBelow (blockSize g) (o .dir .0)) x) e b .cells);
+            whole = whole-cells (blockSize g) (omega (arith, five)) cs (subst (λ (x : Node (Below (o .dir .0))). GoodNode (blockSize g) (GoodBelow (blockSize g) (o .dir .0)) x) e b .cells);
           }
       go (inr e) s b five =
           record {
             shown = subst (λ (x : Node (Below (o .dir .0))). ShowsAll (blockSize g) I (nodePieces (view (blockSize g) (o .dir .0)) x)) e s;
-            whole = whole-cells (blockSize g) five cs (subst (λ (x : Node (Below (o .dir .0))). GoodNode (blockSize g) (GoodBelow (blockSize g) (o .dir .0)) x) e b .cells);
+            whole = whole-cells (blockSize g) (omega (arith, five)) cs (subst (λ (x : Node (Below (o .dir .0))). GoodNode (blockSize g) (GoodBelow (blockSize g) (o .dir .0)) x) e b .cells);
           }
 
   pub cells-shown : (fileAt d p n t ≡ some (z, k, cs)) ⊎ (deviceAt d p n t ≡ some (z, k, cs)) → CellsShown (blockSize g) I cs
@@ -140,4 +130,4 @@ pub cells-same : (B : ℕ) (I J : List ℕ) (cs : List Cell) → CellsShown B I 
     → (b i : ℕ) → 1 ≤ count b (places cs) → i < B → getD J (B * b + i) 0 ≡ getD I (B * b + i) 0
 cells-same B I J cs old new b i n l =
     shown-near (λ _. ⊥) B I J (cellPieces cs) (cellPieces cs) (alike-refl (λ _. ⊥) B (cellPieces cs)) (old .whole) (old .shown) (new .shown) b i
-    (subst (λ (y : List ℕ). 1 ≤ count b y) (sym (cell-places cs)) n) l (λ y. y)
+    (subst (λ (y : List ℕ). 1 ≤ count b y) (sym (ats-cells cs)) n) l (λ y. y)

@@ -12,6 +12,7 @@ use borrow.Author.Tests.{le-ltb, ne-eqb}
 use Rattle.wire.specs.Be.{splice}
 use Rattle.wire.proofs.Picks.{either, not-both}
 use Rattle.model.specs.Answers.{Reply, accepted, refused, refusalNumber, andThen, when, given}
+use Rattle.model.proofs.Replies.{given-refused, not-accepted, first-refused}
 use Rattle.model.specs.Tree.{Name, Cell, Entry, Tree, inside, Some, find}
 use Rattle.model.specs.Geometry.{Geo, geoAt}
 use Rattle.model.specs.Volume.{WellFormed, maxDepth}
@@ -62,20 +63,7 @@ use Rattle.promises.specs.Honest.{CreateFits, CreateFull}
 
 -- ---- answers
 
-given-refused : {A : Type 0} (k : ℕ) (r : Reply A) (j : ℕ) → given k r ≡ refused j → ((1 ≤ k) × (j ≡ k)) ⊎ ((k ≡ 0) × (r ≡ refused j))
-unfolding given
-given-refused zero r j e = inr (refl, e)
-given-refused (suc k) r j e = let z : suc k ≡ j = cc in inl (omega arith, sym z)
-
-pub not-accepted : {A : Type 0} (k : ℕ) (a : A) → refused k ≡ accepted a → ⊥
-not-accepted k a e = let z : _≡_ {A = ℕ} 0 1 = cc in omega arith
-
 -- an answer and what is made of its value are refused by the same number, and accepted together
-pub then-refused : {A B : Type 0} (r : Reply A) (f : A → B) (j : ℕ) → andThen r (λ a. accepted (f a)) ≡ refused j → r ≡ refused j
-unfolding andThen
-then-refused (accepted a) f j e = absurd (not-accepted j (f a) (sym e))
-then-refused (refused k) f j e = let z : k ≡ j = cc in ap refused z
-
 pub refused-then : {A B : Type 0} (r : Reply A) (f : A → B) (j : ℕ) → r ≡ refused j → andThen r (λ a. accepted (f a)) ≡ refused j
 unfolding andThen
 refused-then r f j e = ap (λ x. andThen x (λ a. accepted (f a))) e
@@ -135,7 +123,7 @@ module _ (K : ℕ) (I W : List ℕ) (b : Bytes I) (w : WellFormed K I) (long : m
     pub write-full : (countedSays (o .answer) ≡ refused 9) ↔ NoRoom (geoAt K I) maxDepth (w .tree) h (length buf)
     write-full =
         let r = no-room (geoAt K I) I (w .tree) (volume-at K I w) h (length buf) in (
-          λ e. r .0 (then-refused (targetOf (geoAt K I) I h (length buf)) (λ x. length buf) 9 (sym write-says ∙ e)),
+          λ e. r .0 (first-refused (targetOf (geoAt K I) I h (length buf)) (λ x. length buf) 9 (sym write-says ∙ e)),
           λ n. write-says ∙ refused-then (targetOf (geoAt K I) I h (length buf)) (λ x. length buf) 9 (r .1 n),
         )
 
@@ -166,7 +154,7 @@ module _ (K : ℕ) (I W : List ℕ) (b : Bytes I) (w : WellFormed K I) (long : m
 
       reply-refused : (j : ℕ) → reply ≡ refused j → here ≡ refused j
       unfolding createdOn freshOf
-      reply-refused j e = then-refused here _ j (sym reply-is ∙ e)
+      reply-refused j e = first-refused here _ j (sym reply-is ∙ e)
 
       refused-reply : (j : ℕ) → here ≡ refused j → reply ≡ refused j
       unfolding createdOn freshOf
@@ -242,7 +230,7 @@ module _ (K : ℕ) (I W : List ℕ) (b : Bytes I) (w : WellFormed K I) (long : m
       pub create-full : (openSays o ≡ refused 9) ↔ CreateFull (geoAt K I) kind.File maxDepth (wayOf cwd p) (lastOf cwd p) (w .tree)
       create-full =
           let r = reply-full kind.File in (
-            λ e. r .0 (then-refused (createReply kind.File K I (length W) cwd p) _ 9 (sym (c .answer .answer) ∙ e)),
+            λ e. r .0 (first-refused (createReply kind.File K I (length W) cwd p) _ 9 (sym (c .answer .answer) ∙ e)),
             λ f. c .answer .answer ∙ refused-then (createReply kind.File K I (length W) cwd p) _ 9 (r .1 f),
           )
 
@@ -256,7 +244,7 @@ module _ (K : ℕ) (I W : List ℕ) (b : Bytes I) (w : WellFormed K I) (long : m
       pub create-dir-full : (says q ≡ refused 9) ↔ CreateFull (geoAt K I) kind.Dir maxDepth (wayOf cwd p) (lastOf cwd p) (w .tree)
       create-dir-full =
           let r = reply-full kind.Dir in (
-            λ e. r .0 (then-refused (createReply kind.Dir K I (length W) cwd p) (λ x. tt) 9 (sym (c .answer) ∙ e)),
+            λ e. r .0 (first-refused (createReply kind.Dir K I (length W) cwd p) (λ x. tt) 9 (sym (c .answer) ∙ e)),
             λ f. c .answer ∙ refused-then (createReply kind.Dir K I (length W) cwd p) (λ x. tt) 9 (r .1 f),
           )
 

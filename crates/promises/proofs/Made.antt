@@ -7,7 +7,7 @@ use Prim.Native.Nat.{ℕ, zero, suc, _^_, _≤_, _<_}
 use native.Mathlib.Omega.{arith}
 use lib.ListN.{length}
 use lib.Seq.{take-append-seam}
-use Rattle.model.specs.Answers.{Reply, accepted, refused, andThen, given}
+use Rattle.model.specs.Answers.{Reply, accepted, refused, andThen}
 use Rattle.model.specs.Tree.{Name, Cell, Node, file, device, sub, Entry, Below, Tree, then, lookup, Absent, insert, inside, Some, find, blank, NoEntries}
 use Rattle.model.specs.Render.{blocksAt, cellsAt, padded}
 use Rattle.model.specs.Geometry.{blockSize, geoAt}
@@ -15,6 +15,7 @@ use Rattle.model.specs.Volume.{WellFormed, maxDepth}
 use Rattle.model.specs.Calls.{Occupied, fileOf, fileAt, DirAt, freeBlocks, entryRoom, entryBlock, dirBlock, fileEntry, emptyCell, created, dirAdded, createdDir}
 use Rattle.model.proofs.Edits.{find-edit}
 use Rattle.model.proofs.Full.{good-find}
+use Rattle.model.proofs.Replies.{given-accepted, not-accepted}
 use Rattle.model.proofs.Lists.{not-some, then-some}
 use Rattle.model.proofs.OneVolume.{well-formed-one}
 use Rattle.model.proofs.Opens.{when-none, first-of-zero, first-of-one}
@@ -33,16 +34,10 @@ use Rattle.on_tree.specs.Handles.{HandleOf}
 use Rattle.on_tree.specs.Named.{wayOf, lastOf}
 use Rattle.on_tree.proofs.Changing.{volume-at, tree-after, create-file-tree, create-dir-tree}
 use Rattle.promises.proofs.Files.{file-at}
-use Rattle.promises.proofs.Honest.{not-accepted}
 use Rattle.promises.proofs.Lookups.{called-own, lookup-inserted}
 use Rattle.promises.proofs.Path.{created-there}
 
 -- ---- answers that are accepted
-
-given-accepted : {A : Type 0} (k : ℕ) (r : Reply A) (a : A) → given k r ≡ accepted a → (k ≡ 0) × (r ≡ accepted a)
-unfolding given
-given-accepted zero r a e = (refl, e)
-given-accepted (suc k) r a e = absurd (not-accepted (suc k) a e)
 
 then-accepted : {A B : Type 0} (r : Reply A) (f : A → B) (b : B) → andThen r (λ a. accepted (f a)) ≡ accepted b → (a : A) × (r ≡ accepted a) × (f a ≡ b)
 unfolding andThen

@@ -1,13 +1,10 @@
 -- Demand 3 over the public calls: a sequence of calls at one path is a run of the model's steps.
 use mathlib.Core.Path.{_≡_, refl, sym, ap, _∙_, subst}
-use mathlib.Core.Bool.{true, false}
 use mathlib.Core.Logic.{_⊎_, inl, inr}
-use mathlib.Core.List.{List, [], _∷_, _++_}
-use Prim.Native.Nat.{ℕ, _+_, _^_, _<_}
-use lib.Dec.{leb}
-use Rattle.wire.proofs.Picks.{either, pick-true, pick-false}
+use mathlib.Core.List.{List, []}
+use Prim.Native.Nat.{ℕ, _^_, _<_}
 use Rattle.model.specs.declared.Refusal.{Refusal}
-use Rattle.model.specs.Tree.{Name, Cell, Entry, Block, Tree, used, weight, fill, Packed, insert, change, delete, Edit, edit}
+use Rattle.model.specs.Tree.{Name, Cell, Tree, Packed, insert, change, delete, Edit, edit}
 use Rattle.model.specs.Render.{Piece, blocksAt}
 use Rattle.model.specs.Geometry.{Geo, blockSize, geoAt}
 use Rattle.model.specs.Volume.{WellFormed, maxDepth}
@@ -19,6 +16,7 @@ use Rattle.model.proofs.Alike.{change-at}
 use Rattle.model.proofs.Demand.{demand3}
 use Rattle.model.proofs.Edits.{find-edit}
 use Rattle.model.proofs.Full.{good-find}
+use Rattle.model.proofs.Inserts.{insert-at}
 use Rattle.model.proofs.Makes.{creates-file-step, deletes-step, writes-step}
 use Rattle.model.proofs.OneVolume.{well-formed-geo, well-formed-one}
 use Rattle.model.proofs.Paths.{laid-path}
@@ -37,15 +35,6 @@ use Rattle.promises.proofs.Answered.{answer-is, counted-is}
 use Rattle.promises.specs.Sequence.{Leads, HandleAt, Call, creates, opens, reads, seeks, writes, deletes, Calls, done, call}
 
 -- ---- the holding directory begins where it did
-
-insert-at : {X : Type 0} (cap w : ℕ) (e : Entry X) (bs : List (Block X)) → Packed bs → blocksAt (insert cap w e bs) ≡ blocksAt bs
-unfolding insert blocksAt
-insert-at cap w e [] p = absurd p
-insert-at {X} cap w e (b ∷ bs) p = go (either (leb (used (b .entries) + weight e) cap))
-  where
-    go : (leb (used (b .entries) + weight e) cap ≡ true) ⊎ (leb (used (b .entries) + weight e) cap ≡ false) → blocksAt (insert cap w e (b ∷ bs)) ≡ b .at
-    go (inl c) = ap blocksAt (pick-true (fill (λ es. es ++ (e ∷ [])) b ∷ bs) (b ∷ insert cap w e bs) c)
-    go (inr c) = ap blocksAt (pick-false (fill (λ es. es ++ (e ∷ [])) b ∷ bs) (b ∷ insert cap w e bs) c)
 
 module _ (d a : ℕ) (p : List Name) (t : Tree d) (s : DirAt d a p t) where
   edit-there : (g : ℕ → ℕ) (f : Edit) → blocksAt (f (s .dir .0) (s .dir .1)) ≡ blocksAt (s .dir .1) → DirAt d a p (edit d p g f t)

@@ -12,30 +12,23 @@ use Rattle.model.specs.Render.{blocksAt}
 use Rattle.model.specs.Volume.{WellFormed, maxDepth}
 use Rattle.model.specs.Calls.{Occupied, fileAt, contents}
 use Rattle.model.proofs.Opens.{when-none, first-of-zero, first-of-one}
-use Rattle.model.proofs.Replies.{number-some}
 use Rattle.path.specs.Path.{badPath}
 use Rattle.file.specs.declared.Handle.{Handle}
 use Rattle.file.specs.declared.SeekFrom.the-variants.{Start}
 use Rattle.file.specs.declared.Outcome.the-variants as outcome
 use Rattle.file.specs.declared.Sought.{Sought}
-use Rattle.file.specs.declared.Counted.{Counted}
 use Rattle.file.specs.declared.Counted.the-variants as counted
 use Rattle.file.specs.declared.ReadOut.{ReadOut}
-use Rattle.file.specs.File.{staleFields, moved, toRead, readRefusal}
-use Rattle.file.specs.Post.{SoughtIs, CountedIs}
+use Rattle.file.specs.File.{staleFields, moved, readRefusal}
+use Rattle.file.specs.Post.{SoughtIs}
 use Rattle.mfs.specs.declared.OpenOut.{OpenOut}
 use Rattle.mfs.specs.Reading.{Opens, readCall, Reads}
 use Rattle.on_tree.specs.Handles.{HandleOf}
 use Rattle.on_tree.specs.Named.{wayOf, lastOf}
 use Rattle.on_tree.proofs.Calls.{read-file, read-bytes}
-use Rattle.on_tree.proofs.ReadsBack.{seek-inside}
+use Rattle.on_tree.proofs.ReadsBack.{seek-inside, reads-given}
 use Rattle.promises.proofs.Exact.{open-succeeds}
 use Rattle.promises.proofs.Files.{file-there}
-
--- a read that is not refused counts its bytes and stores them
-reads-given : (k : ℕ) (h f : Handle) (vs l m : List ℕ) (c : Counted) → k ≡ 0 → CountedIs k h f vs l m c → (c ≡ counted.Bytes (toRead h (length l))) × (m ≡ splice l 0 vs)
-reads-given k h f vs l m (counted.Bytes j) z a = (ap counted.Bytes (a .count), a .stored)
-reads-given k h f vs l m (counted.Refused x) z a = absurd (omega (arith, a .refused, number-some x))
 
 -- A handle of a file, z bytes in the blocks cs: a seek to any position in the file and a read from there.
 module _ (K : ℕ) (I : List ℕ) (w : WellFormed K I) (q : List Name) (n : Name) (z : ℕ) (cs : List Cell) (o : Occupied maxDepth q n (w .tree)) (f : o .entry .node ≡ file z cs)
