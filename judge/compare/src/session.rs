@@ -1,10 +1,10 @@
 //! Both sides on the same image, call by call.
-use crate::call::{Answer, Call, Place};
+use crate::call::{Answer, Call, Place, SLOTS};
 use crate::domain::{full_path, outside, Before, Reason};
 use crate::original::Original;
 use crate::ours::Ours;
 use crate::watch;
-use mfs::Handle;
+use mfs::{Handle, Refusal};
 use std::cell::OnceCell;
 use std::fmt;
 use std::panic::{catch_unwind, AssertUnwindSafe};
@@ -17,6 +17,8 @@ pub struct Session<'a> {
     k: u32,
     /// The entries of the image as it is now, read when they are asked for.
     entries: OnceCell<Vec<Entry>>,
+    /// Since its file was opened another handle wrote it, or something was deleted or formatted: only then may it have been cut.
+    perhaps_cut: [bool; SLOTS],
 }
 
 /// What became of a call.
@@ -54,7 +56,7 @@ impl<'a> Session<'a> {
     /// Both sides with the same image, whose superblock is in block `k`.
     pub fn new(original: &'a mut dyn Original, image: Vec<u8>, k: u32) -> Session<'a> {
         original.load(&image);
-        Session { ours: Ours::new(image, k), original, k, entries: OnceCell::new() }
+        Session { ours: Ours::new(image, k), original, k, entries: OnceCell::new(), perhaps_cut: [false; SLOTS] }
     }
 
     /// The volume as it is now, before a call with a handle.
@@ -92,13 +94,42 @@ impl<'a> Session<'a> {
         let listed = self.listed(call);
         let handle = call.slot().and_then(|slot| self.ours.handle(slot).cloned());
         let ours = self.ours.make(call);
-        match (&ours, listed) {
-            (Err(refusal), _) if outside(refusal.number()) => self.refused_outside(refusal.number(), call, handle.as_ref()),
+        let verdict = match (&ours, listed) {
+            (Err(refusal), _) if outside(refusal.number()) => self.refused_outside(*refusal, call, handle.as_ref()),
             (Ok(_), Some(reason)) | (Err(_), Some(reason @ Reason::SeekOverflows)) => {
                 self.undo(call, handle);
-                Verdict::LeftOut(reason)
+                self.left_out(reason, call)
             }
             _ => self.compare(call, ours),
+        };
+        self.note_cuts(call, &verdict);
+        verdict
+    }
+
+    fn left_out(&self, reason: Reason, call: &Call) -> Verdict {
+        let whole = call.slot().is_some_and(|slot| !self.perhaps_cut[slot]);
+        if reason == Reason::ResumesElsewhere && whole {
+            let original = "its handle resumes elsewhere, though nothing cut the file".to_string();
+            return Verdict::Differs(Difference { ours: "accepted".to_string(), original, block: None });
+        }
+        Verdict::LeftOut(reason)
+    }
+
+    /// Keeps account of the handles whose files were perhaps cut by an accepted call.
+    fn note_cuts(&mut self, call: &Call, verdict: &Verdict) {
+        if !matches!(verdict, Verdict::Same(_, None)) {
+            return;
+        }
+        match *call {
+            Call::Open { slot, .. } | Call::CreateFile { slot, .. } => self.perhaps_cut[slot] = false,
+            Call::Delete { .. } | Call::Format => self.perhaps_cut = [true; SLOTS],
+            Call::Write { slot, .. } => {
+                let written = self.ours.file(slot).map(|file| file.addr);
+                for other in (0..SLOTS).filter(|&other| other != slot) {
+                    self.perhaps_cut[other] |= self.ours.file(other).map(|file| file.addr) == written;
+                }
+            }
+            _ => {}
         }
     }
 
@@ -148,16 +179,21 @@ impl<'a> Session<'a> {
     }
 
     /// The original isn't asked. The library must have had cause, and left its image as the original's is.
-    fn refused_outside(&self, number: u8, call: &Call, handle: Option<&Handle>) -> Verdict {
+    fn refused_outside(&mut self, refusal: Refusal, call: &Call, handle: Option<&Handle>) -> Verdict {
+        let number = refusal.number();
         let block = self.original.first_difference(&self.ours.image);
-        if block.is_none() && self.before(handle).gives_cause(number, call) {
+        let before = self.before(handle);
+        if block.is_none() && before.nothing_to_create_with(number, call) {
+            return self.compare(call, Err(refusal));
+        }
+        if block.is_none() && before.gives_cause(number, call) {
             return Verdict::LeftOut(Reason::Refusal(number));
         }
         let fault = if block.is_some() { "and changed the image" } else { "without cause" };
         Verdict::Differs(Difference { ours: format!("refused {number}, {fault}"), original: "not asked".to_string(), block })
     }
 
-    fn compare(&mut self, call: &Call, ours: Result<Answer, mfs::Refusal>) -> Verdict {
+    fn compare(&mut self, call: &Call, ours: Result<Answer, Refusal>) -> Verdict {
         let original = self.make_original(call);
         if call.changes() {
             self.entries.take();

@@ -9,8 +9,8 @@ struct Parts {
     /// The chains of files and devices.
     others: Vec<Vec<u32>>,
     free: Vec<u32>,
-    /// The place in the image of each entry, and of the end of each directory block's entries.
-    entries: Vec<usize>,
+    /// The place in the image of each entry, directory by directory, and of the end of each directory block's entries.
+    entries: Vec<Vec<usize>>,
     ends: Vec<usize>,
 }
 
@@ -41,10 +41,12 @@ impl Parts {
         }
         let free = (geometry.data()..geometry.blocks()).filter(|&addr| !geometry.taken(image, addr)).collect();
         let mut parts = Parts { geometry: *geometry, dirs, others, free, entries: Vec::new(), ends: Vec::new() };
-        for &addr in parts.dirs.iter().flat_map(|(blocks, _)| blocks) {
-            let end = push_entries(image, data_of(addr), &mut parts.entries);
-            parts.ends.push(end);
+        for (blocks, _) in &parts.dirs {
+            let mut entries = Vec::new();
+            parts.ends.extend(blocks.iter().map(|&addr| push_entries(image, data_of(addr), &mut entries)));
+            parts.entries.push(entries);
         }
+        parts.entries.retain(|entries| !entries.is_empty());
         parts
     }
 }
@@ -200,7 +202,8 @@ impl Editor<'_> {
         if self.parts.entries.is_empty() {
             return self.edit_after_last_entry();
         }
-        let at = *self.rng.pick(&self.parts.entries);
+        let dir = self.rng.pick(&self.parts.entries);
+        let at = *self.rng.pick(dir);
         match self.rng.below(8) {
             0 => {
                 let kind = *self.rng.pick(&[0, 1, 2, 3, 255]);
@@ -223,7 +226,7 @@ impl Editor<'_> {
                 let byte = *self.rng.pick(&[0, 0x1f, 0x20, 0x2f, 0x7e, 0x7f, 0x80, 0xff]);
                 self.put(place, &[byte])
             }
-            _ => self.copy_name(at),
+            _ => self.copy_name(at, dir),
         }
     }
 
@@ -236,10 +239,11 @@ impl Editor<'_> {
     fn draw_size(&mut self, at: usize) -> u32 {
         let size = self.number(at + 5);
         let near = [size.wrapping_sub(1), size.wrapping_add(1), size.wrapping_sub(508), size.wrapping_add(508)];
-        match self.rng.below(3) {
+        match self.rng.below(4) {
             0 => *self.rng.pick(&near),
-            1 => *self.rng.pick(&[0, 1, 508, 509, i32::MAX as u32 - 1, i32::MAX as u32, 0x8000_0000, u32::MAX]),
-            _ => self.rng.below(20_000) as u32,
+            1 => *self.rng.pick(&[0, 1, 508, 509]),
+            2 => self.rng.below(20_000) as u32,
+            _ => *self.rng.pick(&[i32::MAX as u32, 0x8000_0000, 0x8000_0001, u32::MAX]),
         }
     }
 
@@ -251,9 +255,11 @@ impl Editor<'_> {
         *self.rng.pick(&[0, 1, len.wrapping_sub(1), len.wrapping_add(1), to_end, to_end.saturating_add(1), 255])
     }
 
-    /// Gives an entry the name of another one, as far as its own is long.
-    fn copy_name(&mut self, at: usize) -> String {
-        let other = *self.rng.pick(&self.parts.entries);
+    /// Gives an entry the name of another one of its directory, if one is as long; else as much of another name as it has room for.
+    fn copy_name(&mut self, at: usize, dir: &[usize]) -> String {
+        let as_long: Vec<usize> =
+            dir.iter().copied().filter(|&other| other != at && self.name_length(other) == self.name_length(at)).collect();
+        let other = *self.rng.pick(if as_long.is_empty() { dir } else { &as_long });
         let len = self.name_length(at).min(self.name_length(other));
         let name = self.image[other + HEADER..other + HEADER + len].to_vec();
         self.put(at + HEADER, &name)
@@ -274,7 +280,7 @@ impl Editor<'_> {
             return self.edit_next();
         };
         self.take(new);
-        let own = self.parts.entries.iter().copied().find(|&at| self.number(at + 1) == chain[0]);
+        let own = self.parts.entries.iter().flatten().copied().find(|&at| self.number(at + 1) == chain[0]);
         match own {
             Some(at) if self.image[at] == 1 && self.rng.one_in(2) => {
                 self.put_number(at + 5, (chain.len() * CAPACITY + 1) as u32);
@@ -322,7 +328,7 @@ impl Editor<'_> {
             return self.edit_next();
         };
         self.take(new);
-        let own = parts.entries.iter().copied().find(|&at| self.number(at + 1) == holder[0]);
+        let own = parts.entries.iter().flatten().copied().find(|&at| self.number(at + 1) == holder[0]);
         if let Some(at) = own {
             let sum = self.number(at + 5).wrapping_add(HEADER as u32 + 1);
             self.put_number(at + 5, sum);

@@ -2,11 +2,21 @@
 use crate::case::{Call, Case};
 use crate::scene::Scene;
 use model::{Handle, SeekFrom, NAME_LEN};
-use volumes::{draw_name, Entry, Kind, Rng};
+use volumes::{draw_name, Entry, Kind, Rng, BLOCK_SIZE, CAPACITY};
 
 /// A call on the scene's image, which it takes.
 pub fn draw_case(scene: &mut Scene, rng: &mut Rng) -> Case {
     let call = draw_call(scene, rng);
+    draw_inputs(scene, call, rng)
+}
+
+/// The check, with what it needs: it looks at more than any other call.
+pub fn draw_check(scene: &mut Scene, rng: &mut Rng) -> Case {
+    let case = draw_inputs(scene, Call::Check, rng);
+    Case { k: scene.k, work: vec![0xff; case.image.len() / 4096 + 1], ..case }
+}
+
+fn draw_inputs(scene: &mut Scene, call: Call, rng: &mut Rng) -> Case {
     let (cwd, path) = draw_path(scene, call, rng);
     let handle = draw_handle(scene, rng);
     let buf = draw_buffer(call, &handle, rng);
@@ -54,7 +64,7 @@ fn draw_k(scene: &Scene, rng: &mut Rng) -> u32 {
     if !rng.one_in(30) {
         return scene.k;
     }
-    let blocks = (scene.image.len() / volumes::BLOCK_SIZE) as u32;
+    let blocks = (scene.image.len() / BLOCK_SIZE) as u32;
     let any = rng.next_u64() as u32;
     let odd =
         [0, scene.k + 1, scene.k.wrapping_sub(1), blocks, blocks.wrapping_sub(2), blocks.wrapping_sub(3), u32::MAX - 1, u32::MAX, any];
@@ -64,7 +74,8 @@ fn draw_k(scene: &Scene, rng: &mut Rng) -> u32 {
 fn draw_from(rng: &mut Rng) -> u32 {
     match rng.below(8) {
         0..=3 => 0,
-        4..=6 => rng.below(30) as u32,
+        4..=5 => rng.below(30) as u32,
+        6 => rng.below(150) as u32,
         _ => *rng.pick(&[1000, i32::MAX as u32, 0x8000_0000, u32::MAX - 1, u32::MAX]),
     }
 }
@@ -142,7 +153,7 @@ fn draw_full_path(scene: &Scene, call: Call, rng: &mut Rng) -> Vec<u8> {
     }
 }
 
-/// An entry of a kind that the call wants, if there is one.
+/// An entry of a kind that the call wants, if there is one; of a damaged volume rather one that no longer is what it was.
 fn draw_entry<'a>(scene: &'a Scene, call: Call, rng: &mut Rng) -> Option<&'a Entry> {
     let wanted = |entry: &&Entry| match call {
         Call::List => entry.kind == Kind::Dir,
@@ -150,7 +161,20 @@ fn draw_entry<'a>(scene: &'a Scene, call: Call, rng: &mut Rng) -> Option<&'a Ent
         _ => true,
     };
     let fitting: Vec<&Entry> = scene.entries.iter().filter(wanted).collect();
-    (!fitting.is_empty()).then(|| *rng.pick(&fitting))
+    if fitting.is_empty() {
+        return None;
+    }
+    let tries = if scene.well_formed || rng.one_in(2) { 1 } else { 8 };
+    let drawn: Vec<&Entry> = (0..tries).map(|_| *rng.pick(&fitting)).collect();
+    drawn.iter().copied().find(|entry| is_changed(scene, entry)).or(drawn.first().copied())
+}
+
+/// Whether what stands at an entry's path has another kind or size, or is not found.
+fn is_changed(scene: &Scene, entry: &Entry) -> bool {
+    match model::info(&scene.image, scene.k, b"/", &entry.path) {
+        Ok(info) => info.kind as u8 != entry.kind as u8 || info.size != entry.size,
+        Err(_) => true,
+    }
 }
 
 /// The path of a directory, empty for the root; often the deepest.
@@ -174,11 +198,11 @@ fn draw_any(scene: &Scene, rng: &mut Rng) -> Vec<u8> {
 
 /// A short path of few letters.
 fn draw_letters(rng: &mut Rng) -> Vec<u8> {
-    let pieces = rng.below(5);
+    let pieces = *rng.pick(&[0, 1, 1, 1, 2, 2, 3, 4]);
     let mut path = Vec::new();
     for _ in 0..pieces {
         path.push(b'/');
-        path.extend(*rng.pick(&[&b"a"[..], b"b", b".", b"..", b"ab", b"a.", b"", b"c"]));
+        path.extend(*rng.pick(&[&b"a"[..], b"a", b"b", b"b", b".", b"ab", b"a.", b"..", b""]));
     }
     path
 }
@@ -237,16 +261,24 @@ fn draw_odd_cwd(rng: &mut Rng) -> Vec<u8> {
 fn draw_handle(scene: &Scene, rng: &mut Rng) -> Handle {
     let mut handle = match rng.below(8) {
         0..=2 if !scene.handles.is_empty() => rng.pick(&scene.handles).clone(),
+        6 if !scene.entries.is_empty() => handle_at(rng.pick(&scene.entries)),
         7 => draw_any_handle(rng),
         _ => draw_opened(scene, rng),
     };
     if rng.one_in(2) {
-        handle.position = draw_position(handle.size, rng);
+        handle.position = draw_position(scene, handle.size, rng);
     }
     if rng.one_in(4) {
         make_odd(&mut handle, scene, rng);
     }
     handle
+}
+
+/// The handle that an entry would have if it were a file.
+fn handle_at(entry: &Entry) -> Handle {
+    let mut name = [0; NAME_LEN];
+    name[..entry.name().len()].copy_from_slice(entry.name());
+    Handle { dir: entry.dir, addr: entry.chain[0], size: entry.size, position: 0, name, len: entry.name().len() }
 }
 
 /// What opening a file of the scene gives, though the volume may be damaged.
@@ -258,10 +290,13 @@ fn draw_opened(scene: &Scene, rng: &mut Rng) -> Handle {
     model::open(&scene.image, scene.k, b"/", &path).unwrap_or_else(|_| draw_any_handle(rng))
 }
 
-fn draw_position(size: u32, rng: &mut Rng) -> u32 {
-    match rng.below(4) {
+/// Places at the edges of blocks, of the file, and of the longest chain that a walk goes along.
+fn draw_position(scene: &Scene, size: u32, rng: &mut Rng) -> u32 {
+    let longest = scene.geometry().map_or(0, |geometry| geometry.data_blocks()) * CAPACITY as u32;
+    match rng.below(5) {
         0 => size,
         1 => size.min(*rng.pick(&[0, 1, 507, 508, 509, 1016])),
+        2 => size.min((longest + rng.below(3) as u32).saturating_sub(1)),
         _ => rng.below(u64::from(size) + 1) as u32,
     }
 }

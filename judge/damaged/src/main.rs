@@ -80,7 +80,7 @@ fn play(options: &Options, round: u64, library: &mut Library, tally: &mut Tally)
     let mut rng = Rng::new(Rng::new(options.seed).next_u64() ^ Rng::new(round).next_u64());
     let mut scene = scene::draw(&mut rng);
     for number in 0..scene.calls() {
-        let case = draw::draw_case(&mut scene, &mut rng);
+        let case = if number == 0 { draw::draw_check(&mut scene, &mut rng) } else { draw::draw_case(&mut scene, &mut rng) };
         let guarded = if rng.one_in(2) { Guarded::Start } else { Guarded::End };
         if options.round.is_some() {
             println!("call {number} on {}, {guarded:?} guarded\n{case}", scene.made);

@@ -3,7 +3,7 @@ use crate::by_model::Outcome;
 use crate::case::{Case, Values};
 use crate::damage::damage;
 use model::Handle;
-use volumes::{entries, random, Entry, Geometry, Rng, Size, Volume, Wish, BLOCK_SIZE, CAPACITY, HEADER};
+use volumes::{entries, random, Entry, Geometry, Rng, Size, Style, Tree, Volume, Wish, BLOCK_SIZE, HEADER, ROOT};
 
 /// An image, and what is known of it for aiming calls.
 pub struct Scene {
@@ -29,6 +29,9 @@ pub fn draw(rng: &mut Rng) -> Scene {
 }
 
 fn draw_volume(rng: &mut Rng) -> Volume {
+    if rng.one_in(200) {
+        return crowded(rng);
+    }
     let size = match rng.below(40) {
         0 => Size::Large,
         1..=10 => Size::Usual,
@@ -48,6 +51,17 @@ fn draw_volume(rng: &mut Rng) -> Volume {
     random(Wish { k, size, entries, depth, free }, rng)
 }
 
+/// A root directory of some thousand names, so many that a filter of hashed names can't tell them all apart.
+fn crowded(rng: &mut Rng) -> Volume {
+    let mut tree = Tree::new();
+    let entries = rng.between(1000, 8000);
+    for number in 0..entries {
+        tree.file(ROOT, format!("meter {number:x}").as_bytes(), number, 0);
+    }
+    let geometry = Geometry::new(8, 10_000).expect("a volume");
+    tree.lay(geometry, Style::PLAIN, rng).expect("room for all entries")
+}
+
 fn whole(rng: &mut Rng) -> Scene {
     let volume = draw_volume(rng);
     let made = format!("a well-formed volume, {:?}", volume.geometry);
@@ -57,7 +71,7 @@ fn whole(rng: &mut Rng) -> Scene {
 /// A volume with one to three edits.
 fn damaged(rng: &mut Rng) -> Scene {
     let mut volume = draw_volume(rng);
-    let edits = rng.between(1, 3);
+    let edits = *rng.pick(&[1, 1, 1, 1, 2, 2, 3]);
     let done = damage(&mut volume, edits, rng);
     let made = format!("a volume, {:?}, edited: {}", volume.geometry, done.join("; "));
     Scene::new(volume, made, false)
@@ -118,12 +132,12 @@ impl Scene {
     }
 }
 
-/// A small image of random bytes; half the time with a superblock that fits.
+/// A small image of random bytes, sometimes one that can't be formatted; half the time with a superblock that fits.
 fn noise(rng: &mut Rng) -> Scene {
     let k = rng.below(10) as u32;
-    let mut image = vec![0; rng.between(1, 40) as usize * BLOCK_SIZE];
+    let n = if rng.one_in(4) { k + 3 } else { rng.between(1, 40) as u32 };
+    let mut image = vec![0; n as usize * BLOCK_SIZE];
     rng.fill(&mut image);
-    let n = (image.len() / BLOCK_SIZE) as u32;
     if let (Some(geometry), true) = (Geometry::new(k, n), rng.one_in(2)) {
         put_superblock(&mut image, geometry, rng);
     }
@@ -169,19 +183,30 @@ const WILD_NAMES: [&[u8]; 7] = [b"a", b"b", b".", b"ab", b"a.", b"\x7f", b"a/b"]
 fn fill_wild_block(data: &mut [u8], geometry: Geometry, rng: &mut Rng) {
     let mut at = 0;
     for _ in 0..rng.below(9) {
-        let long = [b'a'; 255];
-        let name = if rng.one_in(20) { &long[..*rng.pick(&[200, 236, 255])] } else { *rng.pick(&WILD_NAMES) };
-        let end = at + HEADER + name.len();
-        if end > CAPACITY {
-            break;
-        }
-        data[at] = *rng.pick(&[0, 0, 0, 1, 1, 1, 2, 3]);
-        data[at + 1..at + 5].copy_from_slice(&draw_wild_address(geometry, rng).to_be_bytes());
-        let size = *rng.pick(&[0, 1, 300, 508, 509, 1016, 4000, i32::MAX as u32, 0x8000_0000, u32::MAX]);
-        data[at + 5..at + 9].copy_from_slice(&size.to_be_bytes());
-        data[at + 9..at + 17].copy_from_slice(&rng.next_u64().to_be_bytes());
-        data[at + 17] = name.len() as u8;
-        data[at + HEADER..end].copy_from_slice(name);
-        at = end;
+        let name = *rng.pick(&WILD_NAMES);
+        at = put_wild_entry(data, at, name, geometry, rng);
     }
+    if rng.one_in(3) {
+        fill_to_the_end(data, at, geometry, rng);
+    }
+}
+
+/// Two more entries, the last of which ends before, at or after the last place where an entry may end.
+fn fill_to_the_end(data: &mut [u8], at: usize, geometry: Geometry, rng: &mut Rng) {
+    let end = *rng.pick(&[506, 507, 508]);
+    let names = end - at - 2 * HEADER;
+    let at = put_wild_entry(data, at, &vec![b'a'; names / 2], geometry, rng);
+    put_wild_entry(data, at, &vec![b'b'; names - names / 2], geometry, rng);
+}
+
+fn put_wild_entry(data: &mut [u8], at: usize, name: &[u8], geometry: Geometry, rng: &mut Rng) -> usize {
+    let end = at + HEADER + name.len();
+    data[at] = *rng.pick(&[0, 0, 0, 1, 1, 1, 2, 3]);
+    data[at + 1..at + 5].copy_from_slice(&draw_wild_address(geometry, rng).to_be_bytes());
+    let size = *rng.pick(&[0, 1, 300, 508, 509, 4000, i32::MAX as u32, 0x8000_0000, u32::MAX]);
+    data[at + 5..at + 9].copy_from_slice(&size.to_be_bytes());
+    data[at + 9..at + 17].copy_from_slice(&rng.next_u64().to_be_bytes());
+    data[at + 17] = name.len() as u8;
+    data[at + HEADER..end].copy_from_slice(name);
+    end
 }
