@@ -1,6 +1,6 @@
 //! Calls at random, aimed at what the volume holds.
 use crate::call::{Call, FileState, Place, Seek, SLOTS};
-use crate::session::Session;
+use crate::sides::Sides;
 use std::collections::VecDeque;
 use volumes::{draw_name, fill_of, names_by_block, Entry, Kind, Rng, CAPACITY, HEADER};
 
@@ -13,7 +13,7 @@ const ODD_PATHS: [&[u8]; 20] = [
 ];
 const ODD_DIRS: [&[u8]; 8] = [b"/", b"//", b"/a", b"/a/", b"", b"x", b"/none", b"/\x01"];
 
-/// Draws calls for a session.
+/// Draws calls for the volume that both sides are on.
 pub struct Drawer {
     rng: Rng,
     /// The longest read, write or listing.
@@ -28,24 +28,24 @@ impl Drawer {
     }
 
     /// The next call.
-    pub fn draw(&mut self, session: &Session) -> Call {
+    pub fn draw(&mut self, sides: &Sides) -> Call {
         if let Some(call) = self.queue.pop_front() {
             return call;
         }
         match self.rng.below(1000) {
             0 => Call::Format,
-            1..=9 => self.draw_regrown(session),
-            10..=14 => self.draw_paged(session),
+            1..=9 => self.draw_regrown(sides),
+            10..=14 => self.draw_paged(sides),
             15..=19 => Call::Usage,
-            20..=129 => self.draw_open(session),
-            130..=209 => Call::Info { place: self.draw_place(session) },
-            210..=309 => self.draw_list(session),
-            310..=459 => self.draw_read(session),
-            460..=579 => self.draw_seek(session),
-            580..=679 => self.draw_create_file(session),
-            680..=739 => Call::CreateDir { place: self.draw_new_place(session), time: self.draw_time() },
-            740..=839 => Call::Delete { place: self.draw_doomed(session), time: self.draw_time() },
-            _ => self.draw_write(session),
+            20..=129 => self.draw_open(sides),
+            130..=209 => Call::Info { place: self.draw_place(sides) },
+            210..=309 => self.draw_list(sides),
+            310..=459 => self.draw_read(sides),
+            460..=579 => self.draw_seek(sides),
+            580..=679 => self.draw_create_file(sides),
+            680..=739 => Call::CreateDir { place: self.draw_new_place(sides), time: self.draw_time() },
+            740..=839 => Call::Delete { place: self.draw_doomed(sides), time: self.draw_time() },
+            _ => self.draw_write(sides),
         }
     }
 
@@ -73,34 +73,34 @@ impl Drawer {
         len.min(self.longest)
     }
 
-    fn draw_open(&mut self, session: &Session) -> Call {
+    fn draw_open(&mut self, sides: &Sides) -> Call {
         let slot = self.slot();
-        let other = session.ours.file(self.slot()).map(|file| file.addr);
-        let same_file = session.entries().iter().find(|entry| Some(entry.chain[0]) == other);
-        let files: Vec<&Entry> = session.entries().iter().filter(|entry| entry.kind == Kind::File).collect();
+        let other = sides.ours.file(self.slot()).map(|file| file.addr);
+        let same_file = sides.entries().iter().find(|entry| Some(entry.chain[0]) == other);
+        let files: Vec<&Entry> = sides.entries().iter().filter(|entry| entry.kind == Kind::File).collect();
         let place = match (self.rng.below(10), same_file) {
             // Often the file that another handle is open on.
-            (0..=2, Some(entry)) => self.spell(&entry.path, session),
+            (0..=2, Some(entry)) => self.spell(&entry.path, sides),
             (0..=7, _) if !files.is_empty() => {
                 let path = &self.rng.pick(&files).path;
-                self.spell(path, session)
+                self.spell(path, sides)
             }
-            _ if files.is_empty() => return self.draw_create_file(session),
-            _ => self.draw_place(session),
+            _ if files.is_empty() => return self.draw_create_file(sides),
+            _ => self.draw_place(sides),
         };
         Call::Open { slot, place }
     }
 
-    fn draw_create_file(&mut self, session: &Session) -> Call {
-        Call::CreateFile { slot: self.slot(), place: self.draw_new_place(session), time: self.draw_time() }
+    fn draw_create_file(&mut self, sides: &Sides) -> Call {
+        Call::CreateFile { slot: self.slot(), place: self.draw_new_place(sides), time: self.draw_time() }
     }
 
     /// One handle reads a file while another cuts it and lets it grow to its old size, often with blocks from elsewhere.
-    fn draw_regrown(&mut self, session: &Session) -> Call {
+    fn draw_regrown(&mut self, sides: &Sides) -> Call {
         let long = |entry: &&Entry| entry.kind == Kind::File && (CAPACITY..self.longest).contains(&(entry.size as usize));
-        let files: Vec<&Entry> = session.entries().iter().filter(long).collect();
+        let files: Vec<&Entry> = sides.entries().iter().filter(long).collect();
         if files.is_empty() {
-            return self.draw_create_file(session);
+            return self.draw_create_file(sides);
         }
         let file = *self.rng.pick(&files);
         let (path, size) = (file.path.clone(), file.size as usize);
@@ -109,13 +109,13 @@ impl Drawer {
         let cut = self.rng.below(size as u64) as usize;
         let first = self.rng.between(1, (size - cut) as u64) as usize;
         let len = self.rng.between(CAPACITY as u64, size as u64) as usize;
-        let place = self.spell(&path, session);
+        let place = self.spell(&path, sides);
         self.queue.push_back(Call::Read { slot: reader, len });
         self.queue.push_back(Call::Open { slot: writer, place });
         self.queue.push_back(Call::Seek { slot: writer, to: Seek::Start(cut as u32) });
         self.push_write(writer, first);
         if self.rng.one_in(2) {
-            let place = self.draw_vacant(session);
+            let place = self.draw_vacant(sides);
             let time = self.draw_time();
             self.queue.push_back(Call::CreateDir { place, time });
         }
@@ -126,7 +126,7 @@ impl Drawer {
             let len = self.draw_len(size);
             self.queue.push_back(Call::Read { slot: reader, len });
         }
-        Call::Open { slot: reader, place: self.spell(&path, session) }
+        Call::Open { slot: reader, place: self.spell(&path, sides) }
     }
 
     fn push_write(&mut self, slot: usize, len: usize) {
@@ -137,38 +137,38 @@ impl Drawer {
     }
 
     /// A listing goes on after entries before its place were deleted.
-    fn draw_paged(&mut self, session: &Session) -> Call {
-        let (path, addr) = self.draw_dir(session);
+    fn draw_paged(&mut self, sides: &Sides) -> Call {
+        let (path, addr) = self.draw_dir(sides);
         let page = self.slot();
-        let mut inside: Vec<&Entry> = session.entries().iter().filter(|e| e.dir == addr && e.kind != Kind::Dir).collect();
+        let mut inside: Vec<&Entry> = sides.entries().iter().filter(|e| e.dir == addr && e.kind != Kind::Dir).collect();
         self.rng.shuffle(&mut inside);
         for entry in inside.iter().take(3) {
-            let place = self.spell(&entry.path, session);
+            let place = self.spell(&entry.path, sides);
             let time = self.draw_time();
             self.queue.push_back(Call::Delete { place, time });
             self.queue.push_back(Call::ListOn { page, len: self.longest });
         }
-        Call::List { page, place: self.spell(&path, session), from: 0, len: self.draw_list_len(session, addr).max(300) }
+        Call::List { page, place: self.spell(&path, sides), from: 0, len: self.draw_list_len(sides, addr).max(300) }
     }
 
-    fn draw_list(&mut self, session: &Session) -> Call {
+    fn draw_list(&mut self, sides: &Sides) -> Call {
         let page = self.slot();
-        if self.rng.one_in(2) && session.ours.page(page).is_some() {
-            return Call::ListOn { page, len: self.draw_list_len(session, session.geometry().data()) };
+        if self.rng.one_in(2) && sides.ours.page(page).is_some() {
+            return Call::ListOn { page, len: self.draw_list_len(sides, sides.geometry().data()) };
         }
         if self.rng.one_in(6) {
-            return Call::List { page, place: self.draw_place(session), from: 0, len: self.longest };
+            return Call::List { page, place: self.draw_place(sides), from: 0, len: self.longest };
         }
-        let (path, addr) = self.draw_dir(session);
-        let count = names_by_block(&session.ours.image, session.geometry(), addr).concat().len() as u64;
+        let (path, addr) = self.draw_dir(sides);
+        let count = names_by_block(&sides.ours.image, sides.geometry(), addr).concat().len() as u64;
         let from = if self.rng.one_in(2) { 0 } else { self.rng.below(count + 1) as u32 };
-        let len = self.draw_list_len(session, addr);
-        Call::List { page, place: self.spell(&path, session), from, len }
+        let len = self.draw_list_len(sides, addr);
+        Call::List { page, place: self.spell(&path, sides), from, len }
     }
 
     /// Often just the records of some entries, one byte more or less.
-    fn draw_list_len(&mut self, session: &Session, dir: u32) -> usize {
-        let names = names_by_block(&session.ours.image, session.geometry(), dir).concat();
+    fn draw_list_len(&mut self, sides: &Sides, dir: u32) -> usize {
+        let names = names_by_block(&sides.ours.image, sides.geometry(), dir).concat();
         let count = self.rng.below(names.len() as u64 + 1) as usize;
         let first = self.rng.below(count as u64 + 1) as usize;
         let exact = names[first..count].iter().map(|name| 14 + name.len()).sum();
@@ -176,23 +176,23 @@ impl Drawer {
     }
 
     /// An open slot and its file.
-    fn draw_opened(&mut self, session: &Session) -> Option<(usize, FileState)> {
-        let open: Vec<usize> = (0..SLOTS).filter(|&slot| session.ours.file(slot).is_some()).collect();
+    fn draw_opened(&mut self, sides: &Sides) -> Option<(usize, FileState)> {
+        let open: Vec<usize> = (0..SLOTS).filter(|&slot| sides.ours.file(slot).is_some()).collect();
         if open.is_empty() {
             return None;
         }
         let slot = *self.rng.pick(&open);
-        session.ours.file(slot).map(|file| (slot, file))
+        sides.ours.file(slot).map(|file| (slot, file))
     }
 
-    fn draw_read(&mut self, session: &Session) -> Call {
-        let Some((slot, file)) = self.draw_opened(session) else { return self.draw_open(session) };
+    fn draw_read(&mut self, sides: &Sides) -> Call {
+        let Some((slot, file)) = self.draw_opened(sides) else { return self.draw_open(sides) };
         let exact = (file.size - file.position) as usize;
         Call::Read { slot, len: self.draw_len(exact) }
     }
 
-    fn draw_seek(&mut self, session: &Session) -> Call {
-        let Some((slot, file)) = self.draw_opened(session) else { return self.draw_open(session) };
+    fn draw_seek(&mut self, sides: &Sides) -> Call {
+        let Some((slot, file)) = self.draw_opened(sides) else { return self.draw_open(sides) };
         let (size, position) = (i64::from(file.size), i64::from(file.position));
         let target = match self.rng.below(8) {
             0 => 0,
@@ -212,10 +212,10 @@ impl Drawer {
         Call::Seek { slot, to }
     }
 
-    fn draw_write(&mut self, session: &Session) -> Call {
-        let Some((slot, file)) = self.draw_opened(session) else { return self.draw_open(session) };
+    fn draw_write(&mut self, sides: &Sides) -> Call {
+        let Some((slot, file)) = self.draw_opened(sides) else { return self.draw_open(sides) };
         let len = match self.rng.below(8) {
-            0 | 1 => self.len_to_fill(session, file),
+            0 | 1 => self.len_to_fill(sides, file),
             // To the end of the block, or of the file.
             2 => self.draw_len(CAPACITY - file.position as usize % CAPACITY),
             3 => self.draw_len((file.size - file.position) as usize),
@@ -225,8 +225,8 @@ impl Drawer {
     }
 
     /// A length that takes all free blocks in reach, one byte more, or less, where these are few.
-    fn len_to_fill(&mut self, session: &Session, file: FileState) -> usize {
-        let free = session.geometry().free_in_reach(&session.ours.image).count();
+    fn len_to_fill(&mut self, sides: &Sides, file: FileState) -> usize {
+        let free = sides.geometry().free_in_reach(&sides.ours.image).count();
         let has = (file.size as usize).div_ceil(CAPACITY).max(1);
         let all = (has + free) * CAPACITY - file.position as usize;
         let cut = *self.rng.pick(&[0, 1, CAPACITY, CAPACITY - 1, CAPACITY + 1]);
@@ -239,9 +239,9 @@ impl Drawer {
     }
 
     /// A directory's path and first address.
-    fn draw_dir(&mut self, session: &Session) -> (Vec<u8>, u32) {
-        let root = (b"/".to_vec(), session.geometry().data());
-        let dirs: Vec<&Entry> = session.entries().iter().filter(|entry| entry.kind == Kind::Dir).collect();
+    fn draw_dir(&mut self, sides: &Sides) -> (Vec<u8>, u32) {
+        let root = (b"/".to_vec(), sides.geometry().data());
+        let dirs: Vec<&Entry> = sides.entries().iter().filter(|entry| entry.kind == Kind::Dir).collect();
         if dirs.is_empty() || self.rng.one_in(3) {
             return root;
         }
@@ -251,60 +251,60 @@ impl Drawer {
     }
 
     /// Where something is, mostly.
-    fn draw_place(&mut self, session: &Session) -> Place {
+    fn draw_place(&mut self, sides: &Sides) -> Place {
         match self.rng.below(16) {
-            0..=11 if !session.entries().is_empty() => {
-                let path = &self.rng.pick(session.entries()).path;
-                self.spell(path, session)
+            0..=11 if !sides.entries().is_empty() => {
+                let path = &self.rng.pick(sides.entries()).path;
+                self.spell(path, sides)
             }
             12 => Place { cwd: self.rng.pick(&ODD_DIRS).to_vec(), path: self.rng.pick(&ODD_PATHS).to_vec() },
-            13 => self.draw_astray(session),
-            _ => self.draw_vacant(session),
+            13 => self.draw_astray(sides),
+            _ => self.draw_vacant(sides),
         }
     }
 
     /// What shall be deleted: often an entry of a directory whose listing was begun.
-    fn draw_doomed(&mut self, session: &Session) -> Place {
-        if let Some((place, _)) = session.ours.page(self.slot()) {
-            let dir = session.dir_at(place);
-            let inside: Vec<&Entry> = session.entries().iter().filter(|entry| Some(entry.dir) == dir).collect();
+    fn draw_doomed(&mut self, sides: &Sides) -> Place {
+        if let Some((place, _)) = sides.ours.page(self.slot()) {
+            let dir = sides.dir_at(place);
+            let inside: Vec<&Entry> = sides.entries().iter().filter(|entry| Some(entry.dir) == dir).collect();
             if !inside.is_empty() && self.rng.one_in(3) {
                 let path = &self.rng.pick(&inside).path;
-                return self.spell(path, session);
+                return self.spell(path, sides);
             }
         }
-        self.draw_place(session)
+        self.draw_place(sides)
     }
 
     /// Where something new shall be, mostly.
-    fn draw_new_place(&mut self, session: &Session) -> Place {
+    fn draw_new_place(&mut self, sides: &Sides) -> Place {
         match self.rng.below(12) {
-            0 => self.draw_place(session),
+            0 => self.draw_place(sides),
             1 => Place { cwd: self.rng.pick(&ODD_DIRS).to_vec(), path: self.rng.pick(&ODD_PATHS).to_vec() },
-            _ => self.draw_vacant(session),
+            _ => self.draw_vacant(sides),
         }
     }
 
     /// A new name in a directory.
-    fn draw_vacant(&mut self, session: &Session) -> Place {
-        let (mut path, addr) = self.draw_dir(session);
+    fn draw_vacant(&mut self, sides: &Sides) -> Place {
+        let (mut path, addr) = self.draw_dir(sides);
         if path.len() > 1 {
             path.push(b'/');
         }
-        let name = self.draw_fitting(session, addr).unwrap_or_else(|| draw_name(&mut self.rng));
+        let name = self.draw_fitting(sides, addr).unwrap_or_else(|| draw_name(&mut self.rng));
         path.extend(name);
         if self.rng.one_in(80) {
             path.resize(path.len() + 256, b'n');
         }
-        self.spell(&path, session)
+        self.spell(&path, sides)
     }
 
     /// A name that just fits into a block of the directory, or just doesn't.
-    fn draw_fitting(&mut self, session: &Session, dir: u32) -> Option<Vec<u8>> {
+    fn draw_fitting(&mut self, sides: &Sides, dir: u32) -> Option<Vec<u8>> {
         if !self.rng.one_in(3) {
             return None;
         }
-        let used = *self.rng.pick(&fill_of(&session.ours.image, session.geometry(), dir));
+        let used = *self.rng.pick(&fill_of(&sides.ours.image, sides.geometry(), dir));
         let end = if self.rng.one_in(5) { CAPACITY } else { *self.rng.pick(&[505, 506, 507, 509, 510]) };
         let len = end.checked_sub(used + HEADER).filter(|len| (1..=255).contains(len))?;
         let letter = self.rng.between(u64::from(b'a'), u64::from(b'z')) as u8;
@@ -312,18 +312,18 @@ impl Drawer {
     }
 
     /// A path that goes through a file, a device or nothing.
-    fn draw_astray(&mut self, session: &Session) -> Place {
-        let mut path = match session.entries() {
+    fn draw_astray(&mut self, sides: &Sides) -> Place {
+        let mut path = match sides.entries() {
             [] => b"/none".to_vec(),
             entries => self.rng.pick(entries).path.clone(),
         };
         path.push(b'/');
         path.extend(draw_name(&mut self.rng));
-        self.spell(&path, session)
+        self.spell(&path, sides)
     }
 
     /// The path in one of its spellings: from the root or from a directory above, with slashes too many.
-    fn spell(&mut self, path: &[u8], session: &Session) -> Place {
+    fn spell(&mut self, path: &[u8], sides: &Sides) -> Place {
         let mut path = path.to_vec();
         match self.rng.below(24) {
             0 => path.push(b'/'),
@@ -343,7 +343,7 @@ impl Drawer {
             let cwd_end = if cut == 0 || self.rng.one_in(4) { cut + 1 } else { cut };
             return Place { cwd: path[..cwd_end].to_vec(), path: path[cut + 1..].to_vec() };
         }
-        let cwd = if self.rng.one_in(2) { self.rng.pick(&ODD_DIRS).to_vec() } else { self.draw_dir(session).0 };
+        let cwd = if self.rng.one_in(2) { self.rng.pick(&ODD_DIRS).to_vec() } else { self.draw_dir(sides).0 };
         Place { cwd, path }
     }
 }

@@ -2,7 +2,7 @@
 //! fits, the name that just fits.
 use crate::call::{Call, Place, Seek};
 use crate::original::{original, Original};
-use crate::session::{Session, Verdict};
+use crate::sides::{Sides, Verdict};
 use crate::tally::Tally;
 use crate::trial::{Found, Start};
 use volumes::{Geometry, Rng, Style, Tree, CAPACITY, HEADER, ROOT};
@@ -35,9 +35,9 @@ struct Judge<'a> {
 
 impl Judge<'_> {
     fn compare(&mut self, start: &Start, calls: Vec<Call>) -> Result<(), Box<Found>> {
-        let mut session = Session::new(self.original, start.image.clone(), start.k);
+        let mut sides = Sides::new(self.original, start.image.clone(), start.k);
         for (number, call) in calls.iter().enumerate() {
-            let verdict = session.step(call);
+            let verdict = sides.step(call);
             self.tally.count(call, &verdict);
             if let Verdict::Differs(difference) = verdict {
                 return Err(Box::new(start.shorten(calls[..=number].to_vec(), difference, self.original)));

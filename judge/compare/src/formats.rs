@@ -1,7 +1,7 @@
 //! Format, for many block counts.
 use crate::call::{Call, Place};
 use crate::original::{original, KS};
-use crate::session::{Session, Verdict};
+use crate::sides::{Sides, Verdict};
 use crate::tally::Tally;
 use crate::trial::{Found, Start};
 use volumes::{Geometry, Rng, BLOCK_SIZE};
@@ -16,10 +16,10 @@ pub fn compare_formats(seed: u64, tally: &mut Tally) -> Result<(), Box<Found>> {
             rng.fill(&mut image);
             let what = format!("{blocks} blocks of random bytes, K = {k}");
             let start = Start { k, image, what, raw: true };
-            let mut session = Session::new(original.as_mut(), start.image.clone(), k);
+            let mut sides = Sides::new(original.as_mut(), start.image.clone(), k);
             let calls = calls();
             for (number, call) in calls.iter().enumerate() {
-                let verdict = session.step(call);
+                let verdict = sides.step(call);
                 tally.count(call, &verdict);
                 if let Verdict::Differs(difference) = verdict {
                     return Err(Box::new(start.shorten(calls[..=number].to_vec(), difference, original.as_mut())));

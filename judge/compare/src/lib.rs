@@ -1,6 +1,6 @@
 //! The proved library and the original Rust, compared call by call: answers, handles, buffers and whole images.
 //!
-//! [`session::Session`] holds both sides on one image and makes one call after the other; [`domain`] says which calls are left out.
+//! [`sides::Sides`] holds both sides on one image and makes one call after the other; [`domain`] says which calls are left out.
 //! [`formats`], [`paths`], [`edges`] and [`sequences`] are what is compared; [`record`] writes the fixed list of calls and answers.
 pub mod call;
 pub mod domain;
@@ -12,7 +12,7 @@ pub mod ours;
 pub mod paths;
 pub mod record;
 pub mod sequences;
-pub mod session;
+pub mod sides;
 pub mod tally;
 pub mod trial;
 pub mod watch;

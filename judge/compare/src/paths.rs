@@ -1,7 +1,7 @@
 //! All short paths over a few letters, from several working directories.
 use crate::call::{Call, Place};
 use crate::original::original;
-use crate::session::{Session, Verdict};
+use crate::sides::{Sides, Verdict};
 use crate::tally::Tally;
 use crate::trial::{Found, Start};
 use volumes::{Geometry, Rng, Style, Tree, Volume, ROOT};
@@ -20,12 +20,12 @@ pub fn compare_paths(tally: &mut Tally) -> Result<(), Box<Found>> {
 fn compare_each(volume: Volume, paths: &[Vec<u8>], calls: &dyn Fn(Place) -> Vec<Call>, tally: &mut Tally) -> Result<(), Box<Found>> {
     let mut original = original(K);
     let start = Start { k: K, image: volume.image, what: "the volume of short names".to_string(), raw: false };
-    let mut session = Session::new(original.as_mut(), start.image.clone(), K);
+    let mut sides = Sides::new(original.as_mut(), start.image.clone(), K);
     let mut changed = Vec::new();
     for cwd in DIRS {
         for path in paths {
             for call in calls(Place { cwd: cwd.into(), path: path.clone() }) {
-                let verdict = session.step(&call);
+                let verdict = sides.step(&call);
                 tally.count(&call, &verdict);
                 if let Verdict::Differs(difference) = verdict {
                     changed.push(call);

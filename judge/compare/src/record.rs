@@ -4,7 +4,7 @@ use crate::call::{Answer, Call, Place, Seek};
 use crate::domain::outside;
 use crate::draw::Drawer;
 use crate::original::original;
-use crate::session::{Session, Verdict};
+use crate::sides::{Sides, Verdict};
 use std::fmt::Write as _;
 use std::io::{self, Write};
 use volumes::{Geometry, Order, Rng, Style, Tree, BLOCK_SIZE, ROOT};
@@ -51,9 +51,9 @@ impl<W: Write> List<'_, W> {
     }
 
     /// A call with the original's answer; nothing where the call is outside the domain.
-    fn call(&mut self, session: &mut Session, call: &Call) -> io::Result<()> {
-        let request = request(session, call);
-        let answer = match session.step(call) {
+    fn call(&mut self, sides: &mut Sides, call: &Call) -> io::Result<()> {
+        let request = request(sides, call);
+        let answer = match sides.step(call) {
             Verdict::Same(_, Some(number)) if outside(number) => return Ok(()),
             Verdict::Same(answer, _) => answer,
             Verdict::Differs(difference) => return Err(io::Error::other(format!("the sides differ at: {call}\n{difference}"))),
@@ -61,31 +61,31 @@ impl<W: Write> List<'_, W> {
         };
         writeln!(self.out, "{request} {}", response(call, &answer))?;
         if self.digests && call.changes() && answer != Answer::Refused {
-            self.image_digest(session)?;
+            self.image_digest(sides)?;
         }
         Ok(())
     }
 
-    fn image_digest(&mut self, session: &Session) -> io::Result<()> {
-        writeln!(self.out, "g {}", digest(&session.original_image()))
+    fn image_digest(&mut self, sides: &Sides) -> io::Result<()> {
+        writeln!(self.out, "g {}", digest(&sides.original_image()))
     }
 
-    fn random_calls(&mut self, session: &mut Session, seed: u64, count: usize) -> io::Result<()> {
+    fn random_calls(&mut self, sides: &mut Sides, seed: u64, count: usize) -> io::Result<()> {
         let mut drawer = Drawer::new(Rng::new(seed), LONGEST);
         for _ in 0..count {
-            let call = drawer.draw(session);
-            self.call(session, &call)?;
+            let call = drawer.draw(sides);
+            self.call(sides, &call)?;
         }
-        self.call(session, &Call::Usage)
+        self.call(sides, &Call::Usage)
     }
 
     fn formatted(&mut self, blocks: usize, k: u32, seed: u64, count: usize) -> io::Result<()> {
         let mut original = original(k);
         let image = vec![0; blocks * BLOCK_SIZE];
         self.image(&image, k)?;
-        let mut session = Session::new(original.as_mut(), image, k);
-        self.call(&mut session, &Call::Format)?;
-        self.random_calls(&mut session, seed, count)
+        let mut sides = Sides::new(original.as_mut(), image, k);
+        self.call(&mut sides, &Call::Format)?;
+        self.random_calls(&mut sides, seed, count)
     }
 
     fn made(&mut self) -> io::Result<()> {
@@ -93,9 +93,9 @@ impl<W: Write> List<'_, W> {
         let mut original = original(k);
         let image = made_image(k);
         self.image(&image, k)?;
-        let mut session = Session::new(original.as_mut(), image, k);
-        self.image_digest(&session)?;
-        self.random_calls(&mut session, 13, 480)
+        let mut sides = Sides::new(original.as_mut(), image, k);
+        self.image_digest(&sides)?;
+        self.random_calls(&mut sides, 13, 480)
     }
 
     fn filled(&mut self) -> io::Result<()> {
@@ -103,22 +103,22 @@ impl<W: Write> List<'_, W> {
         let mut original = original(k);
         let image = vec![0; blocks * BLOCK_SIZE];
         self.image(&image, k)?;
-        let mut session = Session::new(original.as_mut(), image, k);
-        self.call(&mut session, &Call::Format)?;
-        self.call(&mut session, &Call::CreateDir { place: at("/old"), time: 1_700_000_000 })?;
-        self.call(&mut session, &Call::CreateFile { slot: 0, place: at("/old/log"), time: 1_700_000_001 })?;
+        let mut sides = Sides::new(original.as_mut(), image, k);
+        self.call(&mut sides, &Call::Format)?;
+        self.call(&mut sides, &Call::CreateDir { place: at("/old"), time: 1_700_000_000 })?;
+        self.call(&mut sides, &Call::CreateFile { slot: 0, place: at("/old/log"), time: 1_700_000_001 })?;
         self.digests = false;
         let mut number = 0;
-        while session.geometry().free_in_reach(&session.ours.image).count() > 9 {
+        while sides.geometry().free_in_reach(&sides.ours.image).count() > 9 {
             let call = Call::Write { slot: 0, len: LONGEST, seed: (number % 251) as u8, time: 1_700_000_002 + number };
-            self.call(&mut session, &call)?;
+            self.call(&mut sides, &call)?;
             number += 1;
             if number % 64 == 0 {
-                self.image_digest(&session)?;
+                self.image_digest(&sides)?;
             }
         }
         self.digests = true;
-        self.random_calls(&mut session, 14, 190)
+        self.random_calls(&mut sides, 14, 190)
     }
 }
 
@@ -161,7 +161,7 @@ fn at(path: &str) -> Place {
 }
 
 /// A line without its answer.
-fn request(session: &Session, call: &Call) -> String {
+fn request(sides: &Sides, call: &Call) -> String {
     let place = |place: &Place| format!("{} {}", hex(&place.cwd), hex(&place.path));
     match call {
         Call::Format => "f".to_string(),
@@ -169,7 +169,7 @@ fn request(session: &Session, call: &Call) -> String {
         Call::Open { slot, place: p } => format!("o {slot} {}", place(p)),
         Call::Info { place: p } => format!("i {}", place(p)),
         Call::List { place: p, from, len, .. } => format!("l {} {from} {len}", place(p)),
-        Call::ListOn { page, len } => match session.ours.page(*page) {
+        Call::ListOn { page, len } => match sides.ours.page(*page) {
             Some((p, from)) => format!("l {} {from} {len}", place(p)),
             None => String::new(),
         },

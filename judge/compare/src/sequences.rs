@@ -2,7 +2,7 @@
 use crate::call::Call;
 use crate::draw::Drawer;
 use crate::original::{original, Original, KS};
-use crate::session::{Difference, Session, Verdict};
+use crate::sides::{Difference, Sides, Verdict};
 use crate::tally::Tally;
 use crate::trial::{Found, Start};
 use crate::watch;
@@ -30,21 +30,21 @@ fn compare_one(seed: u64, originals: &mut [Box<dyn Original>]) -> Result<Tally, 
     let mut rng = Rng::new(seed);
     let start = draw_start(seed, &mut rng);
     let original = side(originals, start.k);
-    let mut session = Session::new(original, start.image.clone(), start.k);
+    let mut sides = Sides::new(original, start.image.clone(), start.k);
     let mut tally = Tally::default();
     let mut made = Vec::new();
     let length = rng.between(50, 400);
     let mut drawer = Drawer::new(rng, LONGEST);
     for step in 0..length {
-        let call = if start.raw && step == 0 { Call::Format } else { drawer.draw(&session) };
-        let verdict = session.step(&call);
+        let call = if start.raw && step == 0 { Call::Format } else { drawer.draw(&sides) };
+        let verdict = sides.step(&call);
         tally.count(&call, &verdict);
         made.push(call);
         if let Verdict::Differs(difference) = verdict {
             return Err(Box::new(start.shorten(made, difference, original)));
         }
     }
-    match session.ours.check() {
+    match sides.ours.check() {
         Ok(()) => Ok(tally),
         Err(refusal) => {
             let ours = format!("the check refuses the volume at the end, {}", refusal.number());

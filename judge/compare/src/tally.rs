@@ -1,7 +1,7 @@
 //! How many calls were compared, and how many left out.
 use crate::call::Call;
 use crate::domain::Reason;
-use crate::session::Verdict;
+use crate::sides::Verdict;
 use std::collections::BTreeMap;
 use std::fmt;
 

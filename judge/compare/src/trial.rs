@@ -1,7 +1,7 @@
 //! An image and the calls on it: what to report where the sides differ, and the search for the shortest sequence that still does.
 use crate::call::Call;
 use crate::original::Original;
-use crate::session::{Difference, Session, Verdict};
+use crate::sides::{Difference, Sides, Verdict};
 use std::fmt;
 
 /// The image that calls begin with.
@@ -60,14 +60,14 @@ impl Start {
         if self.raw && calls.first() != Some(&Call::Format) {
             return None;
         }
-        let mut session = Session::new(original, self.image.clone(), self.k);
+        let mut sides = Sides::new(original, self.image.clone(), self.k);
         let (last, before) = calls.split_last()?;
         for call in before {
-            if matches!(session.step(call), Verdict::Differs(_)) {
+            if matches!(sides.step(call), Verdict::Differs(_)) {
                 return None;
             }
         }
-        match session.step(last) {
+        match sides.step(last) {
             Verdict::Differs(difference) => Some(difference),
             _ => None,
         }

@@ -11,7 +11,7 @@ use std::panic::{catch_unwind, AssertUnwindSafe};
 use volumes::{entries, Entry, Geometry};
 
 /// The two sides, and what is known of the volume they are on.
-pub struct Session<'a> {
+pub struct Sides<'a> {
     pub ours: Ours,
     original: &'a mut dyn Original,
     k: u32,
@@ -52,11 +52,11 @@ impl fmt::Display for Difference {
     }
 }
 
-impl<'a> Session<'a> {
+impl<'a> Sides<'a> {
     /// Both sides with the same image, whose superblock is in block `k`.
-    pub fn new(original: &'a mut dyn Original, image: Vec<u8>, k: u32) -> Session<'a> {
+    pub fn new(original: &'a mut dyn Original, image: Vec<u8>, k: u32) -> Sides<'a> {
         original.load(&image);
-        Session { ours: Ours::new(image, k), original, k, entries: OnceCell::new(), perhaps_cut: [false; SLOTS] }
+        Sides { ours: Ours::new(image, k), original, k, entries: OnceCell::new(), perhaps_cut: [false; SLOTS] }
     }
 
     /// The volume as it is now, before a call with a handle.
