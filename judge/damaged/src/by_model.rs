@@ -32,7 +32,8 @@ pub fn change(case: &Case, image: &mut [u8], handle: &mut Handle, buf: &[u8], wo
         Call::CreateFile => model::create_file(image, *k, cwd, path, *time, work).map(Values::Handle),
         Call::CreateDir => model::create_dir(image, *k, cwd, path, *time, work).map(|()| Values::None),
         Call::Delete => model::delete(image, *k, cwd, path, *time, work).map(|()| Values::None),
-        _ => model::write(image, *k, handle, buf, *time, work).map(Values::Bytes),
+        Call::Write => model::write(image, *k, handle, buf, *time, work).map(Values::Bytes),
+        other => unreachable!("{other:?} changes no image"),
     };
     answer.map_err(Refusal::number)
 }
@@ -46,8 +47,9 @@ pub fn look(case: &Case, image: &[u8], handle: &mut Handle, buf: &mut [u8], work
         Call::Open => model::open(image, *k, cwd, path).map(Values::Handle),
         Call::Info => model::info(image, *k, cwd, path).map(info_values),
         Call::List => model::list(image, *k, cwd, path, *from, buf).map(Values::Listed),
+        Call::Read => model::read(image, *k, handle, buf).map(Values::Bytes),
         Call::Seek(to) => model::seek(handle, to).map(|()| Values::None),
-        _ => model::read(image, *k, handle, buf).map(Values::Bytes),
+        other => unreachable!("{other:?} changes the image"),
     };
     answer.map_err(Refusal::number)
 }

@@ -49,6 +49,27 @@ pub enum Values {
 /// The values, or the number of the refusal.
 pub type Answer = Result<Values, u32>;
 
+/// An answer for people; of a name's array all but the zeros at its end.
+pub fn show(answer: &Answer) -> String {
+    let text = |name: &[u8; NAME_LEN]| {
+        let end = name.iter().rposition(|&byte| byte != 0).map_or(0, |last| last + 1);
+        name[..end].escape_ascii().to_string()
+    };
+    match answer {
+        Err(number) => format!("refusal {number}"),
+        Ok(Values::None) => "success".to_string(),
+        Ok(Values::Bytes(count)) => format!("{count} bytes"),
+        Ok(Values::Usage(usage)) => format!("{usage:?}"),
+        Ok(Values::Listed(listed)) => format!("{listed:?}"),
+        Ok(Values::Handle(Handle { dir, addr, size, position, name, len })) => {
+            format!("dir {dir}, addr {addr}, size {size}, position {position}, name length {len}, \"{}\"", text(name))
+        }
+        Ok(Values::Info { kind, size, time, name, len }) => {
+            format!("kind {kind}, size {size}, time {time}, name length {len}, \"{}\"", text(name))
+        }
+    }
+}
+
 impl Call {
     /// All calls, by name, and the numbers of the refusals that 01 gives each.
     pub const TABLE: [(&'static str, &'static [u32]); 12] = [
@@ -146,8 +167,9 @@ impl fmt::Display for Case {
     }
 }
 
-/// How many runs of bytes are printed at most.
+/// How many runs of bytes are printed at most, and how many bytes of each.
 const RUNS: usize = 40;
+const RUN_BYTES: usize = 64;
 /// Zeros between two bytes that do not part a run.
 const GAP: usize = 8;
 
@@ -158,8 +180,9 @@ fn write_runs(f: &mut fmt::Formatter, bytes: &[u8]) -> fmt::Result {
     writeln!(f, "{}", if runs.is_empty() { ", all zero" } else { ", zero but for" })?;
     for run in runs.iter().take(RUNS) {
         let (first, last) = (run[0], run[run.len() - 1]);
-        let hex: Vec<String> = bytes[first..=last].iter().map(|byte| format!("{byte:02x}")).collect();
-        writeln!(f, "          block {} byte {}: {}", first / 512, first % 512, hex.join(" "))?;
+        let hex: Vec<String> = bytes[first..=last].iter().take(RUN_BYTES).map(|byte| format!("{byte:02x}")).collect();
+        let more = if last - first < RUN_BYTES { "" } else { " and so on" };
+        writeln!(f, "          block {} byte {}: {}{more}", first / 512, first % 512, hex.join(" "))?;
     }
     if runs.len() > RUNS {
         writeln!(f, "          and {} runs more", runs.len() - RUNS)?;

@@ -120,7 +120,8 @@ impl Editor<'_> {
                 self.put_number(place + 14, count)
             }
             _ => {
-                let byte = *self.rng.pick(&[18, 19, 255, 510, 511]);
+                let any = self.rng.between(18, 511) as usize;
+                let byte = *self.rng.pick(&[18, 511, any]);
                 self.put(place + byte, &[1])
             }
         }

@@ -1,4 +1,5 @@
-//! Buffers that stand right before or right after a page that nobody may touch, and what happens when one is touched.
+//! Buffers that stand right before or right after a page that nobody may touch, and what happens when one is touched. The numbers
+//! of protections, flags and signals are those of Linux.
 use std::ffi::{c_int, c_uint, c_void};
 use std::sync::atomic::{AtomicU64, Ordering};
 

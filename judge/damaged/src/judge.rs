@@ -1,7 +1,7 @@
 //! A case on both sides: the same answer and the same bytes, and what must hold whatever the answer is.
 use crate::by_library::{number_bytes, Library};
 use crate::by_model::{self, Outcome};
-use crate::case::{Answer, Case};
+use crate::case::{show, Answer, Case};
 use crate::guard::Guarded;
 
 /// The outcome that both sides agree on, or what is wrong.
@@ -21,7 +21,7 @@ pub fn judge(case: &Case, guarded: Guarded, library: &mut Library) -> Result<Out
 
 fn compare(expected: &Outcome, answer: &Answer, case: &Case, library: &Library) -> Result<(), String> {
     if *answer != expected.answer {
-        return Err(format!("the library answers {answer:?}\nthe model answers   {:?}", expected.answer));
+        return Err(format!("the library answers {}\nthe model answers   {}", show(answer), show(&expected.answer)));
     }
     same("image", library.image.bytes(), expected.image.as_ref().unwrap_or(&case.image))?;
     same("buffer", library.buf.bytes(), &expected.buf)?;
@@ -45,8 +45,9 @@ fn look_from_outside(answer: &Answer, case: &Case, library: &Library) -> Result<
         if !library.outs_are_untouched(case.call) {
             return Err("a refused call changed an out parameter".to_string());
         }
-        if library.image.bytes() != case.image || library.buf.bytes() != case.buf {
-            return Err("a refused call changed the image or the buffer".to_string());
+        let handle_changed = case.call.takes_handle() && library.number.bytes() != number_bytes(&case.handle);
+        if library.image.bytes() != case.image || library.buf.bytes() != case.buf || handle_changed {
+            return Err("a refused call changed the image, the buffer or the handle".to_string());
         }
     }
     Ok(())

@@ -29,8 +29,10 @@ pub fn draw(rng: &mut Rng) -> Scene {
 }
 
 fn draw_volume(rng: &mut Rng) -> Volume {
-    if rng.one_in(200) {
-        return crowded(rng);
+    match rng.below(200) {
+        0 => return crowded(rng),
+        1..=5 => return deep(rng),
+        _ => {}
     }
     let size = match rng.below(40) {
         0 => Size::Large,
@@ -60,6 +62,19 @@ fn crowded(rng: &mut Rng) -> Volume {
     }
     let geometry = Geometry::new(8, 10_000).expect("a volume");
     tree.lay(geometry, Style::PLAIN, rng).expect("room for all entries")
+}
+
+/// A line of directories as deep as can be, with files in the last one.
+fn deep(rng: &mut Rng) -> Volume {
+    let mut tree = Tree::new();
+    let mut last = ROOT;
+    for _ in 0..16 {
+        last = tree.dir(last, b"d", 1);
+    }
+    tree.file(last, b"a", 2, 600);
+    tree.file(last, b"b", 3, 0);
+    let blocks = *rng.pick(&[40, 4107]);
+    tree.lay(Geometry::new(8, blocks).expect("a volume"), Style::PLAIN, rng).expect("room for the line")
 }
 
 fn whole(rng: &mut Rng) -> Scene {
@@ -161,7 +176,7 @@ fn wild(rng: &mut Rng) -> Scene {
     let mut image = vec![0; geometry.blocks() as usize * BLOCK_SIZE];
     put_superblock(&mut image, geometry, rng);
     for addr in geometry.data()..geometry.blocks() {
-        let next = draw_wild_address(geometry, rng);
+        let next = if rng.one_in(3) { 0 } else { draw_wild_address(geometry, rng) };
         let block = &mut image[addr as usize * BLOCK_SIZE..][..BLOCK_SIZE];
         block[..4].copy_from_slice(&next.to_be_bytes());
         fill_wild_block(&mut block[4..], geometry, rng);
@@ -171,8 +186,7 @@ fn wild(rng: &mut Rng) -> Scene {
 
 fn draw_wild_address(geometry: Geometry, rng: &mut Rng) -> u32 {
     match rng.below(8) {
-        0..=2 => 0,
-        3 => *rng.pick(&[geometry.data() - 1, geometry.blocks(), u32::MAX]),
+        0 => *rng.pick(&[0, geometry.data() - 1, geometry.blocks(), u32::MAX]),
         _ => geometry.data() + rng.below(u64::from(geometry.data_blocks())) as u32,
     }
 }
@@ -201,7 +215,7 @@ fn fill_to_the_end(data: &mut [u8], at: usize, geometry: Geometry, rng: &mut Rng
 
 fn put_wild_entry(data: &mut [u8], at: usize, name: &[u8], geometry: Geometry, rng: &mut Rng) -> usize {
     let end = at + HEADER + name.len();
-    data[at] = *rng.pick(&[0, 0, 0, 1, 1, 1, 2, 3]);
+    data[at] = *rng.pick(&[0, 0, 0, 0, 1, 1, 1, 1, 1, 2, 3]);
     data[at + 1..at + 5].copy_from_slice(&draw_wild_address(geometry, rng).to_be_bytes());
     let size = *rng.pick(&[0, 1, 300, 508, 509, 4000, i32::MAX as u32, 0x8000_0000, u32::MAX]);
     data[at + 5..at + 9].copy_from_slice(&size.to_be_bytes());

@@ -1,7 +1,7 @@
 //! Images and buffers of some GiB at the limits: address space, and hardly any memory, since no call touches more than a few blocks.
-use crate::by_library::Library;
+use crate::by_library::{number_bytes, Library};
 use crate::by_model::{change, look};
-use crate::case::{Call, Case, Values};
+use crate::case::{show, Call, Case, Values};
 use crate::guard::{fail, Area, Guarded};
 use crate::judge::same;
 use crate::tally::Tally;
@@ -93,12 +93,17 @@ impl Pair<'_> {
         };
         let answer = self.library.run_on_standing(case, Guarded::End);
         if answer != expected {
-            fail(&format!("on a vast image or buffer the library answers {answer:?}, the model {expected:?}, to:\n{case}"));
+            let (image, buf) = (self.image.len(), self.buf.len());
+            println!("on an image of {image} bytes and a buffer of {buf} bytes, and else on\n{case}");
+            fail(&format!("the library answers {}, the model {}", show(&answer), show(&expected)));
         }
         let start = |area: &Area| area.bytes()[..area.len().min(LOOKED_AT)].to_vec();
         same("image", &start(&self.library.image), &start(&self.image)).unwrap_or_else(|why| fail(&why));
         same("buffer", &start(&self.library.buf), &start(&self.buf)).unwrap_or_else(|why| fail(&why));
         same("work buffer", self.library.work.bytes(), &work).unwrap_or_else(|why| fail(&why));
+        if case.call.takes_handle() {
+            same("handle", self.library.number.bytes(), &number_bytes(&handle)).unwrap_or_else(|why| fail(&why));
+        }
         tally.add(case.call, &answer);
         case.handle = handle;
         if let Ok(Values::Handle(opened)) = answer {
