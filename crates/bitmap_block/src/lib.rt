@@ -1,5 +1,4 @@
 // The bitmap: which data blocks are taken. Blocks are taken, given back and counted here, and nowhere else.
-// May use: wire, bits, block, model, super_block.
 use bits::Found;
 use block::Index;
 use super_block::SuperBlock;

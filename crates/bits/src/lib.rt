@@ -1,10 +1,9 @@
 // Bits of a lent slice, numbered from byte `from` on: bit x is in byte x / 8, at x % 8 counted from the lowest.
 // The bitmap of a volume and the work buffer of the check are both read and written here, by shifts and masks.
-// May use: wire (for its laws).
 ghost use mathlib.Core.Path.{_≡_};
 ghost use Prim.Native.Nat.{ℕ, _+_, _/_, _<_, _≤_};
 ghost use lib.ListN.{length};
-ghost use Rattle.bits.specs.Bit.{bit, withBit, ones, BitIs, Room, AllSet};
+ghost use Rattle.bits.specs.Bit.{bit, withBit, ones, BitIs, BitsFit, AllSet};
 ghost use Rattle.bits.specs.Find.{Lowest};
 
 // The bit, 0 or 1.
@@ -57,7 +56,7 @@ fn stride(s: &[u8], from: usize, x: u32) -> u32
 
 // The lowest clear bit below the limit, where every bit below `start` is known to be set.
 pub fn lowest_clear(s: &[u8], from: usize, start: u32, limit: u32) -> Found
-    requires { ⌜ Room (now s) from limit ⌝ }
+    requires { ⌜ BitsFit (now s) from limit ⌝ }
     requires { ⌜ limit ≤ 16777216 ⌝ }
     requires { ⌜ start ≤ limit ⌝ }
     requires { ⌜ AllSet (now s) from 0 start ⌝ }
@@ -77,7 +76,7 @@ pub fn lowest_clear(s: &[u8], from: usize, start: u32, limit: u32) -> Found
 
 // How many bits below the limit are set.
 pub fn count(s: &[u8], from: usize, limit: u32) -> u32
-    requires { ⌜ Room (now s) from limit ⌝ }
+    requires { ⌜ BitsFit (now s) from limit ⌝ }
     ensures { λ r. ⌜ r ≡ ones (now (s .entry)) from limit ⌝ }
 {
     let mut n: u32 = 0;

@@ -1,6 +1,5 @@
 // Blocks of an image: their addresses and indexes, and the linked block with its next address.
 // Stores are functions of specs/ on the list of bytes; what a store leaves is said by `Kept` over (block, offset).
-// May use: wire.
 ghost use mathlib.Core.Path.{_≡_};
 ghost use Prim.Native.Nat.{_+_, _-_, _*_, _≤_, _<_, _^_};
 ghost use lib.ListN.{length};

@@ -9,9 +9,10 @@ use lib.ListN.{length, take, drop}
 use borrow.Author.Tests.{eq-eqb, ne-eqb}
 use Rattle.wire.specs.Pick.{pick, same}
 use Rattle.wire.proofs.Picks.{pick-true, pick-false}
-use Rattle.model.specs.Answers.{Reply, accepted, refused, andThen, refusalNumber}
+use Rattle.model.specs.Answers.{Reply, accepted, refused, andThen}
+use Rattle.limits.specs.Refusals.{refusalNumber}
 use Rattle.model.specs.Geometry.{blockSize, dataAt}
-use Rattle.model.specs.declared.Refusal.{Refusal}
+use Rattle.limits.specs.declared.Refusal.{Refusal}
 use Rattle.model.proofs.Replies.{and-then-ok, and-then-no}
 use Rattle.block.specs.declared.Addr.{Addr}
 use Rattle.super_block.specs.declared.SuperBlock.{SuperBlock}

@@ -10,9 +10,10 @@ use lib.Dec.{eqb}
 use lib.ListN.{length, take, drop, length-take}
 use Rattle.wire.specs.Pick.{pick, same}
 use Rattle.wire.proofs.Picks.{either, same-eq, pick-true, pick-false, pick-case}
-use Rattle.model.specs.Answers.{Reply, accepted, refused, andThen, refusalNumber}
+use Rattle.model.specs.Answers.{Reply, accepted, refused, andThen}
+use Rattle.limits.specs.Refusals.{refusalNumber}
 use Rattle.model.specs.Steps.{Bytes}
-use Rattle.model.specs.declared.Refusal.{Refusal}
+use Rattle.limits.specs.declared.Refusal.{Refusal}
 use Rattle.model.proofs.Replies.{and-then-ok, and-then-no, refused-one}
 use Rattle.block.specs.declared.Addr.{Addr}
 use Rattle.dir_entry.specs.declared.DirEntry.{DirEntry}

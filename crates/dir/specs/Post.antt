@@ -3,7 +3,8 @@ use mathlib.Core.Path.{_≡_}
 use mathlib.Core.Bool.{Bool, true, false}
 use mathlib.Core.List.{List}
 use Prim.Native.Nat.{ℕ, _≤_}
-use Rattle.model.specs.Answers.{Reply, accepted, refused, refusalNumber}
+use Rattle.model.specs.Answers.{Reply, accepted, refused}
+use Rattle.limits.specs.Refusals.{refusalNumber}
 use Rattle.own_entry.specs.declared.Own.{Own}
 use Rattle.own_entry.specs.Own.{OwnIn}
 use Rattle.path.specs.Post.{between}

@@ -1,10 +1,9 @@
 // Directories and entries by their path, on any image: the reading half of dir.rs.
 // A path is the first bytes of a lent buffer, as the crate path leaves it.
-// May use: wire, block, model, super_block, dir_entry, read_dir, own_entry, path.
 use block::Addr;
 use dir_entry::DirEntry;
 use dir_entry::Kind;
-use model::Refusal;
+use limits::Refusal;
 use own_entry::Own;
 use read_dir::Found;
 use super_block::SuperBlock;

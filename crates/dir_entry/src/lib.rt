@@ -1,5 +1,4 @@
 // One directory entry: its kind, its fixed part, decoding by the four stop rules, and encoding.
-// May use: wire, block, model.
 use block::Addr;
 use block::LinkedBlock;
 ghost use mathlib.Core.Path.{_≡_};

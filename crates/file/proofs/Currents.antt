@@ -24,7 +24,7 @@ use Rattle.dir_entry.specs.Shown.{kindIs, headOf}
 use Rattle.read_dir.specs.declared.Found.the-variants as found
 use Rattle.read_dir.specs.Walk.{Walk}
 use Rattle.read_dir.specs.Finds.{placed}
-use Rattle.tree_walk.specs.Shown.{itemsOf, walkOf, spotOf}
+use Rattle.thm_walk.specs.Shown.{itemsOf, walkOf, spotOf}
 use Rattle.file.specs.declared.Handle.{Handle}
 use Rattle.file.specs.File.{nameOf, current}
 use Rattle.file.specs.Writing.{currentIn}

@@ -10,10 +10,11 @@ use mir.Syntax.{w32}
 use mir.Val.{Fits}
 use Rattle.wire.specs.Be.{splice}
 use Rattle.block.specs.declared.Addr.{Addr}
-use Rattle.model.specs.Answers.{refusalNumber, when, firstOf}
-use Rattle.model.specs.declared.Refusal.{Refusal}
+use Rattle.model.specs.Answers.{when, firstOf}
+use Rattle.limits.specs.Refusals.{refusalNumber}
+use Rattle.limits.specs.declared.Refusal.{Refusal}
 use Rattle.model.proofs.Opens.{when-true, when-false, when-none, passed, first-of-head, first-of-tail, first-of-one, first-of-zero}
-use Rattle.model.proofs.Replies.{number-some}
+use Rattle.limits.proofs.Numbers.{number-some}
 use Rattle.read_dir.specs.Walk.{walk}
 use Rattle.super_block.specs.declared.SuperBlock.{SuperBlock}
 use Rattle.super_block.specs.Super.{Fit}

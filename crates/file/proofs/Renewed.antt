@@ -12,7 +12,7 @@ use Rattle.model.specs.Render.{cellsAt, blocksAt}
 use Rattle.model.specs.Answers.{accepted}
 use Rattle.model.specs.Geometry.{Geo, blockSize, dataAt}
 use Rattle.model.specs.Volume.{fileLimit, blocksFor, GoodFile, Volume, maxDepth}
-use Rattle.model.specs.Calls.{DirAt, freeBlocks, fileEntry, places, rewrite, refiled, rewritten, Writes}
+use Rattle.model.specs.Calls.{DirAt, freeBlocks, fileEntry, places, rewrite, refiled, rewritten, TreeWrites}
 use Rattle.model.proofs.Alike.{change-at}
 use Rattle.model.proofs.Areas.{size-large}
 use Rattle.model.proofs.Contents.{blocks-some, length-places, rewrite-places}
@@ -24,7 +24,7 @@ use Rattle.dir_entry.specs.declared.DirEntry.{DirEntry}
 use Rattle.read_dir.specs.declared.Place.{Place}
 use Rattle.read_dir.specs.declared.Found.the-variants as found
 use Rattle.read_dir.specs.Walk.{walk}
-use Rattle.file_write.proofs.Writes.{good-file}
+use Rattle.write_store.proofs.Writes.{good-file}
 use Rattle.file.specs.declared.Handle.{Handle}
 use Rattle.file.specs.File.{nameOf, staleFields}
 use Rattle.file.specs.Writing.{Target, currentIn, targetOf, writtenImage, grownHandle}
@@ -83,7 +83,7 @@ file-from n o s k z cs a l = ap (fileFrom n) a ∙ ap entryFrom l
 -- ---- the tree after a write
 
 module _ (g : Geo) (I J : List ℕ) (t : Tree maxDepth) (v : Volume g I maxDepth t) (h : Handle) (now : ℕ) (buf : List ℕ) (p : List Name) (s : DirAt maxDepth (h .dir .0) p t)
-    (w : Writes g maxDepth p (nameOf h) now (h .position) buf t I J) (q : OnFile maxDepth t h) where
+    (w : TreeWrites g maxDepth p (nameOf h) now (h .position) buf t I J) (q : OnFile maxDepth t h) where
   abbrev dir : Some
   dir = w .occupied .dir
 

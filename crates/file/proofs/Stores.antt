@@ -4,8 +4,9 @@ use mathlib.Core.List.{List}
 use Prim.Native.Nat.{ℕ, _+_, _≤_, _<_}
 use native.Mathlib.Omega.{arith}
 use lib.ListN.{length}
-use Rattle.model.specs.Answers.{accepted, refused, refusalNumber, andThen}
-use Rattle.model.specs.declared.Refusal.{Refusal}
+use Rattle.model.specs.Answers.{accepted, refused, andThen}
+use Rattle.limits.specs.Refusals.{refusalNumber}
+use Rattle.limits.specs.declared.Refusal.{Refusal}
 use Rattle.model.specs.Geometry.{countAt}
 use Rattle.model.specs.Volume.{WellFormed}
 use Rattle.super_block.specs.declared.SuperBlock.{SuperBlock}
@@ -13,7 +14,7 @@ use Rattle.super_block.specs.Super.{geoOf}
 use Rattle.super_block.proofs.Fits.{well-volume}
 use Rattle.dir_entry.specs.declared.DirEntry.{DirEntry}
 use Rattle.read_dir.specs.declared.Place.{Place}
-use Rattle.file_write.specs.Write.{wrote, CanWrite}
+use Rattle.write_store.specs.Write.{wrote, CanWrite}
 use Rattle.file.specs.declared.Handle.{Handle}
 use Rattle.file.specs.declared.Counted.the-variants as counted
 use Rattle.file.specs.declared.Aimed.{Aimed}

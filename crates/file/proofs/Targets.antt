@@ -16,7 +16,7 @@ use Rattle.model.specs.Render.{View, view}
 use Rattle.model.specs.Answers.{Reply, accepted, refused}
 use Rattle.model.specs.Geometry.{Geo, blockSize, dataAt}
 use Rattle.model.specs.Volume.{fileLimit, blocksFor, Volume, maxDepth}
-use Rattle.model.specs.Calls.{DirAt, pathTo, freeBlocks, fileEntry, Writes}
+use Rattle.model.specs.Calls.{DirAt, pathTo, freeBlocks, fileEntry, TreeWrites}
 use Rattle.model.proofs.Full.{good-find}
 use Rattle.model.proofs.Lists.{not-some}
 use Rattle.model.proofs.Reached.{path-found, path-is}
@@ -27,12 +27,12 @@ use Rattle.read_dir.specs.declared.Place.{Place}
 use Rattle.read_dir.specs.declared.Found.{Found}
 use Rattle.read_dir.specs.declared.Found.the-variants as found
 use Rattle.read_dir.specs.Walk.{walk}
-use Rattle.tree_walk.specs.Shown.{walkOf, spotOf}
-use Rattle.tree_walk.proofs.Walks.{walk-is}
+use Rattle.thm_walk.specs.Shown.{walkOf, spotOf}
+use Rattle.thm_walk.proofs.Walks.{walk-is}
 use Rattle.reached.specs.Reach.{hasPath}
 use Rattle.reached.proofs.OnTree.{reach-is}
-use Rattle.file_write.specs.Write.{wrote, CanWrite}
-use Rattle.file_write.proofs.Writes.{good-file, wrote-is, can-write-is}
+use Rattle.write_store.specs.Write.{wrote, CanWrite}
+use Rattle.write_store.proofs.Writes.{good-file, wrote-is, can-write-is}
 use Rattle.file.specs.declared.Handle.{Handle}
 use Rattle.file.specs.File.{nameOf, staleFields}
 use Rattle.file.specs.Writing.{Target, currentIn, tooLong, blocksToAdd, unreached, noRoom, targetOf, imageAt, writtenImage}
@@ -234,11 +234,11 @@ module _ (g : Geo) (I : List ℕ) (t : Tree maxDepth) (v : Volume g I maxDepth t
 
   -- An accepted write is the model's: of the file of the handle's name, in the directory of the handle's address.
   pub written-is : (buf : List ℕ) (now : ℕ) (τ : Target) → now < 2 ^ 64 → targetOf g I h (length buf) ≡ accepted τ
-      → (p : List Name) × DirAt maxDepth (h .dir .0) p t × Writes g maxDepth p (nameOf h) now (h .position) buf t I (writtenImage g I h buf now)
+      → (p : List Name) × DirAt maxDepth (h .dir .0) p t × TreeWrites g maxDepth p (nameOf h) now (h .position) buf t I (writtenImage g I h buf now)
   unfolding aimed
   written-is buf now τ clock e =
-      subst (λ (J : List ℕ). (p : List Name) × DirAt maxDepth (h .dir .0) p t × Writes g maxDepth p (nameOf h) now (h .position) buf t I J) (image-is buf now τ e)
-      (accepted-case (length buf) (λ x. (p : List Name) × DirAt maxDepth (h .dir .0) p t × Writes g maxDepth p (nameOf h) now (h .position) buf t I (wrote g I (x .entry) (x .place) (h .position) buf now))
+      subst (λ (J : List ℕ). (p : List Name) × DirAt maxDepth (h .dir .0) p t × TreeWrites g maxDepth p (nameOf h) now (h .position) buf t I J) (image-is buf now τ e)
+      (accepted-case (length buf) (λ x. (p : List Name) × DirAt maxDepth (h .dir .0) p t × TreeWrites g maxDepth p (nameOf h) now (h .position) buf t I (wrote g I (x .entry) (x .place) (h .position) buf now))
       (λ b f q k m. (
         q .path,
         q .there,

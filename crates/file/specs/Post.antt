@@ -9,7 +9,8 @@ use lib.ListN.{length}
 use Rattle.wire.specs.Be.{splice}
 use Rattle.wire.specs.Pick.{pick}
 use Rattle.block.specs.Block.{next}
-use Rattle.model.specs.Answers.{refusalNumber, when, firstOf}
+use Rattle.model.specs.Answers.{when, firstOf}
+use Rattle.limits.specs.Refusals.{refusalNumber}
 use Rattle.read_dir.specs.Walk.{inArea, walk}
 use Rattle.file.specs.declared.Handle.{Handle}
 use Rattle.file.specs.declared.SeekFrom.{SeekFrom}

@@ -17,7 +17,7 @@ use Rattle.read_dir.specs.declared.Found.the-variants as found
 use Rattle.read_dir.specs.Walk.{Walk, item, finished, damaged, walk}
 use Rattle.read_dir.specs.Finds.{placed}
 use Rattle.reached.specs.Reach.{reaches}
-use Rattle.file_write.specs.Write.{wrote}
+use Rattle.write_store.specs.Write.{wrote}
 use Rattle.file.specs.File.{staleFields, current}
 use Rattle.file.specs.declared.Handle.{Handle}
 

@@ -3,7 +3,8 @@ use mathlib.Core.Path.{_≡_}
 use mathlib.Core.List.{List}
 use Prim.Native.Nat.{ℕ}
 use lib.ListN.{length}
-use Rattle.model.specs.Answers.{Reply, accepted, refused, refusalNumber, given, when}
+use Rattle.model.specs.Answers.{Reply, accepted, refused, given, when}
+use Rattle.limits.specs.Refusals.{refusalNumber}
 use Rattle.model.specs.Geometry.{Geo}
 use Rattle.dir_entry.specs.declared.DirEntry.{DirEntry}
 use Rattle.read_dir.specs.declared.Place.{Place}

@@ -1,11 +1,10 @@
-// Files by their handle: seeking and reading on any image, and writing on a checked volume, by the stores of `file_write`.
+// Files by their handle: seeking and reading on any image, and writing on a checked volume, by the stores of `write_store`.
 // A handle goes in by value and comes back advanced; a refusal hands back the very handle that was given.
-// May use: wire, block, model, super_block, bitmap_block, dir_entry, read_dir, reached, file_write; the proofs also bits, tree_walk.
 use block::Addr;
 use block::LinkedBlock;
 use dir_entry::DirEntry;
 use dir_entry::Kind;
-use model::Refusal;
+use limits::Refusal;
 use read_dir::Found;
 use read_dir::Place;
 use read_dir::ReadDir;
@@ -29,7 +28,7 @@ ghost use Rattle.file.specs.Writing.{currentIn, tooLong, unreached, noRo
 ghost use Rattle.file.specs.Written.{aimedSays, fitsAt, WriteIs};
 
 // The bytes of the largest file.
-pub const FILE_LIMIT: u32 = model::FILE_LIMIT;
+pub const FILE_LIMIT: u32 = limits::FILE_LIMIT;
 
 // The same, as ends of buffers are counted.
 const END_LIMIT: usize = FILE_LIMIT as usize;
@@ -428,8 +427,8 @@ impl Handle {
         requires { ⌜ self .position + len ≤ 2147483647 ⌝ }
         ensures { λ r. ⌜ r ≡ noRoom (geoOf s) (now (img .entry)) self len ⌝ }
     {
-        let old = model::blocks_for(self.size);
-        let new = model::blocks_for(self.position + len);
+        let old = limits::blocks_for(self.size);
+        let new = limits::blocks_for(self.position + len);
         if new <= old {
             return false;
         }
@@ -498,7 +497,7 @@ impl Handle {
             },
             Aimed::At(e, p) => {
                 let c = self.position;
-                file_write::write(img, s, e, p, c, buf, time);
+                write_store::write(img, s, e, p, c, buf, time);
                 WriteOut {
                     answer: Counted::Bytes(buf.len()),
                     handle: self.grown(buf.len() as u32),

@@ -5,13 +5,15 @@ use mathlib.Core.List.{List}
 use Prim.Native.Nat.{ℕ, zero, suc, _≤_}
 use native.Mathlib.Omega.{arith}
 use lib.ListN.{length, take}
-use Rattle.model.specs.Answers.{Reply, accepted, refused, refusalNumber, andThen, when, settle, given}
-use Rattle.model.specs.declared.Refusal.{Refusal}
+use Rattle.model.specs.Answers.{Reply, accepted, refused, andThen, when, settle, given}
+use Rattle.limits.specs.Refusals.{refusalNumber}
+use Rattle.limits.specs.declared.Refusal.{Refusal}
 use Rattle.model.specs.Geometry.{Geo, geoAt, countAt}
 use Rattle.model.specs.Volume.{WellFormed}
 use Rattle.model.specs.Steps.{Bytes}
 use Rattle.model.proofs.Opens.{when-true, when-false, first-of-head, first-of-tail, first-of-one}
-use Rattle.model.proofs.Replies.{number-some, settle-none, settle-refused}
+use Rattle.model.proofs.Replies.{settle-none}
+use Rattle.limits.proofs.Numbers.{number-some, settle-refused}
 use Rattle.super_block.specs.declared.SuperBlock.{SuperBlock}
 use Rattle.super_block.specs.declared.Opened.{Opened}
 use Rattle.super_block.specs.declared.Opened.the-variants as opened
@@ -32,17 +34,17 @@ use Rattle.dir_entry.specs.declared.Kind.{Kind}
 use Rattle.dir_entry.specs.declared.Kind.the-variants as kind
 use Rattle.dir_entry.specs.declared.DirEntry.{DirEntry}
 use Rattle.path.specs.Path.{lastName}
-use Rattle.creates.specs.Creating.{Fresh, freshOf, badName, siteOf, createdOn, createdImage}
-use Rattle.creates.specs.Post.{createdSays}
-use Rattle.creates.specs.declared.Created.{Created}
-use Rattle.creates.specs.declared.Created.the-variants as created
+use Rattle.create.specs.Creating.{Fresh, freshOf, badName, siteOf, createdOn, createdImage}
+use Rattle.create.specs.Post.{createdSays}
+use Rattle.create.specs.declared.Created.{Created}
+use Rattle.create.specs.declared.Created.the-variants as created
 use Rattle.mfs.specs.declared.OpenOut.{OpenOut}
 use Rattle.mfs.specs.Reading.{handleFor, OpenIs}
 use Rattle.mfs.proofs.Opening.{open-as}
-use Rattle.deletes.specs.Deleting.{deletedOn, deletedImage}
-use Rattle.deletes.specs.Post.{deletedSays}
-use Rattle.deletes.specs.declared.Deleted.{Deleted}
-use Rattle.deletes.specs.declared.Deleted.the-variants as deleted
+use Rattle.delete.specs.Deleting.{deletedOn, deletedImage}
+use Rattle.delete.specs.Post.{deletedSays}
+use Rattle.delete.specs.declared.Deleted.{Deleted}
+use Rattle.delete.specs.declared.Deleted.the-variants as deleted
 use Rattle.file.specs.declared.Handle.{Handle}
 use Rattle.file.specs.declared.WriteOut.{WriteOut}
 use Rattle.file.specs.declared.Counted.the-variants as counted

@@ -10,22 +10,24 @@ use lib.ListN.{length}
 use borrow.Author.Tests.{lt-ltb, le-ltb}
 use Rattle.wire.specs.Be.{zeros, splice}
 use Rattle.wire.proofs.Picks.{either, not-both}
-use Rattle.model.specs.Answers.{refusalNumber, when, firstOf}
+use Rattle.model.specs.Answers.{when, firstOf}
+use Rattle.limits.specs.Refusals.{refusalNumber}
 use Rattle.model.specs.Geometry.{geoAt, openRefusal}
 use Rattle.model.specs.Volume.{WellFormed}
 use Rattle.model.specs.Steps.{Bytes}
-use Rattle.model.specs.declared.Refusal.{Refusal}
-use Rattle.model.specs.declared.Refusal.the-variants.{ShortWork, Damaged}
+use Rattle.limits.specs.declared.Refusal.{Refusal}
+use Rattle.limits.specs.declared.Refusal.the-variants.{ShortWork, Damaged}
 use Rattle.model.proofs.Opens.{when-true, when-false, when-none, first-of-head, first-of-tail, first-of-one, first-of-zero, opens-sound}
-use Rattle.model.proofs.Replies.{settle-none, settle-refused, number-some, number-one}
+use Rattle.model.proofs.Replies.{settle-none}
+use Rattle.limits.proofs.Numbers.{settle-refused, number-some, number-one}
 use Rattle.super_block.specs.declared.SuperBlock.{SuperBlock}
 use Rattle.super_block.specs.declared.Opened.{Opened}
 use Rattle.super_block.specs.declared.Opened.the-variants as opened
 use Rattle.super_block.specs.Super.{geoOf, Fit, OpenedIs}
 use Rattle.super_block.proofs.Fits.{placed, opened-fit}
-use Rattle.tally.specs.Tally.{markBytes, markLong}
-use Rattle.survey.specs.Whole.{whole}
-use Rattle.survey.proofs.Wholes.{whole-sound, whole-complete}
+use Rattle.check_bitmap.specs.Tally.{markBytes, markLong}
+use Rattle.check_volume.specs.Whole.{whole}
+use Rattle.check_volume.proofs.Wholes.{whole-sound, whole-complete}
 use Rattle.mfs.specs.Checking.{checkCall, workAfter, Decides, Checks, checkRefusal, CheckedIs, Checked}
 use Rattle.mfs.specs.declared.Answer.{Answer}
 use Rattle.mfs.specs.declared.Answer.the-variants as answer

@@ -4,11 +4,12 @@ use mathlib.Core.List.{List, [], _∷_}
 use Prim.Native.Nat.{ℕ}
 use native.Mathlib.Omega.{arith}
 use lib.ListN.{length}
-use Rattle.model.specs.Answers.{refusalNumber, firstOf}
-use Rattle.model.specs.declared.Refusal.{Refusal}
+use Rattle.model.specs.Answers.{firstOf}
+use Rattle.limits.specs.Refusals.{refusalNumber}
+use Rattle.limits.specs.declared.Refusal.{Refusal}
 use Rattle.model.specs.Geometry.{dataAt, geoAt, countAt, openRefusal}
 use Rattle.model.proofs.Opens.{first-of-head, first-of-tail, first-of-one}
-use Rattle.model.proofs.Replies.{number-some}
+use Rattle.limits.proofs.Numbers.{number-some}
 use Rattle.super_block.specs.declared.SuperBlock.{SuperBlock}
 use Rattle.super_block.specs.declared.Opened.{Opened}
 use Rattle.super_block.specs.declared.Opened.the-variants.{At, Refused}

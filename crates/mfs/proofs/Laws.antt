@@ -15,12 +15,14 @@ use Rattle.model.proofs.Demand.{whole-super}
 use Rattle.model.proofs.Entries.{be-shown}
 use Rattle.model.proofs.OneVolume.{top-reads}
 use Rattle.model.proofs.Owns.{shows-kept}
-use Rattle.model.specs.Answers.{accepted, refused, refusalNumber, firstOf, reply}
-use Rattle.model.specs.declared.Refusal.{Refusal}
-use Rattle.model.specs.declared.Refusal.the-variants.{Damaged}
+use Rattle.model.specs.Answers.{accepted, refused, firstOf, reply}
+use Rattle.limits.specs.Refusals.{refusalNumber}
+use Rattle.limits.specs.declared.Refusal.{Refusal}
+use Rattle.limits.specs.declared.Refusal.the-variants.{Damaged}
 use Rattle.model.specs.Geometry.{Geo, superBytes, blockSize, mapAt, dataAt, geoAt, formatGeo, usedCount, openRefusal, formatRefusal}
 use Rattle.model.proofs.Opens.{when-true, when-false, first-of-head, first-of-tail, first-of-one}
-use Rattle.model.proofs.Replies.{reply-none, reply-refused, settle-none, settle-refused, number-some}
+use Rattle.model.proofs.Replies.{reply-none, settle-none}
+use Rattle.limits.proofs.Numbers.{reply-refused, settle-refused, number-some}
 use Rattle.super_block.specs.declared.SuperBlock.{SuperBlock}
 use Rattle.super_block.specs.declared.Opened.{Opened}
 use Rattle.super_block.specs.declared.Opened.the-variants.{At, Refused}

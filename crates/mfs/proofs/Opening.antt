@@ -31,7 +31,7 @@ use Rattle.read_dir.specs.declared.Summed.the-variants as summed
 use Rattle.read_dir.specs.declared.Listed.{Listed}
 use Rattle.read_dir.specs.declared.Listed.the-variants as listed
 use Rattle.read_dir.specs.Finds.{onListed}
-use Rattle.model.specs.declared.Refusal.the-variants.{Damaged}
+use Rattle.limits.specs.declared.Refusal.the-variants.{Damaged}
 use Rattle.mfs.specs.Reading.{handleFor, openEntry, OpenIs, About, about, aboutRoot, InfoIs, Counts, countsOf, onReply, ListIs}
 
 -- ---- the name of an entry, in an array

@@ -3,8 +3,10 @@ use mathlib.Core.Path.{_≡_, refl, sym, ap, _∙_}
 use mathlib.Core.List.{List}
 use Prim.Native.Nat.{ℕ, _+_}
 use native.Mathlib.Omega.{arith}
-use Rattle.model.specs.Answers.{Reply, refused, refusalNumber}
-use Rattle.model.proofs.Replies.{number-one, number-some, accepted-one}
+use Rattle.model.specs.Answers.{Reply, refused}
+use Rattle.limits.specs.Refusals.{refusalNumber}
+use Rattle.model.proofs.Replies.{accepted-one}
+use Rattle.limits.proofs.Numbers.{number-one, number-some}
 use Rattle.file.specs.declared.Handle.{Handle}
 use Rattle.file.specs.declared.SeekFrom.{SeekFrom}
 use Rattle.file.specs.declared.Outcome.{Outcome}

@@ -9,11 +9,13 @@ use lib.Seq.{take-all}
 use Rattle.wire.specs.Be.{splice, zeros}
 use Rattle.wire.specs.Pick.{same}
 use Rattle.wire.proofs.Picks.{pick-true, pick-false}
-use Rattle.model.specs.Answers.{Reply, refused, refusalNumber, andThen, firstOf, given}
-use Rattle.model.specs.declared.Refusal.{Refusal}
+use Rattle.model.specs.Answers.{Reply, refused, andThen, firstOf, given}
+use Rattle.limits.specs.Refusals.{refusalNumber}
+use Rattle.limits.specs.declared.Refusal.{Refusal}
 use Rattle.model.specs.Geometry.{dataAt, geoAt, countAt, openRefusal}
 use Rattle.model.proofs.Opens.{when-true, when-false, first-of-head, first-of-tail, first-of-one}
-use Rattle.model.proofs.Replies.{number-some, given-none as given-nothing, given-some as given-refusal}
+use Rattle.model.proofs.Replies.{given-none as given-nothing, given-some as given-refusal}
+use Rattle.limits.proofs.Numbers.{number-some}
 use Rattle.super_block.specs.declared.SuperBlock.{SuperBlock}
 use Rattle.super_block.specs.declared.Opened.{Opened}
 use Rattle.super_block.specs.declared.Opened.the-variants.{At, Refused}

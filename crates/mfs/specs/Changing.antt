@@ -13,8 +13,8 @@ use Rattle.super_block.specs.Super.{Fit}
 use Rattle.dir_entry.specs.declared.Kind.{Kind}
 use Rattle.dir_entry.specs.declared.Kind.the-variants.{Dir, File}
 use Rattle.path.specs.Path.{realPath, pathRefusal, lastName}
-use Rattle.creates.specs.Creating.{Fresh, createdOn, createdImage}
-use Rattle.deletes.specs.Deleting.{deletedOn, deletedImage}
+use Rattle.create.specs.Creating.{Fresh, createdOn, createdImage}
+use Rattle.delete.specs.Deleting.{deletedOn, deletedImage}
 use Rattle.file.specs.declared.Handle.{Handle}
 use Rattle.file.specs.declared.WriteOut.{WriteOut}
 use Rattle.file.specs.Writing.{Target, targetOf, writtenImage, handleAfter, countOf}

@@ -6,14 +6,15 @@ use Prim.Native.Nat.{ℕ}
 use lib.Dec.{ltb}
 use lib.ListN.{length}
 use Rattle.wire.specs.Be.{zeros, splice}
-use Rattle.model.specs.Answers.{refusalNumber, when, firstOf, settle}
+use Rattle.model.specs.Answers.{when, firstOf, settle}
+use Rattle.limits.specs.Refusals.{refusalNumber}
 use Rattle.model.specs.Geometry.{geoAt, openRefusal}
 use Rattle.model.specs.Volume.{WellFormed}
 use Rattle.super_block.specs.declared.Opened.{Opened}
 use Rattle.super_block.specs.declared.Opened.the-variants as opened
 use Rattle.super_block.specs.Super.{superBlock}
-use Rattle.tally.specs.Tally.{markLong}
-use Rattle.survey.specs.Whole.{whole}
+use Rattle.check_bitmap.specs.Tally.{markLong}
+use Rattle.check_volume.specs.Whole.{whole}
 use Rattle.mfs.specs.declared.Answer.{Answer}
 use Rattle.mfs.specs.declared.Answer.the-variants as answer
 

@@ -8,7 +8,8 @@ use lib.Dec.{ltb}
 use lib.ListN.{length, take}
 use Rattle.wire.specs.Be.{zeros, splice}
 use Rattle.wire.specs.Pick.{pick, same}
-use Rattle.model.specs.Answers.{Reply, accepted, refused, refusalNumber, andThen, when, firstOf, reply, settle, given}
+use Rattle.model.specs.Answers.{Reply, accepted, refused, andThen, when, firstOf, reply, settle, given}
+use Rattle.limits.specs.Refusals.{refusalNumber}
 use Rattle.model.specs.Render.{padded}
 use Rattle.model.specs.Geometry.{Geo, blockSize, dataAt, geoAt, openRefusal}
 use Rattle.model.specs.Volume.{fileLimit}

@@ -1,6 +1,7 @@
 -- What each answer says on paper: 01's values, or 01's number.
 use Prim.Native.Nat.{ℕ}
-use Rattle.model.specs.Answers.{Reply, accepted, refused, refusalNumber}
+use Rattle.model.specs.Answers.{Reply, accepted, refused}
+use Rattle.limits.specs.Refusals.{refusalNumber}
 use Rattle.mfs.specs.declared.Answer.{Answer}
 use Rattle.mfs.specs.declared.Answer.the-variants as answer
 use Rattle.mfs.specs.declared.Space.{Space}

@@ -1,10 +1,9 @@
 // The public calls on an MFS volume. An image is a lent slice of 512-byte blocks, and k the block of its superblock.
 // No call requires anything: every image gets the one answer that the paper gives it, and a refusal changes nothing.
-// May use: every crate below.
 use block::Addr;
 use block::Index;
-use creates::Created;
-use deletes::Deleted;
+use create::Created;
+use delete::Deleted;
 use dir::Located;
 use dir_entry::DirEntry;
 use dir_entry::Kind;
@@ -14,7 +13,7 @@ use file::ReadOut;
 use file::SeekFrom;
 use file::Sought;
 use file::WriteOut;
-use model::Refusal;
+use limits::Refusal;
 use path::Real;
 use read_dir::Listed;
 use read_dir::Summed;
@@ -27,7 +26,8 @@ ghost use Rattle.block.specs.Block.{blockBytes};
 ghost use Rattle.model.specs.Render.{padded};
 ghost use Rattle.super_block.specs.Super.{geoOf, Fit, OpenedIs};
 ghost use Rattle.super_block.specs.declared.Opened.the-variants as opened;
-ghost use Rattle.model.specs.Answers.{reply, accepted, refused, refusalNumber, andThen, settle, given};
+ghost use Rattle.model.specs.Answers.{reply, accepted, refused, andThen, settle, given};
+ghost use Rattle.limits.specs.Refusals.{refusalNumber};
 ghost use Rattle.path.specs.Path.{pathLimit, realPath, pathRefusal, lastName};
 ghost use Rattle.dir_entry.specs.declared.Kind.the-variants as kind;
 ghost use Rattle.dir.specs.Resolve.{entryOf, held};
@@ -36,14 +36,14 @@ ghost use Rattle.read_dir.specs.Walk.{walk};
 ghost use Rattle.read_dir.specs.Finds.{sumFrom, skip, listFrom, recordsFrom};
 ghost use Rattle.mfs.specs.Reading.{handleFor, openEntry, openOn, OpenIs, Opens, about, aboutRoot, aboutEntry, infoOn, InfoIs, Informs, countsOf, listOn, recordsOn, ListIs, Lists, Reads};
 ghost use Rattle.file.specs.Post.{SoughtIs};
-ghost use Rattle.deletes.specs.Deleting.{deletedOn, deletedImage};
-ghost use Rattle.creates.specs.Creating.{createdOn, createdImage};
+ghost use Rattle.delete.specs.Deleting.{deletedOn, deletedImage};
+ghost use Rattle.create.specs.Creating.{createdOn, createdImage};
 ghost use Rattle.mfs.specs.Changing.{Ready, freshHandle, CreatesFile, plainly, CreatesDir, Deletes, Writes};
 ghost use Rattle.mfs.specs.Checking.{Checks, Checked};
 ghost use Rattle.mfs.specs.Format.{formatted, Formats, Uses, overused, sizesOf};
 
 // The longest file.
-const FILE_LIMIT: u32 = model::FILE_LIMIT;
+const FILE_LIMIT: u32 = limits::FILE_LIMIT;
 
 // The answer of a call that gives nothing back.
 pub enum Answer {
@@ -117,10 +117,10 @@ fn check_opened(img: &[u8], k: u32, s: SuperBlock, work: &mut [u8]) -> Opened
     requires { ⌜ OpenedIs k (now img) (opened.At s) ⌝ }
     ensures { λ r. ⌜ Checked k (now (img .entry)) (now (work .entry)) r (now (work .exit)) ⌝ }
 {
-    if work.len() < tally::mark_bytes(s) {
+    if work.len() < check_bitmap::mark_bytes(s) {
         return Opened::Refused(Refusal::ShortWork);
     }
-    if survey::check(img, work, s) {
+    if check_volume::check(img, work, s) {
         Opened::At(s)
     } else {
         Opened::Refused(Refusal::Damaged)
@@ -456,7 +456,7 @@ fn create_file_full(img: &mut [u8], s: SuperBlock, full: &[u8], len: usize, time
     ensures { λ o. ⌜ OpenIs (andThen (createdOn (geoOf s) (now (img .entry)) kind.File (take len (now (full .entry)))) (λ f. accepted (freshHandle (lastName (take len (now (full .entry)))) f))) o ⌝ }
     ensures { λ _. ⌜ now (img .exit) ≡ createdImage (geoOf s) (now (img .entry)) kind.File (take len (now (full .entry))) time ⌝ }
 {
-    let created = creates::create(img, s, full, len, Kind::File, time);
+    let created = create::create(img, s, full, len, Kind::File, time);
     match created {
         Created::Refused(r) => refused_open(r),
         Created::At(dir, addr) => {
@@ -515,7 +515,7 @@ fn create_dir_path(img: &mut [u8], s: SuperBlock, cwd: &[u8], path: &[u8], time:
     let Real::Len(n) = real else {
         return Answer::Refused(Refusal::BadPath);
     };
-    let created = creates::create(img, s, &full, n, Kind::Dir, time);
+    let created = create::create(img, s, &full, n, Kind::Dir, time);
     match created {
         Created::Refused(r) => Answer::Refused(r),
         Created::At(_, _) => Answer::Success,
@@ -551,7 +551,7 @@ fn delete_path(img: &mut [u8], s: SuperBlock, cwd: &[u8], path: &[u8], time: u64
     let Real::Len(n) = real else {
         return Answer::Refused(Refusal::BadPath);
     };
-    let deleted = deletes::delete(img, s, &full, n, time);
+    let deleted = delete::delete(img, s, &full, n, time);
     match deleted {
         Deleted::Refused(r) => Answer::Refused(r),
         Deleted::Done => Answer::Success,

@@ -4,9 +4,10 @@ use mathlib.Core.Path.{_≡_, refl, _∙_}
 use mathlib.Core.List.{List}
 use Prim.Native.Nat.{ℕ, zero, suc}
 use native.Mathlib.Omega.{arith}
-use Rattle.model.specs.Answers.{Reply, accepted, refused, refusalNumber, reply, settle}
-use Rattle.model.specs.declared.Refusal.{Refusal}
-use Rattle.model.proofs.Replies.{number-some}
+use Rattle.model.specs.Answers.{Reply, accepted, refused, reply, settle}
+use Rattle.limits.specs.Refusals.{refusalNumber}
+use Rattle.limits.specs.declared.Refusal.{Refusal}
+use Rattle.limits.proofs.Numbers.{number-some}
 use Rattle.dir_entry.specs.Entry.{kindByte}
 use Rattle.file.specs.declared.Handle.{Handle}
 use Rattle.file.specs.declared.SeekFrom.{SeekFrom}
@@ -25,7 +26,7 @@ use Rattle.mfs.specs.declared.Listing.the-variants as listing
 use Rattle.mfs.specs.Says.{says, onAnswer, Sizes, spaceSays}
 use Rattle.mfs.specs.Format.{Formats}
 use Rattle.mfs.specs.Reading.{About, Counts, infoSays, listSays, ListIs}
-use Rattle.on_tree.proofs.Changing.{create-file-kept, create-dir-kept, delete-kept, write-kept}
+use Rattle.thm_calls.proofs.Changing.{create-file-kept, create-dir-kept, delete-kept, write-kept}
 use Rattle.mfs_c.specs.Exports.{told, outOf, numbersOf, soughtSays, FormatsC, UsesC, HandleOut, OpensC, InformsC, ListsC, CountOut, ReadsC, SeeksC, CreatesFileC, CreatesDirC, DeletesC, WritesC}
 
 -- ---- a number that is not 0 tells a refusal, and 0 tells none

@@ -4,7 +4,8 @@ use mathlib.Core.Path.{_≡_}
 use mathlib.Core.List.{List, [], _∷_}
 use Prim.Native.Nat.{ℕ}
 use lib.ListN.{getD}
-use Rattle.model.specs.Answers.{Reply, accepted, refused, refusalNumber}
+use Rattle.model.specs.Answers.{Reply, accepted, refused}
+use Rattle.limits.specs.Refusals.{refusalNumber}
 use Rattle.dir_entry.specs.Entry.{kindByte}
 use Rattle.file.specs.declared.Handle.{Handle}
 use Rattle.file.specs.declared.SeekFrom.{SeekFrom}

@@ -1,18 +1,17 @@
 // The public calls for programs in C and Rust, on numbers, byte slices and arrays of fixed size. Each answers 0, or 01's number of
 // its refusal; a refusal leaves every out parameter as it was. include/mfs.h declares them.
-// May use: mfs and what it gives out; the proofs also on_tree.
 use block::Addr;
 use file::Counted;
 use file::Handle;
 use file::Outcome;
 use file::SeekFrom;
+use limits::Refusal;
 use mfs::Answer;
 use mfs::Listing;
 use mfs::OpenOut;
 use mfs::Space;
-use model::Refusal;
 ghost use mathlib.Core.Path.{_≡_};
-ghost use Rattle.model.specs.Answers.{refusalNumber};
+ghost use Rattle.limits.specs.Refusals.{refusalNumber};
 ghost use Rattle.file.specs.declared.SeekFrom.the-variants as from;
 ghost use Rattle.file.specs.Written.{countedSays};
 ghost use Rattle.mfs.specs.Says.{says};

@@ -1,4 +1,4 @@
--- How often a block stands among the pieces of a tree: the laws of `count`, `ats` and `tally`, and the number of set bits by them.
+-- How often a block stands among the pieces of a tree: the laws of `count`, `ats` and `check_bitmap`, and the number of set bits by them.
 use mathlib.Core.Path.{_≡_, refl, ap, _∙_}
 use mathlib.Core.List.{List, [], _∷_, _++_}
 use Prim.Native.Nat.{ℕ, zero, suc, _+_, _≤_, _<_}

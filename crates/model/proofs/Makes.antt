@@ -16,7 +16,7 @@ use Rattle.model.specs.Tree.{Below, Name, Cell, Entry, Block, Tree, then
 use Rattle.model.specs.Render.{Piece, View, blocksAt, dirPieces, view, render, ats, count, blocks}
 use Rattle.model.specs.Geometry.{Geo, blockSize, mapAt, dataAt}
 use Rattle.model.specs.Volume.{All, Volume}
-use Rattle.model.specs.Calls.{fileOf, freeBlocks, entryRoom, entryBlock, dirBlock, fileEntry, created, createdDir, emptyCell, deleted, bareLeft, leftoverLater, leftover, rewrite, rewritten, Outside, Makes, CreatesFile, CreatesDir, Deletes, Writes}
+use Rattle.model.specs.Calls.{fileOf, freeBlocks, entryRoom, entryBlock, dirBlock, fileEntry, created, createdDir, emptyCell, deleted, bareLeft, leftoverLater, leftover, rewrite, rewritten, Outside, Makes, TreeCreatesFile, TreeCreatesDir, TreeDeletes, TreeWrites}
 use Rattle.model.specs.Steps.{Step, quiet, create, write, remove, Bytes}
 use Rattle.model.proofs.Alike.{alike-refl}
 use Rattle.model.proofs.Areas.{area, size-large}
@@ -96,7 +96,7 @@ dir-one d p t s r a b = cc
 abbrev pub fileIn : Name → Some → Option (ℕ × ℕ × List Cell)
 fileIn n s = then (lookup n (s .1)) (λ e. fileOf (e .time) (e .node))
 
-file-in : (g : Geo) (d : ℕ) (p : List Name) (n : Name) (now c : ℕ) (buf : List ℕ) (t : Tree d) (I J : List ℕ) (w : Writes g d p n now c buf t I J)
+file-in : (g : Geo) (d : ℕ) (p : List Name) (n : Name) (now c : ℕ) (buf : List ℕ) (t : Tree d) (I J : List ℕ) (w : TreeWrites g d p n now c buf t I J)
     → fileIn n (w .occupied .dir) ≡ some (w .size, w .time, w .cells)
 unfolding fileOf fileEntry
 file-in g d p n now c buf t I J w =
@@ -109,25 +109,25 @@ cells-one o s k s′ k′ cs cs′ a b =
 
 -- Each accepted call gives one image.
 module _ (g : Geo) (d : ℕ) (p : List Name) (n : Name) (now : ℕ) (t : Tree d) (I J J′ : List ℕ) (x : Bytes J) (y : Bytes J′) where
-  pub creates-file-one : CreatesFile g d p n now t I J → CreatesFile g d p n now t I J′ → J ≡ J′
+  pub creates-file-one : TreeCreatesFile g d p n now t I J → TreeCreatesFile g d p n now t I J′ → J ≡ J′
   creates-file-one c c′ =
       let e : c′ .vacant .dir ≡ c .vacant .dir = dir-one d p t _ _ (c′ .vacant .there) (c .vacant .there) in
       makes-one g d _ [] I J J′ tt x y (c .makes)
       (subst (λ (s : Some). Makes g d (created d (entryRoom g) p n now (dirBlock (freeBlocks g d t)) 0 (emptyCell g (entryBlock g n (s .1) (freeBlocks g d t)) ∷ []) t) [] I J′) e (c′ .makes))
 
-  pub creates-dir-one : CreatesDir g d p n now t I J → CreatesDir g d p n now t I J′ → J ≡ J′
+  pub creates-dir-one : TreeCreatesDir g d p n now t I J → TreeCreatesDir g d p n now t I J′ → J ≡ J′
   creates-dir-one c c′ =
       let e : c′ .vacant .dir ≡ c .vacant .dir = dir-one d p t _ _ (c′ .vacant .there) (c .vacant .there) in
       makes-one g d _ [] I J J′ tt x y (c .makes)
       (subst (λ (s : Some). Makes g d (createdDir d (entryRoom g) p n now (dirBlock (freeBlocks g d t)) (entryBlock g n (s .1) (freeBlocks g d t)) t) [] I J′) e (c′ .makes))
 
-  pub deletes-one : Deletes g d p n now t I J → Deletes g d p n now t I J′ → J ≡ J′
+  pub deletes-one : TreeDeletes g d p n now t I J → TreeDeletes g d p n now t I J′ → J ≡ J′
   deletes-one c c′ =
       let e : c′ .occupied .dir ≡ c .occupied .dir = dir-one d p t _ _ (c′ .occupied .there) (c .occupied .there) in
       makes-one g d _ _ I J J′ (whole-leftover (blockSize g) (omega (arith, size-large g)) n (c .occupied .dir .1)) x y (c .makes)
       (subst (λ (s : Some). Makes g d (deleted d p n now t) (leftover (blockSize g) n (s .1)) I J′) e (c′ .makes))
 
-  pub writes-one : (c : ℕ) (buf : List ℕ) → Writes g d p n now c buf t I J → Writes g d p n now c buf t I J′ → J ≡ J′
+  pub writes-one : (c : ℕ) (buf : List ℕ) → TreeWrites g d p n now c buf t I J → TreeWrites g d p n now c buf t I J′ → J ≡ J′
   writes-one c buf w w′ =
       let e : w′ .occupied .dir ≡ w .occupied .dir = dir-one d p t _ _ (w′ .occupied .there) (w .occupied .there) in
       let k : w′ .cells ≡ w .cells
@@ -138,14 +138,14 @@ module _ (g : Geo) (d : ℕ) (p : List Name) (n : Name) (now : ℕ) (t : Tree d)
 -- ---- each accepted call is a step
 
 module _ (g : Geo) (d : ℕ) (p : List Name) (n : Name) (now : ℕ) (t : Tree d) (I J : List ℕ) where
-  pub creates-file-step : (c : CreatesFile g d p n now t I J)
+  pub creates-file-step : (c : TreeCreatesFile g d p n now t I J)
       → Step g d p n I t J (created d (entryRoom g) p n now (dirBlock (freeBlocks g d t)) 0 (emptyCell g (entryBlock g n (c .vacant .dir .1) (freeBlocks g d t)) ∷ []) t)
   creates-file-step c = create now _ 0 _ (c .vacant) refl (c .makes)
 
-  pub deletes-step : Deletes g d p n now t I J → Step g d p n I t J (deleted d p n now t)
+  pub deletes-step : TreeDeletes g d p n now t I J → Step g d p n I t J (deleted d p n now t)
   deletes-step c = remove now (c .occupied) refl (c .makes)
 
-  pub writes-step : (c : ℕ) (buf : List ℕ) (w : Writes g d p n now c buf t I J)
+  pub writes-step : (c : ℕ) (buf : List ℕ) (w : TreeWrites g d p n now c buf t I J)
       → Step g d p n I t J (rewritten d p n now (c + length buf) (rewrite (blockSize g) (freeBlocks g d t) c buf (w .cells)) t)
   writes-step c buf w = write now _ _ (w .occupied) refl (w .makes)
 

@@ -2,34 +2,10 @@
 use mathlib.Core.Path.{_≡_, refl, sym, ap, _∙_}
 use mathlib.Core.Bool.{Bool, true, false}
 use mathlib.Core.Logic.{_⊎_, inl, inr}
-use mathlib.Core.List.{List, [], _∷_}
-use Prim.Native.Nat.{ℕ, zero, suc, _-_, _≤_}
-use lib.ListN.{getD}
+use Prim.Native.Nat.{ℕ, zero, suc, _≤_}
 use native.Mathlib.Omega.{arith}
-use Rattle.model.specs.Answers.{refusalNumber, Reply, accepted, refused, andThen, when, given, reply, settle}
+use Rattle.model.specs.Answers.{Reply, accepted, refused, andThen, when, given, reply, settle}
 use Rattle.model.proofs.Opens.{when-true, when-false}
-use Rattle.model.specs.declared.Refusal.{Refusal}
-use Rattle.model.specs.declared.Refusal.the-variants.{BadImage, NotMfs, BadCount, BadPath, NotFound, WrongKind, Exists, BadName, NoRoom, TooLarge, Stale, BadSeek, EmptyWrite, NotEmpty, TooDeep, ShortWork, Damaged, LostDir}
-
-pub number-some : (r : Refusal) → 1 ≤ refusalNumber r
-number-some BadImage = omega arith
-number-some NotMfs = omega arith
-number-some BadCount = omega arith
-number-some BadPath = omega arith
-number-some NotFound = omega arith
-number-some WrongKind = omega arith
-number-some Exists = omega arith
-number-some BadName = omega arith
-number-some NoRoom = omega arith
-number-some TooLarge = omega arith
-number-some Stale = omega arith
-number-some BadSeek = omega arith
-number-some EmptyWrite = omega arith
-number-some NotEmpty = omega arith
-number-some TooDeep = omega arith
-number-some ShortWork = omega arith
-number-some Damaged = omega arith
-number-some LostDir = omega arith
 
 -- a refusal is no answer; an answer is one value, a refusal one number
 pub not-accepted : {A : Type 0} (k : ℕ) (a : A) → refused k ≡ accepted a → ⊥
@@ -46,7 +22,7 @@ pub reply-none : {A : Type 0} {k : ℕ} (a : A) → k ≡ 0 → reply k a ≡ ac
 unfolding reply
 reply-none {A} a e = ap (λ (z : ℕ). reply z a) e
 
-reply-suc : {A : Type 0} (k : ℕ) (a : A) → 1 ≤ k → reply k a ≡ refused k
+pub reply-suc : {A : Type 0} (k : ℕ) (a : A) → 1 ≤ k → reply k a ≡ refused k
 unfolding reply
 reply-suc zero a h = absurd (omega arith)
 reply-suc (suc k) a h = refl
@@ -55,17 +31,10 @@ pub settle-none : {A : Type 0} {k : ℕ} (x y : A) → k ≡ 0 → settle k x y 
 unfolding settle
 settle-none x y e = ap (λ (z : ℕ). settle z x y) e
 
-settle-suc : {A : Type 0} (k : ℕ) (x y : A) → 1 ≤ k → settle k x y ≡ y
+pub settle-suc : {A : Type 0} (k : ℕ) (x y : A) → 1 ≤ k → settle k x y ≡ y
 unfolding settle
 settle-suc zero x y h = absurd (omega arith)
 settle-suc (suc k) x y h = refl
-
--- by the refusal
-pub reply-refused : {A : Type 0} {k : ℕ} (a : A) (r : Refusal) → k ≡ refusalNumber r → reply k a ≡ refused (refusalNumber r)
-reply-refused {A} {k} a r e = rw e (reply-suc (refusalNumber r) a (number-some r))
-
-pub settle-refused : {A : Type 0} {k : ℕ} (x y : A) (r : Refusal) → k ≡ refusalNumber r → settle k x y ≡ y
-settle-refused {A} {k} x y r e = rw e (settle-suc (refusalNumber r) x y (number-some r))
 
 -- what is accepted was not refused
 pub reply-zero : {A : Type 0} (k : ℕ) (a b : A) → reply k a ≡ accepted b → k ≡ 0
@@ -131,34 +100,3 @@ pub first-refused : {A B : Type 0} (r : Reply A) (f : A → B) (j : ℕ) → and
 unfolding andThen
 first-refused (accepted a) f j e = absurd (not-accepted j (f a) (sym e))
 first-refused (refused k) f j e = ap refused (refused-one k j e)
-
--- the refusals in the order of their numbers: each number is one refusal's
-inOrder : List Refusal
-inOrder = BadImage ∷ NotMfs ∷ BadCount ∷ BadPath ∷ NotFound ∷ WrongKind ∷ Exists ∷ BadName ∷ NoRoom ∷ TooLarge ∷ Stale ∷ BadSeek ∷ EmptyWrite ∷ NotEmpty ∷ TooDeep ∷ ShortWork ∷ Damaged ∷ LostDir ∷ []
-
-back : ℕ → Refusal
-back k = getD inOrder (k - 1) LostDir
-
-back-number : (r : Refusal) → back (refusalNumber r) ≡ r
-unfolding back inOrder
-back-number BadImage = refl
-back-number NotMfs = refl
-back-number BadCount = refl
-back-number BadPath = refl
-back-number NotFound = refl
-back-number WrongKind = refl
-back-number Exists = refl
-back-number BadName = refl
-back-number NoRoom = refl
-back-number TooLarge = refl
-back-number Stale = refl
-back-number BadSeek = refl
-back-number EmptyWrite = refl
-back-number NotEmpty = refl
-back-number TooDeep = refl
-back-number ShortWork = refl
-back-number Damaged = refl
-back-number LostDir = refl
-
-pub number-one : (r q : Refusal) → refusalNumber r ≡ refusalNumber q → r ≡ q
-number-one r q e = sym (back-number r) ∙ ap back e ∙ back-number q

@@ -3,29 +3,6 @@ use mathlib.Core.Bool.{Bool, true, false}
 use mathlib.Core.List.{List, [], _∷_}
 use Prim.Native.Nat.{ℕ, zero, suc}
 use Rattle.wire.specs.Pick.{pick}
-use Rattle.model.specs.declared.Refusal.{Refusal}
-use Rattle.model.specs.declared.Refusal.the-variants.{BadImage, NotMfs, BadCount, BadPath, NotFound, WrongKind, Exists, BadName, NoRoom, TooLarge, Stale, BadSeek, EmptyWrite, NotEmpty, TooDeep, ShortWork, Damaged, LostDir}
-
--- 01's table "Refusal numbers".
-abbrev pub refusalNumber : Refusal → ℕ
-refusalNumber BadImage = 1
-refusalNumber NotMfs = 2
-refusalNumber BadCount = 3
-refusalNumber BadPath = 4
-refusalNumber NotFound = 5
-refusalNumber WrongKind = 6
-refusalNumber Exists = 7
-refusalNumber BadName = 8
-refusalNumber NoRoom = 9
-refusalNumber TooLarge = 10
-refusalNumber Stale = 11
-refusalNumber BadSeek = 12
-refusalNumber EmptyWrite = 13
-refusalNumber NotEmpty = 14
-refusalNumber TooDeep = 15
-refusalNumber ShortWork = 16
-refusalNumber Damaged = 17
-refusalNumber LostDir = 18
 
 -- An answer: what the call gives, or the number of its refusal.
 pub data Reply (A : Type 0) : Type 0 where

@@ -180,14 +180,14 @@ pub record Makes (g : Geo) (d : ℕ) (u : Tree d) (left : List Piece) (I J : Lis
 -- ---- the accepted calls, each with what it asks of the tree (the other side of its refusals)
 
 -- Create a file: not 8, 5/6, 7, 9.
-pub record CreatesFile (g : Geo) (d : ℕ) (p : List Name) (n : Name) (now : ℕ) (t : Tree d) (I J : List ℕ) : Type 0 where
+pub record TreeCreatesFile (g : Geo) (d : ℕ) (p : List Name) (n : Name) (now : ℕ) (t : Tree d) (I J : List ℕ) : Type 0 where
   pub vacant : Vacant d p n t
   pub name : GoodName n
   pub room : toCreate (entryRoom g) n (vacant .dir .1) ≤ length (freeBlocks g d t)
   pub makes : Makes g d (created d (entryRoom g) p n now (dirBlock (freeBlocks g d t)) 0 (emptyCell g (entryBlock g n (vacant .dir .1) (freeBlocks g d t)) ∷ []) t) [] I J
 
 -- Create a directory: not 8, 5/6, 15, 7, 9.
-pub record CreatesDir (g : Geo) (d : ℕ) (p : List Name) (n : Name) (now : ℕ) (t : Tree d) (I J : List ℕ) : Type 0 where
+pub record TreeCreatesDir (g : Geo) (d : ℕ) (p : List Name) (n : Name) (now : ℕ) (t : Tree d) (I J : List ℕ) : Type 0 where
   pub vacant : Vacant d p n t
   pub name : GoodName n
   pub shallow : 1 ≤ vacant .dir .0
@@ -195,13 +195,13 @@ pub record CreatesDir (g : Geo) (d : ℕ) (p : List Name) (n : Name) (now : ℕ)
   pub makes : Makes g d (createdDir d (entryRoom g) p n now (dirBlock (freeBlocks g d t)) (entryBlock g n (vacant .dir .1) (freeBlocks g d t)) t) [] I J
 
 -- Delete: not 5/6, 14.
-pub record Deletes (g : Geo) (d : ℕ) (p : List Name) (n : Name) (now : ℕ) (t : Tree d) (I J : List ℕ) : Type 0 where
+pub record TreeDeletes (g : Geo) (d : ℕ) (p : List Name) (n : Name) (now : ℕ) (t : Tree d) (I J : List ℕ) : Type 0 where
   pub occupied : Occupied d p n t
   pub bare : Bare (occupied .dir .0) (occupied .entry .node)
   pub makes : Makes g d (deleted d p n now t) (leftover (blockSize g) n (occupied .dir .1)) I J
 
 -- Write: not 13, 11 (the file is there, and the position in it), 10, 9.
-pub record Writes (g : Geo) (d : ℕ) (p : List Name) (n : Name) (now c : ℕ) (buf : List ℕ) (t : Tree d) (I J : List ℕ) : Type 0 where
+pub record TreeWrites (g : Geo) (d : ℕ) (p : List Name) (n : Name) (now c : ℕ) (buf : List ℕ) (t : Tree d) (I J : List ℕ) : Type 0 where
   pub size : ℕ
   pub time : ℕ
   pub cells : List Cell

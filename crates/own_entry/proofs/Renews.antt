@@ -28,8 +28,8 @@ use Rattle.dir_entry.specs.Entry.{placeAt}
 use Rattle.read_dir.specs.declared.Summed.{Summed}
 use Rattle.read_dir.specs.Walk.{walk}
 use Rattle.read_dir.specs.Finds.{sumFrom}
-use Rattle.tree_walk.proofs.Parts.{Part}
-use Rattle.tree_walk.proofs.Walks.{part-sum}
+use Rattle.thm_walk.proofs.Parts.{Part}
+use Rattle.thm_walk.proofs.Walks.{part-sum}
 use Rattle.own_entry.specs.declared.Own.{Own}
 use Rattle.own_entry.specs.declared.Own.the-variants.{Root, At}
 use Rattle.own_entry.specs.Own.{ownRenewed, ownSummed, sumRenewed, OwnOf}

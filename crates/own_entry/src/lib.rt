@@ -1,5 +1,4 @@
 // A directory's own entry, which stands in the directory above it: its size and time are stored here, and nowhere else.
-// May use: wire, block, model, super_block, dir_entry, read_dir; the proofs also bits, bitmap_block, tree_walk.
 use block::Addr;
 use dir_entry::DirEntry;
 use read_dir::Place;

@@ -1,6 +1,5 @@
 // Paths: the full path of a call, its directory part and its last name as places in the bytes, and the pieces of a directory part.
 // Everything is tested before the first byte is written, so a refusal leaves the buffer as it was.
-// May use: wire, model.
 ghost use mathlib.Core.Path.{_≡_};
 ghost use mathlib.Core.Bool.{false, not, _||_};
 ghost use mathlib.Core.List.{[], _∷_, _++_};

@@ -2,7 +2,7 @@
 use mathlib.Core.Path.{_≡_, refl}
 use mathlib.Core.Logic.{_⊎_, inl, inr}
 use Prim.Native.Nat.{ℕ}
-use Rattle.model.specs.declared.Refusal.{Refusal}
+use Rattle.limits.specs.declared.Refusal.{Refusal}
 use Rattle.file.specs.declared.Counted.{Counted}
 use Rattle.file.specs.declared.Counted.the-variants as counted
 use Rattle.mfs.specs.declared.Answer.{Answer}

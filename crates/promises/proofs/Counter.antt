@@ -9,7 +9,7 @@ use native.Mathlib.Omega.{arith}
 use lib.ListN.{length}
 use Rattle.wire.proofs.Picks.{not-both}
 use Rattle.model.specs.Answers.{accepted, refused, andThen, given}
-use Rattle.model.specs.declared.Refusal.{Refusal}
+use Rattle.limits.specs.declared.Refusal.{Refusal}
 use Rattle.model.specs.Tree.{Name, find}
 use Rattle.model.specs.Geometry.{geoAt}
 use Rattle.model.specs.Volume.{WellFormed, maxDepth}
@@ -27,7 +27,7 @@ use Rattle.file.proofs.Targets.{accepted-is, stale-is}
 use Rattle.mfs.specs.Checking.{checkRefusal}
 use Rattle.mfs.specs.Changing.{Writes, writeReply}
 use Rattle.mfs.proofs.Paths.{given-none}
-use Rattle.on_tree.proofs.Changing.{volume-at, write-passed, write-before, write-kept}
+use Rattle.thm_calls.proofs.Changing.{volume-at, write-passed, write-before, write-kept}
 use Rattle.promises.specs.Counter.{StaleAtEntry}
 use Rattle.promises.proofs.Answered.{counted-is}
 

@@ -8,7 +8,7 @@ use Rattle.model.specs.Tree.{Name, Cell}
 use Rattle.model.specs.Geometry.{blockSize, geoAt}
 use Rattle.model.specs.Volume.{WellFormed, maxDepth}
 use Rattle.model.specs.Calls.{fileAt, DirAt, freeBlocks, contents, rewrite}
-use Rattle.model.specs.Calls.{Writes as TreeWrite}
+use Rattle.model.specs.Calls.{TreeWrites}
 use Rattle.model.proofs.Contents.{file-written}
 use Rattle.model.proofs.Paths.{laid-path}
 use Rattle.file.specs.declared.Handle.{Handle}
@@ -17,8 +17,8 @@ use Rattle.file.specs.declared.Counted.the-variants as counted
 use Rattle.file.specs.File.{nameOf}
 use Rattle.file.proofs.Targets.{accepted-is}
 use Rattle.mfs.specs.Changing.{Writes}
-use Rattle.on_tree.proofs.Changing.{volume-at, tree-after, write-passed, write-tree}
-use Rattle.on_tree.proofs.ReadsBack.{bytes-written}
+use Rattle.thm_calls.proofs.Changing.{volume-at, tree-after, write-passed, write-tree}
+use Rattle.thm_calls.proofs.ReadsBack.{bytes-written}
 use Rattle.promises.proofs.Honest.{file-of}
 
 -- After an accepted write the handle's file has the position and the buffer's length as its size, the call's time, and the old bytes before the position, then
@@ -32,8 +32,8 @@ write-leaves K I W h buf now o J Z c k e clock w v q d z t cs f =
     let x = write-tree K I W h buf now o J Z c k w clock e in
     let same : x .0 ≡ q
     = laid-path (geoAt K I) I maxDepth (w .tree) _ (x .0) q (x .1 .dir) (d .dir) (volume-at K I w .laid) (x .1 .there) (d .there) (x .1 .starts ∙ sym (d .starts)) in
-    let m : TreeWrite (geoAt K I) maxDepth q (nameOf h) now (h .position) buf (w .tree) I J
-    = subst (λ (y : List Name). TreeWrite (geoAt K I) maxDepth y (nameOf h) now (h .position) buf (w .tree) I J) same (x .2) in
+    let m : TreeWrites (geoAt K I) maxDepth q (nameOf h) now (h .position) buf (w .tree) I J
+    = subst (λ (y : List Name). TreeWrites (geoAt K I) maxDepth y (nameOf h) now (h .position) buf (w .tree) I J) same (x .2) in
     let p = write-passed K I W h buf now o J Z c k e in
     let on = accepted-is (geoAt K I) I (w .tree) (volume-at K I w) h (length buf) .0 (p .1) (p .2) .on-file in
     let old : contents (m .size) (m .cells) ≡ contents z cs

@@ -7,14 +7,15 @@ use mathlib.Core.List.{List, [], _∷_}
 use Prim.Native.Nat.{ℕ, _≤_}
 use lib.ListN.{length}
 use Rattle.wire.specs.Pick.{same}
-use Rattle.model.specs.Answers.{Reply, accepted, refused, refusalNumber, andThen}
+use Rattle.model.specs.Answers.{Reply, accepted, refused, andThen}
+use Rattle.limits.specs.Refusals.{refusalNumber}
 use Rattle.model.specs.Tree.{Name, Cell, Some}
 use Rattle.model.specs.Render.{blocksAt}
 use Rattle.model.specs.Geometry.{blockSize, dataAt, geoAt}
 use Rattle.model.specs.Volume.{WellFormed, maxDepth}
 use Rattle.model.specs.Calls.{Vacant, fileAt, DirAt}
 use Rattle.model.specs.Steps.{Bytes}
-use Rattle.tally.specs.Tally.{markLong}
+use Rattle.check_bitmap.specs.Tally.{markLong}
 use Rattle.read_dir.specs.declared.Found.{Found}
 use Rattle.read_dir.specs.declared.Found.the-variants as found
 use Rattle.read_dir.specs.Walk.{walk}
@@ -22,11 +23,11 @@ use Rattle.read_dir.specs.Finds.{findIn}
 use Rattle.path.specs.Path.{slash, realPath, badPath}
 use Rattle.dir.specs.Resolve.{onName}
 use Rattle.model.proofs.Replies.{and-then-ok, not-accepted, first-refused}
-use Rattle.dir_tree.specs.Held.{HeldAt}
-use Rattle.dir_tree.proofs.Finds.{find-missing}
-use Rattle.dir_tree.proofs.Holding.{hold-is, hold-some}
-use Rattle.deletes.specs.Deleting.{Doomed, onPlaced, doomedAt, doomedIn, doomedOf, deletedOn}
-use Rattle.deletes.proofs.OnVolume.{bare-accepted, full-refused, refused-full}
+use Rattle.thm_path.specs.Held.{HeldAt}
+use Rattle.thm_path.proofs.Finds.{find-missing}
+use Rattle.thm_path.proofs.Holding.{hold-is, hold-some}
+use Rattle.delete.specs.Deleting.{Doomed, onPlaced, doomedAt, doomedIn, doomedOf, deletedOn}
+use Rattle.delete.proofs.OnVolume.{bare-accepted, full-refused, refused-full}
 use Rattle.file.specs.declared.Handle.{Handle}
 use Rattle.mfs.specs.declared.Answer.{Answer}
 use Rattle.mfs.specs.declared.Answer.the-variants as answer
@@ -36,10 +37,10 @@ use Rattle.mfs.specs.Says.{says, onAnswer}
 use Rattle.mfs.specs.Reading.{handleFor, openSays, Opens, infoSays, Informs}
 use Rattle.mfs.specs.Changing.{changeCall, Deletes}
 use Rattle.mfs.proofs.Paths.{given-none}
-use Rattle.on_tree.specs.Handles.{HandleOf}
-use Rattle.on_tree.specs.Named.{wayOf, lastOf, headAt}
-use Rattle.on_tree.proofs.Calls.{open-none, open-file, open-handle, info-none}
-use Rattle.on_tree.proofs.Changing.{volume-at}
+use Rattle.thm_calls.specs.Handles.{HandleOf}
+use Rattle.thm_calls.specs.Named.{wayOf, lastOf, headAt}
+use Rattle.thm_calls.proofs.Calls.{open-none, open-file, open-handle, info-none}
+use Rattle.thm_calls.proofs.Changing.{volume-at}
 use Rattle.promises.specs.Honest.{Deletable, HasEntries}
 use Rattle.promises.proofs.Files.{file-there}
 use Rattle.promises.proofs.Honest.{refused-then, accepted-then, on-success, says-success, change-passes}

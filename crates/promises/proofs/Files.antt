@@ -17,7 +17,7 @@ use Rattle.model.proofs.Demand.{shown-near}
 use Rattle.model.proofs.Full.{good-lookup, Whole, whole-cells}
 use Rattle.model.proofs.Counts.{ats-cells}
 use Rattle.model.proofs.Lists.{not-some, then-some}
-use Rattle.tree_walk.proofs.Parts.{laid-part, part-find, stored-lookup}
+use Rattle.thm_walk.proofs.Parts.{laid-part, part-find, stored-lookup}
 use Rattle.promises.specs.Counter.{deviceOf, deviceAt}
 use Rattle.promises.proofs.Others.{readAt, read-there}
 

@@ -17,8 +17,8 @@ use Rattle.model.proofs.Reached.{named-entries}
 use Rattle.mfs.specs.declared.Answer.{Answer}
 use Rattle.mfs.specs.declared.Answer.the-variants as answer
 use Rattle.mfs.specs.Changing.{Deletes}
-use Rattle.on_tree.specs.Named.{wayOf, lastOf}
-use Rattle.on_tree.proofs.Changing.{volume-at, tree-after, delete-tree}
+use Rattle.thm_calls.specs.Named.{wayOf, lastOf}
+use Rattle.thm_calls.proofs.Changing.{volume-at, tree-after, delete-tree}
 use Rattle.promises.proofs.Lookups.{delete-entries}
 
 module _ {X : Type 0} (n : Name) where

@@ -11,28 +11,29 @@ use lib.ListN.{length, take, drop}
 use borrow.Author.Tests.{le-ltb, ne-eqb}
 use Rattle.wire.specs.Be.{splice}
 use Rattle.wire.proofs.Picks.{either, not-both}
-use Rattle.model.specs.Answers.{Reply, accepted, refused, refusalNumber, andThen, when, given}
+use Rattle.model.specs.Answers.{Reply, accepted, refused, andThen, when, given}
+use Rattle.limits.specs.Refusals.{refusalNumber}
 use Rattle.model.proofs.Replies.{given-refused, not-accepted, first-refused}
 use Rattle.model.specs.Tree.{Name, Cell, Entry, Tree, inside, Some, find}
 use Rattle.model.specs.Geometry.{Geo, geoAt}
 use Rattle.model.specs.Volume.{WellFormed, maxDepth}
 use Rattle.model.specs.Calls.{fileOf, fileAt, DirAt, freeBlocks, fileEntry, contents}
-use Rattle.model.specs.Calls.{Writes as TreeWrite}
+use Rattle.model.specs.Calls.{TreeWrites}
 use Rattle.model.specs.Steps.{Bytes}
 use Rattle.model.proofs.Lists.{then-some}
 use Rattle.model.proofs.OneVolume.{well-formed-opens}
 use Rattle.model.proofs.Opens.{passes, when-true, when-false, first-of-none, first-of-one, first-of-tail}
 use Rattle.model.proofs.Paths.{laid-path}
-use Rattle.tally.specs.Tally.{markLong}
+use Rattle.check_bitmap.specs.Tally.{markLong}
 use Rattle.dir_entry.specs.declared.Kind.{Kind}
 use Rattle.dir_entry.specs.declared.Kind.the-variants as kind
 use Rattle.dir_entry.specs.Entry.{isDir}
-use Rattle.survey.proofs.Wholes.{whole-complete}
+use Rattle.check_volume.proofs.Wholes.{whole-complete}
 use Rattle.path.specs.Path.{realPath, badPath}
-use Rattle.creates.specs.Creating.{Site, Fresh, badName, siteOf, freshOf, createdOn}
-use Rattle.creates.specs.OnTree.{treeRefusal}
-use Rattle.creates.proofs.Trees.{tree-full}
-use Rattle.creates.proofs.Trees.{answer-is as site-answer, answer-none as site-none}
+use Rattle.create.specs.Creating.{Site, Fresh, badName, siteOf, freshOf, createdOn}
+use Rattle.create.specs.OnTree.{treeRefusal}
+use Rattle.create.proofs.Trees.{tree-full}
+use Rattle.create.proofs.Trees.{answer-is as site-answer, answer-none as site-none}
 use Rattle.file.specs.declared.Handle.{Handle}
 use Rattle.file.specs.declared.SeekFrom.the-variants.{Start}
 use Rattle.file.specs.declared.Outcome.the-variants as outcome
@@ -55,9 +56,9 @@ use Rattle.mfs.specs.Reading.{openSays, Reads}
 use Rattle.mfs.specs.Checking.{checkCall, checkRefusal}
 use Rattle.mfs.specs.Changing.{changeCall, createReply, CreatesFile, CreatesDir, Writes, writeReply}
 use Rattle.mfs.proofs.Paths.{given-none}
-use Rattle.on_tree.specs.Named.{wayOf, lastOf}
-use Rattle.on_tree.proofs.Changing.{volume-at, write-tree}
-use Rattle.on_tree.proofs.ReadsBack.{write-seek, write-read}
+use Rattle.thm_calls.specs.Named.{wayOf, lastOf}
+use Rattle.thm_calls.proofs.Changing.{volume-at, write-tree}
+use Rattle.thm_calls.proofs.ReadsBack.{write-seek, write-read}
 use Rattle.promises.proofs.Files.{file-at}
 use Rattle.promises.specs.Honest.{CreateFits, CreateFull}
 
@@ -256,7 +257,7 @@ module _ (K : ℕ) (I W : List ℕ) (b : Bytes I) (w : WellFormed K I) (long : m
 -- ---- "the accepted write and read": what is written is read
 
 -- the file that a write is on
-pub file-of : (g : Geo) (p : List Name) (n : Name) (now c : ℕ) (buf : List ℕ) (t : Tree maxDepth) (I J : List ℕ) (m : TreeWrite g maxDepth p n now c buf t I J)
+pub file-of : (g : Geo) (p : List Name) (n : Name) (now c : ℕ) (buf : List ℕ) (t : Tree maxDepth) (I J : List ℕ) (m : TreeWrites g maxDepth p n now c buf t I J)
     → fileAt maxDepth p n t ≡ some (m .size, m .time, m .cells)
 unfolding fileEntry fileOf
 file-of g p n now c buf t I J m =
@@ -277,8 +278,8 @@ module _ (K : ℕ) (I W : List ℕ) (h : Handle) (buf : List ℕ) (now : ℕ) (o
       let x = write-tree K I W h buf now o J Z c k w clock e in
       let same : x .0 ≡ q
       = laid-path (geoAt K I) I maxDepth (w .tree) _ (x .0) q (x .1 .dir) (d .dir) (volume-at K I w .laid) (x .1 .there) (d .there) (x .1 .starts ∙ sym (d .starts)) in
-      let m : TreeWrite (geoAt K I) maxDepth q (nameOf h) now (h .position) buf (w .tree) I J
-      = subst (λ (y : List Name). TreeWrite (geoAt K I) maxDepth y (nameOf h) now (h .position) buf (w .tree) I J) same (x .2) in
+      let m : TreeWrites (geoAt K I) maxDepth q (nameOf h) now (h .position) buf (w .tree) I J
+      = subst (λ (y : List Name). TreeWrites (geoAt K I) maxDepth y (nameOf h) now (h .position) buf (w .tree) I J) same (x .2) in
       let y = write-seek K I W h buf now o J Z c k e clock name w q d m i inside s a in
       let v = write-read K I W h buf now o J Z c k e clock name w q d m i inside rbuf out r (subst (λ (g : Handle). Reads K J g rbuf out r) (y .1) b) in
       let old : contents (m .size) (m .cells) ≡ contents z cs

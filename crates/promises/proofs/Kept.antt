@@ -9,13 +9,13 @@ use Rattle.model.specs.Tree.{Name, Cell, Node, sub, Entry, Below, Tree, called,
 use Rattle.model.specs.Geometry.{blockSize, geoAt}
 use Rattle.model.specs.Volume.{WellFormed, maxDepth}
 use Rattle.model.specs.Calls.{Vacant, fileAt, DirAt, fileEntry, created, dirAdded, createdDir, deleted, refiled, rewritten}
-use Rattle.model.specs.Calls.{Deletes as TreeDelete, Writes as TreeWrite}
+use Rattle.model.specs.Calls.{TreeDeletes, TreeWrites}
 use Rattle.model.proofs.Dirs.{lookup-change}
 use Rattle.model.proofs.Edits.{refiled-name}
 use Rattle.model.proofs.Full.{good-find}
 use Rattle.model.proofs.Lists.{not-some}
 use Rattle.model.proofs.Others.{lookup-other}
-use Rattle.dir_tree.proofs.Resolves.{absent-none}
+use Rattle.thm_path.proofs.Resolves.{absent-none}
 use Rattle.file.specs.declared.Handle.{Handle}
 use Rattle.file.specs.declared.Counted.the-variants as counted
 use Rattle.file.specs.declared.WriteOut.{WriteOut}
@@ -24,8 +24,8 @@ use Rattle.mfs.specs.declared.Answer.{Answer}
 use Rattle.mfs.specs.declared.Answer.the-variants as answer
 use Rattle.mfs.specs.declared.OpenOut.{OpenOut}
 use Rattle.mfs.specs.Changing.{CreatesFile, CreatesDir, Deletes, Writes}
-use Rattle.on_tree.specs.Named.{wayOf, lastOf}
-use Rattle.on_tree.proofs.Changing.{volume-at, tree-after, create-file-tree, create-dir-tree, delete-tree, write-tree}
+use Rattle.thm_calls.specs.Named.{wayOf, lastOf}
+use Rattle.thm_calls.proofs.Changing.{volume-at, tree-after, create-file-tree, create-dir-tree, delete-tree, write-tree}
 use Rattle.promises.specs.Sequence.{Leads}
 use Rattle.promises.specs.Counter.{deviceAt, Untouched, Another}
 use Rattle.promises.proofs.Files.{asFile, asDevice, file-is, device-is, not-file, not-device, cells-shown, cells-same}
@@ -95,7 +95,7 @@ module _ (K : ℕ) (I J : List ℕ) (w : WellFormed K I) (v : WellFormed K J) (q
 -- a write
 module _ (K : ℕ) (I W : List ℕ) (h : Handle) (buf : List ℕ) (now : ℕ) (o : WriteOut) (J Z : List ℕ) (c : Writes K I W h buf now o J Z) (k : ℕ)
     (e : o .answer ≡ counted.Bytes k) (clock : now < 2 ^ 64) (w : WellFormed K I) (v : WellFormed K J) (q : List Name) (m : Name) where
-  write-local : (p : List Name) (z : ℕ) (cs : List Cell) → TreeWrite (geoAt K I) maxDepth p (nameOf h) now (h .position) buf (w .tree) I J
+  write-local : (p : List Name) (z : ℕ) (cs : List Cell) → TreeWrites (geoAt K I) maxDepth p (nameOf h) now (h .position) buf (w .tree) I J
       → Local p (nameOf h) (w .tree) (λ _ bs. change (nameOf h) (λ x. refiled now z cs (x .name) (x .time) (x .node)) bs)
   unfolding fileEntry refiled
   write-local p z cs a =
@@ -180,7 +180,7 @@ module _ (K : ℕ) (I W cwd p : List ℕ) (now : ℕ) where
 
   module _ (r : Answer) (J Z : List ℕ) (c : Deletes K I W cwd p now r J Z) (e : r ≡ answer.Success) (clock : now < 2 ^ 64)
       (w : WellFormed K I) (v : WellFormed K J) (q : List Name) (m : Name) where
-    delete-local : TreeDelete (geoAt K I) maxDepth (wayOf cwd p) (lastOf cwd p) now (w .tree) I J → Local (wayOf cwd p) (lastOf cwd p) (w .tree) (λ _ bs. delete (lastOf cwd p) bs)
+    delete-local : TreeDeletes (geoAt K I) maxDepth (wayOf cwd p) (lastOf cwd p) now (w .tree) I J → Local (wayOf cwd p) (lastOf cwd p) (w .tree) (λ _ bs. delete (lastOf cwd p) bs)
     delete-local a =
         let n : Name = lastOf cwd p in
         let s : Some = a .occupied .dir in

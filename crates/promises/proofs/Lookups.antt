@@ -11,7 +11,7 @@ use Rattle.wire.proofs.Picks.{either, not-both, pick-true, pick-false, same-eq,
 use Rattle.model.specs.Tree.{Name, Entry, Block, any, first, lessFirst, entriesOf, called, holds, lookup, used, weight, Absent, fill, insert, unlessBare, deleteLater, delete}
 use Rattle.model.proofs.Lists.{not-some, any-here, any-there, first-here, first-there, lessFirst-here, lessFirst-there}
 use Rattle.model.proofs.Reached.{lookup-entries}
-use Rattle.dir_tree.proofs.Resolves.{absent-none}
+use Rattle.thm_path.proofs.Resolves.{absent-none}
 
 -- ---- lists
 

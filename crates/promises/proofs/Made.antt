@@ -22,17 +22,17 @@ use Rattle.model.proofs.Opens.{when-none, first-of-zero, first-of-one}
 use Rattle.dir_entry.specs.declared.Kind.the-variants as kind
 use Rattle.path.specs.Path.{realPath, badPath}
 use Rattle.path.proofs.Laws.{real-bytes}
-use Rattle.creates.specs.Creating.{Fresh, siteOf, freshOf, createdOn}
-use Rattle.creates.proofs.Trees.{created-block}
-use Rattle.dir_tree.proofs.Resolves.{absent-none}
+use Rattle.create.specs.Creating.{Fresh, siteOf, freshOf, createdOn}
+use Rattle.create.proofs.Trees.{created-block}
+use Rattle.thm_path.proofs.Resolves.{absent-none}
 use Rattle.mfs.specs.declared.Answer.{Answer}
 use Rattle.mfs.specs.declared.Answer.the-variants as answer
 use Rattle.mfs.specs.declared.OpenOut.{OpenOut}
 use Rattle.mfs.specs.Says.{onAnswer}
 use Rattle.mfs.specs.Changing.{changeCall, createReply, freshHandle, CreatesFile, CreatesDir}
-use Rattle.on_tree.specs.Handles.{HandleOf}
-use Rattle.on_tree.specs.Named.{wayOf, lastOf}
-use Rattle.on_tree.proofs.Changing.{volume-at, tree-after, create-file-tree, create-dir-tree}
+use Rattle.thm_calls.specs.Handles.{HandleOf}
+use Rattle.thm_calls.specs.Named.{wayOf, lastOf}
+use Rattle.thm_calls.proofs.Changing.{volume-at, tree-after, create-file-tree, create-dir-tree}
 use Rattle.promises.proofs.Files.{file-at}
 use Rattle.promises.proofs.Lookups.{called-own, lookup-inserted}
 use Rattle.promises.proofs.Path.{created-there}

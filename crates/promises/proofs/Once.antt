@@ -5,7 +5,8 @@ use Prim.Native.Nat.{ℕ, zero, suc}
 use native.Mathlib.Omega.{arith}
 use lib.ListN.{length}
 use Rattle.wire.specs.Be.{splice}
-use Rattle.model.specs.Answers.{Reply, refused, refusalNumber, reply, settle}
+use Rattle.model.specs.Answers.{Reply, refused, reply, settle}
+use Rattle.limits.specs.Refusals.{refusalNumber}
 use Rattle.file.specs.Post.{MovedIs, CountedIs}
 use Rattle.mfs.specs.declared.Answer.{Answer}
 use Rattle.mfs.specs.declared.Answer.the-variants as answer
@@ -16,7 +17,7 @@ use Rattle.file.specs.File.{bytesRead}
 use Rattle.path.specs.Path.{realPath}
 use Rattle.mfs.proofs.Outcomes.{format-one, usage-one, open-one, info-one, list-one, read-one, seek-one, create-file-one, create-dir-one, delete-one, write-one}
 use Rattle.mfs.proofs.Checked.{check-one}
-use Rattle.on_tree.proofs.Changing.{create-file-kept, create-dir-kept, delete-kept, write-kept}
+use Rattle.thm_calls.proofs.Changing.{create-file-kept, create-dir-kept, delete-kept, write-kept}
 use Rattle.promises.specs.Once.{OneOutcome, RefusalKeeps}
 
 -- DEMAND 1. Each call has one outcome.

@@ -3,13 +3,13 @@ use mathlib.Core.Path.{_≡_, refl, sym, ap, _∙_, subst}
 use mathlib.Core.Logic.{_⊎_, inl, inr}
 use mathlib.Core.List.{List, []}
 use Prim.Native.Nat.{ℕ, _^_, _<_}
-use Rattle.model.specs.declared.Refusal.{Refusal}
+use Rattle.limits.specs.declared.Refusal.{Refusal}
 use Rattle.model.specs.Tree.{Name, Cell, Tree, Packed, insert, change, delete, Edit, edit}
 use Rattle.model.specs.Render.{Piece, blocksAt}
 use Rattle.model.specs.Geometry.{Geo, blockSize, geoAt}
 use Rattle.model.specs.Volume.{WellFormed, maxDepth}
 use Rattle.model.specs.Calls.{Vacant, DirAt, fileEntry, created, deleted, refiled, rewritten, Makes}
-use Rattle.model.specs.Calls.{CreatesFile as TreeFile, Deletes as TreeDelete, Writes as TreeWrite}
+use Rattle.model.specs.Calls.{TreeCreatesFile, TreeDeletes, TreeWrites}
 use Rattle.model.specs.Steps.{Step, quiet, Run, Restored, Bytes}
 use Rattle.model.specs.Steps.{done as run-done, call as run-call}
 use Rattle.model.proofs.Alike.{change-at}
@@ -20,7 +20,7 @@ use Rattle.model.proofs.Inserts.{insert-at}
 use Rattle.model.proofs.Makes.{creates-file-step, deletes-step, writes-step}
 use Rattle.model.proofs.OneVolume.{well-formed-geo, well-formed-one}
 use Rattle.model.proofs.Paths.{laid-path}
-use Rattle.dir_delete.proofs.Removes.{delete-at}
+use Rattle.delete_store.proofs.Removes.{delete-at}
 use Rattle.file.specs.declared.Handle.{Handle}
 use Rattle.file.specs.declared.WriteOut.{WriteOut}
 use Rattle.file.specs.declared.Counted.the-variants as counted
@@ -29,8 +29,8 @@ use Rattle.mfs.specs.declared.Answer.{Answer}
 use Rattle.mfs.specs.declared.Answer.the-variants as answer
 use Rattle.mfs.specs.declared.OpenOut.{OpenOut}
 use Rattle.mfs.specs.Changing.{CreatesFile, Deletes, Writes}
-use Rattle.on_tree.specs.Named.{lastOf}
-use Rattle.on_tree.proofs.Changing.{volume-at, create-file-tree, create-file-kept, delete-tree, delete-kept, write-tree, write-kept}
+use Rattle.thm_calls.specs.Named.{lastOf}
+use Rattle.thm_calls.proofs.Changing.{volume-at, create-file-tree, create-file-kept, delete-tree, delete-kept, write-tree, write-kept}
 use Rattle.promises.proofs.Answered.{answer-is, counted-is}
 use Rattle.promises.specs.Sequence.{Leads, HandleAt, Call, creates, opens, reads, seeks, writes, deletes, Calls, done, call}
 
@@ -78,13 +78,13 @@ module _ (K a : ℕ) (p : List Name) (n : Name) (I J : List ℕ) (w : WellFormed
   packed : Packed (s .dir .1)
   packed = good-find (blockSize (geoAt K I)) maxDepth p (w .tree) (s .dir) (volume-at K I w .laid .good) (s .there) .packed
 
-  created-next : (now : ℕ) → TreeFile (geoAt K I) maxDepth p n now (w .tree) I J → Next K a p n I w J
+  created-next : (now : ℕ) → TreeCreatesFile (geoAt K I) maxDepth p n now (w .tree) I J → Next K a p n I w J
   created-next now c = made _ [] (c .makes) (created-there maxDepth a p (w .tree) s _ n now _ 0 _ packed) (creates-file-step (geoAt K I) maxDepth p n now (w .tree) I J c)
 
-  deleted-next : (now : ℕ) → TreeDelete (geoAt K I) maxDepth p n now (w .tree) I J → Next K a p n I w J
+  deleted-next : (now : ℕ) → TreeDeletes (geoAt K I) maxDepth p n now (w .tree) I J → Next K a p n I w J
   deleted-next now c = made _ _ (c .makes) (deleted-there maxDepth a p (w .tree) s n now) (deletes-step (geoAt K I) maxDepth p n now (w .tree) I J c)
 
-  written-next : (now c : ℕ) (buf : List ℕ) → TreeWrite (geoAt K I) maxDepth p n now c buf (w .tree) I J → Next K a p n I w J
+  written-next : (now c : ℕ) (buf : List ℕ) → TreeWrites (geoAt K I) maxDepth p n now c buf (w .tree) I J → Next K a p n I w J
   written-next now c buf m = made _ [] (m .makes) (rewritten-there maxDepth a p (w .tree) s n now _ _) (writes-step (geoAt K I) maxDepth p n now (w .tree) I J c buf m)
 
   -- the calls
@@ -95,7 +95,7 @@ module _ (K a : ℕ) (p : List Name) (n : Name) (I J : List ℕ) (w : WellFormed
       go (inl e) =
           let m = create-file-tree K I W cwd path now J Z o c w clock e in
           created-next now
-          (subst (λ (m : Name). TreeFile (geoAt K I) maxDepth p m now (w .tree) I J) (l .last) (subst (λ (q : List Name). TreeFile (geoAt K I) maxDepth q (lastOf cwd path) now (w .tree) I J) (l .way) m))
+          (subst (λ (m : Name). TreeCreatesFile (geoAt K I) maxDepth p m now (w .tree) I J) (l .last) (subst (λ (q : List Name). TreeCreatesFile (geoAt K I) maxDepth q (lastOf cwd path) now (w .tree) I J) (l .way) m))
       go (inr e) = stays (create-file-kept K I W cwd path now J Z o c (e .0) (e .1) .0)
 
   deletes-next : (cwd path W Z : List ℕ) (now : ℕ) (r : Answer) → Leads p n cwd path → now < 2 ^ 64 → Deletes K I W cwd path now r J Z → Next K a p n I w J
@@ -105,7 +105,7 @@ module _ (K a : ℕ) (p : List Name) (n : Name) (I J : List ℕ) (w : WellFormed
       go (inl e) =
           let m = delete-tree K I W cwd path now J Z r c w clock e in
           deleted-next now
-          (subst (λ (m : Name). TreeDelete (geoAt K I) maxDepth p m now (w .tree) I J) (l .last) (subst (λ (q : List Name). TreeDelete (geoAt K I) maxDepth q (lastOf cwd path) now (w .tree) I J) (l .way) m))
+          (subst (λ (m : Name). TreeDeletes (geoAt K I) maxDepth p m now (w .tree) I J) (l .last) (subst (λ (q : List Name). TreeDeletes (geoAt K I) maxDepth q (lastOf cwd path) now (w .tree) I J) (l .way) m))
       go (inr e) = stays (delete-kept K I W cwd path now J Z r c (e .0) (e .1))
 
   -- a directory's first address has one path
@@ -119,8 +119,8 @@ module _ (K a : ℕ) (p : List Name) (n : Name) (I J : List ℕ) (w : WellFormed
       go (inl e) =
           let m = write-tree K I W h buf now o J Z c (e .0) w clock (e .1) in
           written-next now (h .position) buf
-          (subst (λ (m : Name). TreeWrite (geoAt K I) maxDepth p m now (h .position) buf (w .tree) I J) (l .name)
-          (subst (λ (q : List Name). TreeWrite (geoAt K I) maxDepth q (nameOf h) now (h .position) buf (w .tree) I J) (path-of (h .dir .0) (m .0) (l .dir) (m .1)) (m .2)))
+          (subst (λ (m : Name). TreeWrites (geoAt K I) maxDepth p m now (h .position) buf (w .tree) I J) (l .name)
+          (subst (λ (q : List Name). TreeWrites (geoAt K I) maxDepth q (nameOf h) now (h .position) buf (w .tree) I J) (path-of (h .dir .0) (m .0) (l .dir) (m .1)) (m .2)))
       go (inr e) = stays (write-kept K I W h buf now o J Z c (e .0) (e .1) .0)
 
   next : Call K a p n I J → Next K a p n I w J

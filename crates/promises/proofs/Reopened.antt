@@ -23,10 +23,10 @@ use Rattle.file.specs.File.{staleFields, moved, readRefusal}
 use Rattle.file.specs.Post.{SoughtIs}
 use Rattle.mfs.specs.declared.OpenOut.{OpenOut}
 use Rattle.mfs.specs.Reading.{Opens, readCall, Reads}
-use Rattle.on_tree.specs.Handles.{HandleOf}
-use Rattle.on_tree.specs.Named.{wayOf, lastOf}
-use Rattle.on_tree.proofs.Calls.{read-file, read-bytes}
-use Rattle.on_tree.proofs.ReadsBack.{seek-inside, reads-given}
+use Rattle.thm_calls.specs.Handles.{HandleOf}
+use Rattle.thm_calls.specs.Named.{wayOf, lastOf}
+use Rattle.thm_calls.proofs.Calls.{read-file, read-bytes}
+use Rattle.thm_calls.proofs.ReadsBack.{seek-inside, reads-given}
 use Rattle.promises.proofs.Exact.{open-succeeds}
 use Rattle.promises.proofs.Files.{file-there}
 

@@ -9,7 +9,7 @@ use Rattle.model.specs.Geometry.{dataAt, geoAt, formatGeo}
 use Rattle.model.specs.Volume.{WellFormed, maxDepth}
 use Rattle.model.specs.Steps.{Bytes}
 use Rattle.model.proofs.OneVolume.{used-set}
-use Rattle.tally.specs.Tally.{markLong}
+use Rattle.check_bitmap.specs.Tally.{markLong}
 use Rattle.file.specs.declared.Handle.{Handle}
 use Rattle.file.specs.declared.Counted.the-variants as counted
 use Rattle.file.specs.declared.WriteOut.{WriteOut}
@@ -21,7 +21,7 @@ use Rattle.mfs.specs.Format.{Formats}
 use Rattle.mfs.specs.Checking.{Checks}
 use Rattle.mfs.specs.Changing.{CreatesFile, CreatesDir, Deletes, Writes}
 use Rattle.mfs.proofs.Formatted.{format-well-formed}
-use Rattle.on_tree.proofs.Changing.{volume-at, create-file-well, create-dir-well, delete-well, write-well}
+use Rattle.thm_calls.proofs.Changing.{volume-at, create-file-well, create-dir-well, delete-well, write-well}
 use Rattle.promises.specs.Promises.{UsedTrue}
 use Rattle.promises.proofs.Honest.{check-reached}
 

@@ -10,7 +10,7 @@ use Rattle.model.specs.Geometry.{Geo}
 use Rattle.model.specs.Calls.{Vacant, Occupied, freeBlocks, entryRoom, toCreate}
 use Rattle.dir_entry.specs.declared.Kind.{Kind}
 use Rattle.dir_entry.specs.declared.Kind.the-variants.{Dir}
-use Rattle.creates.specs.Creating.{badName}
+use Rattle.create.specs.Creating.{badName}
 
 -- A create of that kind at p, n gets none of 8, 5, 6, 15, 7: the name is one, and the path names nothing in an existing directory. For a new directory
 -- that one has a level left below it, so that it is not at depth 16;

@@ -16,7 +16,7 @@ use Rattle.model.specs.Geometry.{blockSize, dataAt, geoAt, setBits, usedCount}
 use Rattle.model.specs.Volume.{WellFormed, maxDepth}
 use Rattle.model.specs.Calls.{Vacant, Occupied, fileAt, DirAt, emptyCell, contents}
 use Rattle.model.specs.Steps.{Restored, Bytes}
-use Rattle.tally.specs.Tally.{markLong}
+use Rattle.check_bitmap.specs.Tally.{markLong}
 use Rattle.dir_entry.specs.declared.Kind.the-variants.{Dir, File}
 use Rattle.path.specs.Path.{slash, badPath}
 use Rattle.file.specs.declared.Handle.{Handle}
@@ -39,8 +39,8 @@ use Rattle.mfs.specs.Reading.{openSays, Opens, infoSays, Informs, Reads}
 use Rattle.mfs.specs.Format.{Formats}
 use Rattle.mfs.specs.Checking.{Checks, checkRefusal}
 use Rattle.mfs.specs.Changing.{CreatesFile, CreatesDir, Deletes, Writes}
-use Rattle.on_tree.specs.Handles.{HandleOf}
-use Rattle.on_tree.specs.Named.{wayOf, lastOf}
+use Rattle.thm_calls.specs.Handles.{HandleOf}
+use Rattle.thm_calls.specs.Named.{wayOf, lastOf}
 use Rattle.promises.specs.Sequence.{Leads, Calls}
 use Rattle.promises.specs.Counter.{Untouched, Another, StaleAtEntry}
 use Rattle.promises.specs.Honest.{CreateFits, CreateFull, Deletable, HasEntries}

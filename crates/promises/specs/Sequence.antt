@@ -14,7 +14,7 @@ use Rattle.mfs.specs.declared.Answer.{Answer}
 use Rattle.mfs.specs.declared.OpenOut.{OpenOut}
 use Rattle.mfs.specs.Reading.{Opens, Reads}
 use Rattle.mfs.specs.Changing.{CreatesFile, Deletes, Writes}
-use Rattle.on_tree.specs.Named.{wayOf, lastOf}
+use Rattle.thm_calls.specs.Named.{wayOf, lastOf}
 
 -- "any working directory and spelling that lead there": the path given has the directory names p and the last name n.
 pub record Leads (p : List Name) (n : Name) (cwd path : List ℕ) : Type 0 where

@@ -18,9 +18,9 @@ use Rattle.super_block.specs.declared.SuperBlock.{SuperBlock}
 use Rattle.super_block.specs.Super.{geoOf, Fit}
 use Rattle.dir_entry.specs.Shown.{kindIs, headOf}
 use Rattle.read_dir.specs.Walk.{Walk}
-use Rattle.tree_walk.specs.Shown.{itemsOf, walkOf}
-use Rattle.tree_walk.proofs.Parts.{Stored, Part, laid-part, stored-left, stored-right, stored-tail}
-use Rattle.tree_walk.proofs.Walks.{part-walk}
+use Rattle.thm_walk.specs.Shown.{itemsOf, walkOf}
+use Rattle.thm_walk.proofs.Parts.{Stored, Part, laid-part, stored-left, stored-right, stored-tail}
+use Rattle.thm_walk.proofs.Walks.{part-walk}
 use Rattle.reached.specs.Reach.{ifDir, onDir, anyIn, reaches, hasPath, OnlyPath}
 
 -- ---- is there a path

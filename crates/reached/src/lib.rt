@@ -1,6 +1,5 @@
 // Whether a block is the first of a directory that is reached from the root: what a write asks of its handle.
 // Walking a directory calls walking an entry, which calls back for a subdirectory; the depth falls.
-// May use: wire, block, model, super_block, dir_entry, read_dir, tree_walk.
 use block::Addr;
 use dir_entry::DirEntry;
 use dir_entry::Kind;

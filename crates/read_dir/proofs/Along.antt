@@ -16,7 +16,7 @@ use Rattle.super_block.specs.declared.SuperBlock.{SuperBlock}
 use Rattle.super_block.specs.Super.{Fit}
 use Rattle.super_block.proofs.Fits.{placed}
 use Rattle.read_dir.specs.Walk.{Walk, finished, damaged, walk}
-use Rattle.read_dir.specs.Cursor.{start, cursorWalk, onStep, StepIn, Lies, Stepped, count}
+use Rattle.read_dir.specs.Cursor.{start, cursorWalk, onStep, StepIn, Lies, Stepped, items}
 use Rattle.read_dir.specs.Finds.{findIn, sumFrom, recordOf, skip, listFrom, recordsFrom}
 use Rattle.read_dir.specs.declared.ReadDir.{ReadDir}
 use Rattle.read_dir.specs.declared.Place.{Place}
@@ -55,9 +55,9 @@ module _ (D n : ℕ) (I : List ℕ) (c : ReadDir) (m : Step) (w : Stepped 512 D 
   gave x g = w .walked ∙ ap (onStep 512 D n I) g
 
   -- fewer entries are left
-  pub step-less : (e : DirEntry) (p : Place) (d : ReadDir) → m ≡ step.Entry e p d → count (cursorWalk 512 D n I d) < count (cursorWalk 512 D n I c)
-  unfolding count
-  step-less e p d g = omega (arith, ap count (gave (step.Entry e p d) g))
+  pub step-less : (e : DirEntry) (p : Place) (d : ReadDir) → m ≡ step.Entry e p d → items (cursorWalk 512 D n I d) < items (cursorWalk 512 D n I c)
+  unfolding items
+  step-less e p d g = omega (arith, ap items (gave (step.Entry e p d) g))
 
   -- ---- lookup
 
@@ -154,10 +154,10 @@ module _ (D n : ℕ) (I : List ℕ) (c : ReadDir) (m : Step) (w : Stepped 512 D 
     unfolding listFrom
     list-bad g = lists step.Damaged g
 
-  module _ (k : ℕ) (e : DirEntry) (p : Place) (d : ReadDir) (h : k + count (cursorWalk 512 D n I c) < 2 ^ 32) (g : m ≡ step.Entry e p d) where
-    pub count-again : k + 1 + count (cursorWalk 512 D n I d) < 2 ^ 32
-    unfolding count
-    count-again = omega (arith, ap count (gave (step.Entry e p d) g))
+  module _ (k : ℕ) (e : DirEntry) (p : Place) (d : ReadDir) (h : k + items (cursorWalk 512 D n I c) < 2 ^ 32) (g : m ≡ step.Entry e p d) where
+    pub count-again : k + 1 + items (cursorWalk 512 D n I d) < 2 ^ 32
+    unfolding items
+    count-again = omega (arith, ap items (gave (step.Entry e p d) g))
 
     pub number-fits : k + 1 < 2 ^ 32
     number-fits = omega (arith, count-again)
@@ -229,9 +229,9 @@ seek-at D n I c c₀ i left dir inv h b =
 
 module _ (s : SuperBlock) (I : List ℕ) (c : ReadDir) (dir : Addr) (i : ℕ)
     (q : cursorWalk 512 (s .area .0) (s .blocks) I c ≡ skip i (walk 512 (s .area .0) (s .blocks) I (dir .0))) where
-  pub numbers-fit : Fit s I → i < 2 ^ 32 → i + count (cursorWalk 512 (s .area .0) (s .blocks) I c) < 2 ^ 32
+  pub numbers-fit : Fit s I → i < 2 ^ 32 → i + items (cursorWalk 512 (s .area .0) (s .blocks) I c) < 2 ^ 32
   numbers-fit f h =
-      omega (arith, ap count q, skip-fits i (walk 512 (s .area .0) (s .blocks) I (dir .0)) h (count-fits (s .area .0) (s .blocks) I (dir .0) (placed f .few)))
+      omega (arith, ap items q, skip-fits i (walk 512 (s .area .0) (s .blocks) I (dir .0)) h (count-fits (s .area .0) (s .blocks) I (dir .0) (placed f .few)))
 
   pub list-answer : (cap : ℕ) (x y : Listed) → x ≡ listFrom cap 0 i (cursorWalk 512 (s .area .0) (s .blocks) I c) → x ≡ y
       → y ≡ listFrom cap 0 i (skip i (walk 512 (s .area .0) (s .blocks) I (dir .0)))

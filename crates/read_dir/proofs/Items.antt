@@ -13,7 +13,7 @@ use Rattle.dir_entry.specs.declared.DirEntry.{DirEntry}
 use Rattle.dir_entry.specs.declared.Slot.the-variants.{Entry}
 use Rattle.dir_entry.specs.Entry.{placeAt, nameAt, slotAt}
 use Rattle.read_dir.specs.Walk.{Walk, item, finished, damaged, shown, entriesFrom, chainFrom, walk}
-use Rattle.read_dir.specs.Cursor.{count}
+use Rattle.read_dir.specs.Cursor.{items}
 use Rattle.read_dir.specs.Finds.{placed, findIn, skip, listFrom}
 use Rattle.read_dir.specs.declared.Place.{Place}
 use Rattle.read_dir.specs.declared.Found.the-variants as found
@@ -93,8 +93,8 @@ Whole (item e a o x w) = Whole w
 Whole finished = Unit {0}
 Whole damaged = ⊥
 
-pub skip-past : (i : ℕ) (w : Walk) → Whole w → count w ≤ i → skip i w ≡ finished
-unfolding skip count
+pub skip-past : (i : ℕ) (w : Walk) → Whole w → items w ≤ i → skip i w ≡ finished
+unfolding skip items
 skip-past zero (item e a o x w) h l = absurd (omega arith)
 skip-past zero finished h l = refl
 skip-past zero damaged h l = absurd h
@@ -103,6 +103,6 @@ skip-past (suc i) finished h l = refl
 skip-past (suc i) damaged h l = absurd h
 
 -- "A number past the last entry gives 0 bytes and i."
-pub list-past : (cap i : ℕ) (w : Walk) → Whole w → count w ≤ i → listFrom cap 0 i (skip i w) ≡ listed.Records 0 i
+pub list-past : (cap i : ℕ) (w : Walk) → Whole w → items w ≤ i → listFrom cap 0 i (skip i w) ≡ listed.Records 0 i
 unfolding listFrom
 list-past cap i w h l = ap (listFrom cap 0 i) (skip-past i w h l)

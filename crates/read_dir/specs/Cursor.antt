@@ -86,7 +86,7 @@ module _ (B D n : ℕ) (I : List ℕ) where
     pub inside : StepIn r
 
 -- How many entries a walk has.
-unfoldable pub count : Walk → ℕ
-count (item e a o x w) = suc (count w)
-count finished = 0
-count damaged = 0
+unfoldable pub items : Walk → ℕ
+items (item e a o x w) = suc (items w)
+items finished = 0
+items damaged = 0

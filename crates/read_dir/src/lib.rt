@@ -1,6 +1,5 @@
 // The entries of a directory, read from any image: the cursor, lookup, sum and listing.
 // Damage is met on the walk, and a walk ends where its answer is known.
-// May use: wire, block, model, super_block, dir_entry.
 use block::Addr;
 use block::LinkedBlock;
 use dir_entry::DirEntry;
@@ -15,7 +14,7 @@ ghost use Rattle.block.specs.Block.{blockBytes};
 ghost use Rattle.dir_entry.specs.Entry.{header, placeAt, nameAt};
 ghost use Rattle.super_block.specs.Super.{Fit};
 ghost use Rattle.read_dir.specs.Walk.{walk};
-ghost use Rattle.read_dir.specs.Cursor.{start, hopMove, overMove, moveAt, cursorWalk, Stepped, count};
+ghost use Rattle.read_dir.specs.Cursor.{start, hopMove, overMove, moveAt, cursorWalk, Stepped, items};
 ghost use Rattle.read_dir.specs.Finds.{findIn, sumFrom, recordOf, skip, listFrom, recordsFrom, onListed};
 
 // The bytes of a record before the name.
@@ -249,7 +248,7 @@ fn seek(img: &[u8], s: SuperBlock, dir: Addr, i: u32) -> ReadDir
 // How many bytes the records from a cursor take in a buffer of cap bytes, and the number after the last.
 fn measure(img: &[u8], s: SuperBlock, from: ReadDir, i: u32, cap: usize) -> Listed
     requires { ⌜ Fit s (now img) ⌝ }
-    requires { ⌜ i + count (cursorWalk blockBytes (s .area .0) (s .blocks) (now img) from) < 2 ^ 32 ⌝ }
+    requires { ⌜ i + items (cursorWalk blockBytes (s .area .0) (s .blocks) (now img) from) < 2 ^ 32 ⌝ }
     ensures { λ r. ⌜ r ≡ listFrom cap 0 i (cursorWalk blockBytes (s .area .0) (s .blocks) (now (img .entry)) from) ⌝ }
 {
     let mut c = from;

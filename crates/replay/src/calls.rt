@@ -1,6 +1,5 @@
 // One function for each kind of line, and one for each kind of answer. `line` holds the fields, and `at` is the place of the next one to be
 // read; each answers whether the call's answer is the list's.
-// May use: mfs and what it gives out, wire, fields.
 use crate::fields;
 use dir_entry::Kind;
 use file::Counted;

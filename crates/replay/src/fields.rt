@@ -1,7 +1,6 @@
 // The fields of a line of the list. A line is lent with its newline; its first byte is the kind's letter, and each field is ended by one
 // space or by the newline. A place is the index of a field's first byte. No field stands at 0, so 0 is the place behind a field that
 // cannot be read, and nothing can be read there: a line's fields are read one after the other, and only the last place is looked at.
-// May use: wire; io for its word on counts.
 ghost use mathlib.Core.Path.{_≡_};
 ghost use Prim.Native.Nat.{_+_, _-_, _≤_, _<_};
 ghost use lib.ListN.{length};

@@ -18,7 +18,6 @@
 //   g DIGEST                                    the digest of the whole image now
 // DIGEST of bytes: from 0, for each byte d = (d * 257 + byte) mod 4,294,967,291.
 // Each line whose answer is another, or that cannot be read, is named, and last `N calls, M differ`; the lines v and p are no calls.
-// May use: mfs and what it gives out, wire, calls, fields; io and libc to read and write.
 mod calls;
 mod fields;
 

@@ -4,7 +4,7 @@ use mathlib.Core.List.{List}
 use Prim.Native.Nat.{ℕ, _+_, _*_, _≤_, _<_, _^_}
 use lib.ListN.{length}
 use Rattle.wire.specs.Be.{bytes, splice}
-use Rattle.model.specs.Answers.{refusalNumber}
+use Rattle.limits.specs.Refusals.{refusalNumber}
 use Rattle.model.specs.Geometry.{Geo, blockSize, mapAt, dataAt, reach, geo, geoAt, superBytes, Sound, openRefusal, formatRefusal, formatGeo}
 use Rattle.super_block.specs.declared.SuperBlock.{SuperBlock}
 use Rattle.super_block.specs.declared.Opened.{Opened}

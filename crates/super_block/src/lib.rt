@@ -1,8 +1,7 @@
 // The superblock: the numbers of a volume, or why there are none (refusals 1, 2, 3); the used count.
 // Only this crate computes D and the reach; all others take them from the struct.
-// May use: wire, block, model.
 use block::Addr;
-use model::Refusal;
+use limits::Refusal;
 ghost use mathlib.Core.Path.{_≡_};
 ghost use Prim.Native.Nat.{_+_, _-_, _*_, _≤_, _<_, _^_};
 ghost use lib.ListN.{length};

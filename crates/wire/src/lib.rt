@@ -1,6 +1,5 @@
 // Bytes of a lent slice: big-endian numbers at a place, and runs of bytes filled, copied and moved.
 // Every store is a `splice` of the list of bytes, and every number read is a `be`; their laws are in proofs/Laws.antt.
-// May use: nothing below it.
 ghost use mathlib.Core.Path.{_≡_};
 ghost use Prim.Native.Nat.{_+_, _≤_, _<_, _^_};
 ghost use lib.ListN.{length, take, drop, replicate};

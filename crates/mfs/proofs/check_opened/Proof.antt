@@ -4,8 +4,8 @@ use Rattle.mfs.proofs.check_opened.Statement.{statement}
 use Rattle.mfs.proofs.check_opened.Tie as tie
 use Rattle.mfs.proofs.check_opened.Reads as reads
 use Rattle.mfs.proofs.check_opened.Lts as lts
-use Rattle.survey.proofs.check.Reads as check-reads
-use Rattle.tally.proofs.mark_bytes.Reads as mark-bytes-reads
+use Rattle.check_volume.proofs.check.Reads as check-reads
+use Rattle.check_bitmap.proofs.mark_bytes.Reads as mark-bytes-reads
 
 -- src/lib.rt:113:21
 mark-bytes-requires : tie.Need-mark-bytes-requires

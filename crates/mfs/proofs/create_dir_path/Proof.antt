@@ -5,7 +5,7 @@ use Rattle.mfs.proofs.create_dir_path.Statement.{statement}
 use Rattle.mfs.proofs.create_dir_path.Tie as tie
 use Rattle.mfs.proofs.create_dir_path.Reads as reads
 use Rattle.mfs.proofs.create_dir_path.Lts as lts
-use Rattle.creates.proofs.create.Reads as create-reads
+use Rattle.create.proofs.create.Reads as create-reads
 use Rattle.path.proofs.realpath.Reads as realpath-reads
 
 -- src/lib.rt:509:31

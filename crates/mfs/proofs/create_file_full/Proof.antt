@@ -5,7 +5,7 @@ use Rattle.mfs.proofs.create_file_full.Statement.{statement}
 use Rattle.mfs.proofs.create_file_full.Tie as tie
 use Rattle.mfs.proofs.create_file_full.Reads as reads
 use Rattle.mfs.proofs.create_file_full.Lts as lts
-use Rattle.creates.proofs.create.Reads as create-reads
+use Rattle.create.proofs.create.Reads as create-reads
 use Rattle.mfs.proofs.handle_for.Reads as handle-for-reads
 use Rattle.mfs.proofs.refused_open.Reads as refused-open-reads
 

@@ -5,7 +5,7 @@ use Rattle.mfs.proofs.delete_path.Statement.{statement}
 use Rattle.mfs.proofs.delete_path.Tie as tie
 use Rattle.mfs.proofs.delete_path.Reads as reads
 use Rattle.mfs.proofs.delete_path.Lts as lts
-use Rattle.deletes.proofs.delete.Reads as delete-reads
+use Rattle.delete.proofs.delete.Reads as delete-reads
 use Rattle.path.proofs.realpath.Reads as realpath-reads
 
 -- src/lib.rt:454:31

@@ -2,7 +2,7 @@ use Prim.Native.Nat.{ℕ, _+_, _<_}
 use mathlib.Core.Path.{_≡_, refl}
 use native.Mathlib.Omega.{arith}
 use borrow.Author.Needs.{needs}
-use Rattle.read_dir.specs.Cursor.{cursorWalk, count}
+use Rattle.read_dir.specs.Cursor.{cursorWalk, items}
 use Rattle.read_dir.proofs.Along.{step-less}
 use Rattle.reached.proofs.Steps.{rest, reach-here, reach-last, rest-again, rest-hit, rest-end, rest-bad, entry-file, entry-device, entry-down}
 use borrow.Fn.Kinds.{In}
@@ -49,7 +49,7 @@ abbrev dir-reaches-Inv-loop : dir-reaches-lts.InvT-loop
 dir-reaches-Inv-loop img s target depth below c₀ c = rest (s .area .0) (s .blocks) img (target .0) below c ≡ rest (s .area .0) (s .blocks) img (target .0) below c₀
 
 abbrev dir-reaches-μ-loop : dir-reaches-lts.MeasureT-loop
-dir-reaches-μ-loop img s target depth below c₀ c = count (cursorWalk 512 (s .area .0) (s .blocks) img c)
+dir-reaches-μ-loop img s target depth below c₀ c = items (cursorWalk 512 (s .area .0) (s .blocks) img c)
 
 -- src/lib.rt:29:9
 dir-reaches-returns : (t : ℕ) → dir-reaches-lts.Need-returns (

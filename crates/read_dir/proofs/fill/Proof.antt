@@ -1,6 +1,6 @@
 use Rattle.read_dir.proofs.Along.{entry-inside, entry-ends, entry-within, step-less, fill-again, rest-again, fill-full, fill-end, fill-bad}
 use Rattle.read_dir.specs.Finds.{recordsFrom}
-use Rattle.read_dir.specs.Cursor.{cursorWalk, count}
+use Rattle.read_dir.specs.Cursor.{cursorWalk, items}
 use lib.ListN.{length, take, drop}
 use native.Mathlib.Omega.{arith}
 use Prim.Native.Nat.{_≤_, _<_, _^_}
@@ -19,7 +19,7 @@ Inv-loop img s buf₀ cap c₀ used₀ buf c used =
     (take used buf ++ recordsFrom cap used (cursorWalk 512 (s .area .0) (s .blocks) img c) ≡ recordsFrom cap 0 (cursorWalk 512 (s .area .0) (s .blocks) img c₀)) × (drop used buf ≡ drop used buf₀) × (used ≤ length buf) × (length buf ≡ length buf₀) × (cap ≡ length buf) × (length buf < 2 ^ 63)
 
 abbrev μ-loop : tie.MeasureT-loop
-μ-loop img s buf₀ cap c₀ used₀ buf c used = count (cursorWalk 512 (s .area .0) (s .blocks) img c)
+μ-loop img s buf₀ cap c₀ used₀ buf c used = items (cursorWalk 512 (s .area .0) (s .blocks) img c)
 
 -- src/lib.rt:300:5
 loop-holds : tie.Need-loop-holds Inv-loop μ-loop

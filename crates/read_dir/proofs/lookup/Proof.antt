@@ -1,6 +1,6 @@
 use Rattle.read_dir.proofs.Along.{entry-inside, entry-ends, step-less, find-again, find-hit, find-none, find-bad}
 use Rattle.read_dir.specs.Finds.{findIn}
-use Rattle.read_dir.specs.Cursor.{cursorWalk, count}
+use Rattle.read_dir.specs.Cursor.{cursorWalk, items}
 use borrow.Author.Needs.{needs}
 use mathlib.Core.Path.{_≡_, refl}
 use Rattle.super_block.proofs.Fits.{area-inside}
@@ -16,7 +16,7 @@ abbrev Inv-loop : tie.InvT-loop
 Inv-loop img s name c₀ c = findIn name (cursorWalk 512 (s .area .0) (s .blocks) img c) ≡ findIn name (cursorWalk 512 (s .area .0) (s .blocks) img c₀)
 
 abbrev μ-loop : tie.MeasureT-loop
-μ-loop img s name c₀ c = count (cursorWalk 512 (s .area .0) (s .blocks) img c)
+μ-loop img s name c₀ c = items (cursorWalk 512 (s .area .0) (s .blocks) img c)
 
 -- src/lib.rt:195:9
 new-requires : tie.Need-new-requires Inv-loop μ-loop

@@ -1,6 +1,6 @@
 use Rattle.read_dir.proofs.Along.{step-less, list-again, list-full, list-end, list-bad, count-again, number-fits}
 use Rattle.read_dir.specs.Finds.{listFrom}
-use Rattle.read_dir.specs.Cursor.{cursorWalk, count}
+use Rattle.read_dir.specs.Cursor.{cursorWalk, items}
 use Prim.Native.Nat.{_+_, _≤_, _<_, _^_}
 use borrow.Author.Needs.{needs}
 use mathlib.Core.Path.{_≡_}
@@ -12,10 +12,10 @@ use Rattle.read_dir.proofs.ReadDir.next.Reads as next-reads
 
 abbrev Inv-loop : tie.InvT-loop
 Inv-loop img s i cap c₀ used₀ k₀ c used k =
-    (listFrom cap used k (cursorWalk 512 (s .area .0) (s .blocks) img c) ≡ listFrom cap 0 i (cursorWalk 512 (s .area .0) (s .blocks) img c₀)) × (used ≤ cap) × (k + count (cursorWalk 512 (s .area .0) (s .blocks) img c) < 2 ^ 32)
+    (listFrom cap used k (cursorWalk 512 (s .area .0) (s .blocks) img c) ≡ listFrom cap 0 i (cursorWalk 512 (s .area .0) (s .blocks) img c₀)) × (used ≤ cap) × (k + items (cursorWalk 512 (s .area .0) (s .blocks) img c) < 2 ^ 32)
 
 abbrev μ-loop : tie.MeasureT-loop
-μ-loop img s i cap c₀ used₀ k₀ c used k = count (cursorWalk 512 (s .area .0) (s .blocks) img c)
+μ-loop img s i cap c₀ used₀ k₀ c used k = items (cursorWalk 512 (s .area .0) (s .blocks) img c)
 
 -- src/lib.rt:258:5
 loop-holds : tie.Need-loop-holds Inv-loop μ-loop

@@ -1,7 +1,7 @@
 use Rattle.read_dir.proofs.Along.{start-weigh, step-less, sum-again, weigh-again, total-fits, sum-end, sum-bad}
 use Rattle.read_dir.proofs.Sizes.{weigh}
 use Rattle.read_dir.specs.Finds.{sumFrom}
-use Rattle.read_dir.specs.Cursor.{cursorWalk, count}
+use Rattle.read_dir.specs.Cursor.{cursorWalk, items}
 use Prim.Native.Nat.{_+_, _<_, _^_}
 use borrow.Author.Needs.{needs}
 use mathlib.Core.Path.{_≡_, refl}
@@ -17,7 +17,7 @@ abbrev Inv-loop : tie.InvT-loop
 Inv-loop img s c₀ total₀ c total = (sumFrom total (cursorWalk 512 (s .area .0) (s .blocks) img c) ≡ sumFrom 0 (cursorWalk 512 (s .area .0) (s .blocks) img c₀)) × (total + weigh (cursorWalk 512 (s .area .0) (s .blocks) img c) < 2 ^ 32)
 
 abbrev μ-loop : tie.MeasureT-loop
-μ-loop img s c₀ total₀ c total = count (cursorWalk 512 (s .area .0) (s .blocks) img c)
+μ-loop img s c₀ total₀ c total = items (cursorWalk 512 (s .area .0) (s .blocks) img c)
 
 -- src/lib.rt:215:9
 new-requires : tie.Need-new-requires Inv-loop μ-loop

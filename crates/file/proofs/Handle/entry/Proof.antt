@@ -1,7 +1,7 @@
 use mathlib.Core.Path.{_≡_, refl}
 use borrow.Author.Needs.{needs}
 use Rattle.super_block.proofs.Fits.{area-inside}
-use Rattle.read_dir.specs.Cursor.{cursorWalk, count}
+use Rattle.read_dir.specs.Cursor.{cursorWalk, items}
 use Rattle.read_dir.proofs.Along.{entry-inside, entry-ends, step-less}
 use Rattle.file.specs.Writing.{currentIn}
 use Rattle.file.proofs.Aims.{entry-again, entry-hit, entry-none, entry-bad}
@@ -12,7 +12,7 @@ abbrev Inv-loop : tie.InvT-loop
 Inv-loop self img s c₀ c = currentIn self (cursorWalk 512 (s .area .0) (s .blocks) img c) ≡ currentIn self (cursorWalk 512 (s .area .0) (s .blocks) img c₀)
 
 abbrev μ-loop : tie.MeasureT-loop
-μ-loop self img s c₀ c = count (cursorWalk 512 (s .area .0) (s .blocks) img c)
+μ-loop self img s c₀ c = items (cursorWalk 512 (s .area .0) (s .blocks) img c)
 
 new-requires : tie.Need-new-requires Inv-loop μ-loop
 new-requires c κs = search area-inside

@@ -1,0 +1,71 @@
+// W1's "rest zero" and W5 of a volume, decided on the bytes of its image: the superblock's last bytes, the bitmap against the marks
+// of a walk, and the used count. The marks stand in a lent work buffer, one bit a block: bit x is that of address D + x.
+// What the answers say of the definitions of a volume is in proofs/Top.antt and proofs/Marks.antt.
+use super_block::SuperBlock;
+ghost use mathlib.Core.Path.{_≡_};
+ghost use Prim.Native.Nat.{_+_, _-_, _*_, _≤_};
+ghost use lib.Dec.{eqb};
+ghost use lib.ListN.{length};
+ghost use Rattle.wire.specs.Pick.{zeroFrom};
+ghost use Rattle.block.specs.Block.{blockBytes};
+ghost use Rattle.model.specs.Geometry.{dataAt, setBits, usedCount};
+ghost use Rattle.super_block.specs.Super.{geoOf, Fit};
+ghost use Rattle.check_bitmap.specs.Tally.{markBytes, agreed};
+
+// The bytes of a superblock that hold something: signature, version, size code, block count, used count.
+const HEAD: usize = 18;
+
+// The bits that one bitmap block holds.
+const BITMAP_SIZE: u32 = 4096;
+
+// Whether the rest of the superblock is zero.
+pub fn rest_clear(img: &[u8], s: SuperBlock) -> bool
+    requires { ⌜ Fit s (now img) ⌝ }
+    ensures { λ r. ⌜ r ≡ zeroFrom (now (img .entry)) (blockBytes * s .addr .0 + 18) (blockBytes - 18) ⌝ }
+{
+    let a = s.addr;
+    let at = block::offset(a) + HEAD;
+    wire::zero_bytes(img, at, block::BLOCK_SIZE - HEAD)
+}
+
+// How many bytes of a work buffer hold marks.
+pub fn mark_bytes(s: SuperBlock) -> usize
+    requires { ⌜ s .area .0 ≤ s .blocks ⌝ }
+    requires { ⌜ s .blocks ≤ 8388608 ⌝ }
+    ensures { λ r. ⌜ r ≡ markBytes (s .area .0) (s .blocks) ⌝ }
+{
+    let d = s.area;
+    ((s.blocks - d.0 + 7) / 8) as usize
+}
+
+// Whether the bitmap has the marks of the work buffer, and no bit past them.
+pub fn agrees(img: &[u8], s: SuperBlock, work: &[u8]) -> bool
+    requires { ⌜ Fit s (now img) ⌝ }
+    requires { ⌜ markBytes (s .area .0) (s .blocks) ≤ length (now work) ⌝ }
+    ensures { λ r. ⌜ r ≡ agreed (geoOf s) (now (img .entry)) (now (work .entry)) ⌝ }
+{
+    let a = s.bitmap;
+    let d = s.area;
+    let m = mark_bytes(s);
+    let from = block::offset(a);
+    if !wire::same_bytes(img, from, &work[..m]) {
+        return false;
+    }
+    let past = from + m;
+    let end = block::offset(d);
+    wire::zero_bytes(img, past, end - past)
+}
+
+// Whether the used count is D plus the number of set bits.
+pub fn count_right(img: &[u8], s: SuperBlock) -> bool
+    requires { ⌜ Fit s (now img) ⌝ }
+    ensures { λ r. ⌜ r ≡ eqb (usedCount (geoOf s) (now (img .entry))) (dataAt (geoOf s) + setBits (now (img .entry)) (geoOf s)) ⌝ }
+{
+    let a = s.bitmap;
+    let d = s.area;
+    let from = block::offset(a);
+    let limit = BITMAP_SIZE * (d.0 - a.0);
+    let set = bits::count(img, from, limit);
+    let used = s.alloc_count(img);
+    used == d.0 + set
+}

@@ -1,0 +1,187 @@
+-- How `earlier`, `tested` and `forget` go along a walk, one step at a time.
+use mathlib.Core.Path.{_≡_, refl, sym, ap, _∙_, subst}
+use mathlib.Core.Bool.{Bool, true, false, _&&_}
+use mathlib.Core.List.{List, [], _∷_, _++_, append-nil}
+use Prim.Native.Nat.{ℕ, _+_, _-_, _^_, _≤_, _<_}
+use native.Mathlib.Omega.{arith}
+use lib.ListN.{take, drop, take-append-drop}
+use lib.Seq.{take-add, drop-drop}
+use Rattle.wire.specs.Pick.{same}
+use Rattle.block.specs.declared.Addr.{Addr}
+use Rattle.dir_entry.specs.declared.DirEntry.{DirEntry}
+use Rattle.dir_entry.specs.Entry.{placeAt, nameAt}
+use Rattle.super_block.specs.declared.SuperBlock.{SuperBlock}
+use Rattle.super_block.specs.Super.{Fit}
+use Rattle.super_block.proofs.Fits.{placed}
+use Rattle.model.specs.Tree.{Name}
+use Rattle.read_dir.specs.Walk.{Walk, walk}
+use Rattle.read_dir.specs.Cursor.{start, cursorWalk, onStep, Stepped, items}
+use Rattle.read_dir.specs.declared.ReadDir.{ReadDir}
+use Rattle.read_dir.specs.declared.Place.{Place}
+use Rattle.read_dir.specs.declared.Step.{Step}
+use Rattle.read_dir.specs.declared.Step.the-variants as step
+use Rattle.read_dir.proofs.Along.{start-walk, count-again}
+use Rattle.read_dir.proofs.Sizes.{count-fits}
+use Rattle.check_names.specs.Names.{oneOf, distinct, namesIn, ends}
+use Rattle.check_names.specs.Filter.{hashOf, clear, noted, wiped, Covers, Only}
+use Rattle.check_names.proofs.Among.{search-hit, search-miss, search-end, search-none, and-false, distinct-hit, distinct-more}
+use Rattle.check_names.proofs.Marks.{clear-covers, clear-within, covers-more, within-more, within-all, within-wiped, within-none}
+
+-- ---- what the test has met: the first i names of the walk w, of which v is left
+
+pub record Met (F : List ℕ) (i : ℕ) (w v : Walk) : Type 0 where
+  pub left : namesIn v ≡ drop i (namesIn w)
+  pub ending : ends v ≡ ends w
+  pub apart : distinct (take i (namesIn w)) ≡ true
+  pub covers : Covers F (take i (namesIn w))
+  pub within : Only F (take i (namesIn w))
+  pub few : i + items v < 2 ^ 32
+
+pub met-within : (F : List ℕ) (i : ℕ) (w v : Walk) → Met F i w v → Only F (namesIn w)
+met-within F i w v m = within-all F i (namesIn w) (m .within)
+
+pub met-start : (s : SuperBlock) (I F : List ℕ) (c : ReadDir) (dir : Addr) → Fit s I → F ≡ clear → c ≡ start (s .area .0) (s .blocks) dir
+    → Met F 0 (walk 512 (s .area .0) (s .blocks) I (dir .0)) (cursorWalk 512 (s .area .0) (s .blocks) I c)
+unfolding distinct
+met-start s I F c dir f e b =
+    let q : cursorWalk 512 (s .area .0) (s .blocks) I c ≡ walk 512 (s .area .0) (s .blocks) I (dir .0) = start-walk 512 (s .area .0) (s .blocks) I c dir b in
+    record {
+      left = ap namesIn q;
+      ending = ap ends q;
+      apart = refl;
+      covers = clear-covers F;
+      within = clear-within F [] e;
+      few = omega (arith, ap items q, count-fits (s .area .0) (s .blocks) I (dir .0) (placed f .few));
+    }
+
+-- ---- one step
+
+module _ (D n : ℕ) (I : List ℕ) (c : ReadDir) (m : Step) (g : Stepped 512 D n I c m) where
+  gave : (x : Step) → m ≡ x → cursorWalk 512 D n I c ≡ onStep 512 D n I x
+  gave x e = g .walked ∙ ap (onStep 512 D n I) e
+
+  names-end : m ≡ step.End → namesIn (cursorWalk 512 D n I c) ≡ []
+  unfolding namesIn
+  names-end e = ap namesIn (gave step.End e)
+
+  names-bad : m ≡ step.Damaged → namesIn (cursorWalk 512 D n I c) ≡ []
+  unfolding namesIn
+  names-bad e = ap namesIn (gave step.Damaged e)
+
+  names-item : (e : DirEntry) (p : Place) (d : ReadDir) → m ≡ step.Entry e p d
+      → namesIn (cursorWalk 512 D n I c) ≡ nameAt I (placeAt 512 (p .block .0) (p .offset)) (e .len) ∷ namesIn (cursorWalk 512 D n I d)
+  unfolding namesIn
+  names-item e p d q = ap namesIn (gave (step.Entry e p d) q)
+
+  ends-item : (e : DirEntry) (p : Place) (d : ReadDir) → m ≡ step.Entry e p d → ends (cursorWalk 512 D n I c) ≡ ends (cursorWalk 512 D n I d)
+  unfolding ends
+  ends-item e p d q = ap ends (gave (step.Entry e p d) q)
+
+  -- ---- earlier: what is left to search is what was to be searched
+
+  module _ (x : Name) (c₀ : ReadDir) (i k : ℕ) (inv : oneOf x (take k (namesIn (cursorWalk 512 D n I c))) ≡ oneOf x (take i (namesIn (cursorWalk 512 D n I c₀)))) where
+    looked : (ys : List Name) → namesIn (cursorWalk 512 D n I c) ≡ ys → oneOf x (take k ys) ≡ oneOf x (take i (namesIn (cursorWalk 512 D n I c₀)))
+    looked ys q = sym (ap (λ (zs : List Name). oneOf x (take k zs)) q) ∙ inv
+
+    pub earlier-again : (e : DirEntry) (p : Place) (d : ReadDir) (t : Bool) → m ≡ step.Entry e p d → 0 < k
+        → t ≡ same (nameAt I (placeAt 512 (p .block .0) (p .offset)) (e .len)) x → t ≡ false
+        → oneOf x (take (k - 1) (namesIn (cursorWalk 512 D n I d))) ≡ oneOf x (take i (namesIn (cursorWalk 512 D n I c₀)))
+    earlier-again e p d t q h a f =
+        let y : Name = nameAt I (placeAt 512 (p .block .0) (p .offset)) (e .len) in
+        sym (search-miss x k y (namesIn (cursorWalk 512 D n I d)) h (sym a ∙ f)) ∙ looked (y ∷ namesIn (cursorWalk 512 D n I d)) (names-item e p d q)
+
+    module _ (dir : Addr) (b : c₀ ≡ start D n dir) where
+      whole : oneOf x (take i (namesIn (cursorWalk 512 D n I c₀))) ≡ oneOf x (take i (namesIn (walk 512 D n I (dir .0))))
+      whole = ap (λ (v : Walk). oneOf x (take i (namesIn v))) (start-walk 512 D n I c₀ dir b)
+
+      pub earlier-hit : (e : DirEntry) (p : Place) (d : ReadDir) (t : Bool) → m ≡ step.Entry e p d → 0 < k
+          → t ≡ same (nameAt I (placeAt 512 (p .block .0) (p .offset)) (e .len)) x → t ≡ true → true ≡ oneOf x (take i (namesIn (walk 512 D n I (dir .0))))
+      earlier-hit e p d t q h a f =
+          let y : Name = nameAt I (placeAt 512 (p .block .0) (p .offset)) (e .len) in
+          sym (search-hit x k y (namesIn (cursorWalk 512 D n I d)) h (sym a ∙ f)) ∙ looked (y ∷ namesIn (cursorWalk 512 D n I d)) (names-item e p d q) ∙ whole
+
+      pub earlier-end : m ≡ step.End → false ≡ oneOf x (take i (namesIn (walk 512 D n I (dir .0))))
+      earlier-end q = sym (search-end x k) ∙ looked [] (names-end q) ∙ whole
+
+      pub earlier-bad : m ≡ step.Damaged → false ≡ oneOf x (take i (namesIn (walk 512 D n I (dir .0))))
+      earlier-bad q = sym (search-end x k) ∙ looked [] (names-bad q) ∙ whole
+
+  -- ---- tested
+
+  module _ (F : List ℕ) (i : ℕ) (w : Walk) (v : Met F i w (cursorWalk 512 D n I c)) where
+    -- all names are met
+    at-end : namesIn (cursorWalk 512 D n I c) ≡ [] → distinct (namesIn w) ≡ true
+    at-end z =
+        let t : take i (namesIn w) ≡ namesIn w
+        = sym (append-nil (take i (namesIn w))) ∙ ap (λ (ys : List Name). take i (namesIn w) ++ ys) (sym z ∙ v .left) ∙ take-append-drop i (namesIn w) in
+        ap distinct (sym t) ∙ v .apart
+
+    pub tested-end : m ≡ step.End → true ≡ (ends w && distinct (namesIn w))
+    unfolding ends
+    tested-end q =
+        let t : ends w ≡ true = sym (v .ending) ∙ ap ends (gave step.End q) in
+        sym (ap (λ (b : Bool). b && distinct (namesIn w)) t ∙ at-end (names-end q))
+
+    pub tested-bad : m ≡ step.Damaged → false ≡ (ends w && distinct (namesIn w))
+    unfolding ends
+    tested-bad q =
+        let t : ends w ≡ false = sym (v .ending) ∙ ap ends (gave step.Damaged q) in
+        sym (ap (λ (b : Bool). b && distinct (namesIn w)) t)
+
+    -- at a name
+    module _ (e : DirEntry) (p : Place) (d : ReadDir) (x : Name) (q : m ≡ step.Entry e p d) (a : x ≡ nameAt I (placeAt 512 (p .block .0) (p .offset)) (e .len)) where
+      rest : drop i (namesIn w) ≡ x ∷ namesIn (cursorWalk 512 D n I d)
+      rest = sym (v .left) ∙ names-item e p d q ∙ ap (λ (y : Name). y ∷ namesIn (cursorWalk 512 D n I d)) (sym a)
+
+      parts : take i (namesIn w) ++ (x ∷ namesIn (cursorWalk 512 D n I d)) ≡ namesIn w
+      parts = ap (λ (ys : List Name). take i (namesIn w) ++ ys) (sym rest) ∙ take-append-drop i (namesIn w)
+
+      one-more : take (i + 1) (namesIn w) ≡ take i (namesIn w) ++ (x ∷ [])
+      one-more = take-add i 1 (namesIn w) ∙ ap (λ (ys : List Name). take i (namesIn w) ++ take 1 ys) rest
+
+      pub tested-hit : (t : Bool) → t ≡ oneOf x (take i (namesIn w)) → t ≡ true → false ≡ (ends w && distinct (namesIn w))
+      tested-hit t o k =
+          sym (and-false (ends w) (distinct (namesIn w)) (ap distinct (sym parts) ∙ distinct-hit (take i (namesIn w)) x (namesIn (cursorWalk 512 D n I d)) (sym o ∙ k)))
+
+      pub tested-again : (h : ℕ) (G : List ℕ) (t : Bool) → t ≡ oneOf x (take i (namesIn w)) → t ≡ false → h ≡ hashOf x → G ≡ noted F h
+          → Met G (i + 1) w (cursorWalk 512 D n I d)
+      tested-again h G t o k u f =
+          let z : G ≡ noted F (hashOf x) = f ∙ ap (noted F) u in
+          record {
+            left = sym (ap (drop 1) rest) ∙ drop-drop 1 i (namesIn w);
+            ending = sym (ends-item e p d q) ∙ v .ending;
+            apart = ap distinct one-more ∙ distinct-more (take i (namesIn w)) x (v .apart) (sym o ∙ k);
+            covers = subst (Covers G) (sym one-more) (subst (λ (y : List ℕ). Covers y (take i (namesIn w) ++ (x ∷ []))) (sym z) (covers-more F (take i (namesIn w)) x (v .within .long) (v .covers)));
+            within = subst (Only G) (sym one-more) (subst (λ (y : List ℕ). Only y (take i (namesIn w) ++ (x ∷ []))) (sym z) (within-more F (take i (namesIn w)) x (v .within)));
+            few = count-again D n I c m g i e p d (v .few) q;
+          }
+
+  -- ---- forget
+
+  module _ (F : List ℕ) (v : Only F (namesIn (cursorWalk 512 D n I c))) where
+    pub forget-again : (e : DirEntry) (p : Place) (d : ReadDir) (x : Name) (h : ℕ) (G : List ℕ) → m ≡ step.Entry e p d → x ≡ nameAt I (placeAt 512 (p .block .0) (p .offset)) (e .len)
+        → h ≡ hashOf x → G ≡ wiped F h → Only G (namesIn (cursorWalk 512 D n I d))
+    forget-again e p d x h G q a u f =
+        let t : namesIn (cursorWalk 512 D n I c) ≡ x ∷ namesIn (cursorWalk 512 D n I d) = names-item e p d q ∙ ap (λ (y : Name). y ∷ namesIn (cursorWalk 512 D n I d)) (sym a) in
+        let z : G ≡ wiped F (hashOf x) = f ∙ ap (wiped F) u in
+        subst (λ (y : List ℕ). Only y (namesIn (cursorWalk 512 D n I d))) (sym z) (within-wiped F x (namesIn (cursorWalk 512 D n I d)) (subst (Only F) t v))
+
+    pub forget-end : m ≡ step.End → F ≡ clear
+    forget-end q = within-none F (subst (Only F) (names-end q) v)
+
+    pub forget-bad : m ≡ step.Damaged → F ≡ clear
+    forget-bad q = within-none F (subst (Only F) (names-bad q) v)
+
+-- ---- the ends that no step makes
+
+-- no name is left to search
+pub earlier-none : (D n : ℕ) (I : List ℕ) (x : Name) (c c₀ : ReadDir) (i k : ℕ) (dir : Addr)
+    → oneOf x (take k (namesIn (cursorWalk 512 D n I c))) ≡ oneOf x (take i (namesIn (cursorWalk 512 D n I c₀))) → k ≤ 0 → c₀ ≡ start D n dir
+    → false ≡ oneOf x (take i (namesIn (walk 512 D n I (dir .0))))
+earlier-none D n I x c c₀ i k dir inv h b =
+    sym (search-none x k (namesIn (cursorWalk 512 D n I c)) (omega arith)) ∙ inv ∙ ap (λ (v : Walk). oneOf x (take i (namesIn v))) (start-walk 512 D n I c₀ dir b)
+
+-- every name is still to be forgotten
+pub forget-start : (D n : ℕ) (I F : List ℕ) (c : ReadDir) (dir : Addr) → Only F (namesIn (walk 512 D n I (dir .0))) → c ≡ start D n dir
+    → Only F (namesIn (cursorWalk 512 D n I c))
+forget-start D n I F c dir w b = subst (λ (v : Walk). Only F (namesIn v)) (sym (start-walk 512 D n I c dir b)) w

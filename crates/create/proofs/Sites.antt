@@ -1,0 +1,276 @@
+-- What the code knows where it answers: one law for each answer.
+use mathlib.Core.Path.{_≡_, refl, sym, ap, _∙_, subst}
+use mathlib.Core.Bool.{Bool, true, false, _&&_}
+use mathlib.Core.List.{List}
+use Prim.Native.Nat.{ℕ, zero, suc, _+_, _-_, _≤_, _<_}
+use native.Mathlib.Omega.{arith}
+use lib.Dec.{ltb, leb, eqb}
+use lib.ListN.{length, take}
+use borrow.Author.Tests.{lt-ltb, le-ltb, eq-eqb, ne-eqb, leb-true, ltb-false, eqb-false}
+use Rattle.wire.proofs.Picks.{pick-case}
+use Rattle.model.specs.Answers.{Reply, accepted, refused, andThen, when, given}
+use Rattle.limits.specs.Refusals.{refusalNumber}
+use Rattle.model.specs.Geometry.{Geo, countAt, dataAt}
+use Rattle.model.specs.Volume.{WellFormed, maxDepth}
+use Rattle.limits.specs.declared.Refusal.{Refusal}
+use Rattle.model.proofs.Opens.{when-true, when-false, or-false}
+use Rattle.model.proofs.Replies.{given-none, given-some, and-then-ok, and-then-no}
+use Rattle.block.specs.Block.{next}
+use Rattle.super_block.specs.declared.SuperBlock.{SuperBlock}
+use Rattle.super_block.specs.Super.{geoOf, Fit}
+use Rattle.super_block.proofs.Fits.{well-volume}
+use Rattle.bitmap_block.specs.Bitmap.{clears, Room}
+use Rattle.bitmap_block.proofs.Steps.{volume-clears, volume-room}
+use Rattle.dir_entry.specs.declared.DirEntry.{DirEntry}
+use Rattle.dir_entry.specs.declared.Kind.{Kind}
+use Rattle.dir_entry.specs.declared.Kind.the-variants.{Dir}
+use Rattle.dir_entry.specs.Entry.{header, isDir}
+use Rattle.read_dir.specs.declared.Found.{Found}
+use Rattle.read_dir.specs.declared.Found.the-variants as found
+use Rattle.read_dir.specs.declared.Place.{Place}
+use Rattle.read_dir.specs.Walk.{inArea, walk}
+use Rattle.read_dir.specs.Finds.{findIn}
+use Rattle.read_dir.proofs.Unroll.{area-true}
+use Rattle.own_entry.specs.declared.Own.{Own}
+use Rattle.own_entry.specs.Own.{OwnIn}
+use Rattle.create_store.specs.declared.Spot.{Spot}
+use Rattle.create_store.specs.declared.Spot.the-variants as spot
+use Rattle.create_store.specs.Create.{usedAt, spotFrom, spotFor, needed, SpotIn, inserted, insertedAt}
+use Rattle.path.specs.Path.{lastName, dirPart}
+use Rattle.path.specs.Post.{between, PartsIs}
+use Rattle.path.specs.declared.Parts.{Parts}
+use Rattle.dir.specs.Hold.{Hold, holdDir, ownOf}
+use Rattle.dir.specs.Post.{holdOf, holdsSays, HoldsIn, ownedSays}
+use Rattle.dir.specs.declared.Holding.{Holding}
+use Rattle.dir.specs.declared.Holds.{Holds}
+use Rattle.dir.specs.declared.Holds.the-variants as holds
+use Rattle.dir.specs.declared.Owned.{Owned}
+use Rattle.dir.specs.declared.Owned.the-variants as owned
+use Rattle.create.specs.Creating.{Site, Fresh, badName, tooDeep, existsNumber, spotNumber, noRoom, siteAt, siteIn, siteOf, freshOf, createdOn, imageAt, createdImage}
+use Rattle.create.specs.Post.{sitedSays, SitedIn}
+use Rattle.create.specs.declared.Sited.{Sited}
+use Rattle.create.specs.declared.Sited.the-variants as sited
+
+-- ---- the tests of name and depth
+
+module _ (x : List ℕ) where
+  pub name-empty : length x ≡ 0 → eqb (length x) 0 ≡ badName x
+  unfolding badName
+  name-empty e = rw (eq-eqb (length x) 0 e) refl
+
+  pub name-long : (length x ≡ 0 → ⊥) → ltb 255 (length x) ≡ badName x
+  unfolding badName
+  name-long e = rw (ne-eqb (length x) 0 e) refl
+
+  -- a name that passes
+  pub name-short : badName x ≡ false → (1 ≤ length x) × (length x ≤ 255)
+  unfolding badName
+  name-short e =
+      let q = or-false (eqb (length x) 0) (ltb 255 (length x)) e in
+      let z = eqb-false (length x) 0 (q .0) in
+      (omega arith, ltb-false 255 (length x) (q .1))
+
+pub deep-dir : (k : Kind) (d : ℕ) → k ≡ Dir → leb 16 d ≡ (isDir k && leb maxDepth d)
+deep-dir k d e = ap (λ (z : Kind). isDir z && leb 16 d) (sym e)
+
+-- ---- a spot
+
+module _ (B D n : ℕ) (I : List ℕ) (len : ℕ) where
+  abbrev Lies : Spot → Type 0
+  Lies p = 1 ≤ needed p → SpotIn B D n len p
+
+  spot-lies : (k a : ℕ) → Lies (spotFrom B D n I len k a)
+  unfolding spotFrom
+  spot-lies zero a = λ h. absurd (omega arith)
+  spot-lies (suc k) a =
+      pick-case Lies (inArea B D n I a) _ _
+      (λ t. pick-case Lies (leb (usedAt B I a + header + len) (B - 5)) _ _
+      (λ r h. (area-true B D n I a t .0, area-true B D n I a t .1, leb-true _ _ r))
+      (λ _. pick-case Lies (eqb (next B I a) 0) _ _ (λ _ h. area-true B D n I a t) (λ _. spot-lies k (next B I a))))
+      (λ _ h. absurd (omega arith))
+
+module _ (s : SuperBlock) (I : List ℕ) (p : Spot) (k : ℕ) (needs : k ≡ needed p) where
+  pub spot-in : (a len : ℕ) → p ≡ spotFor 512 (s .area .0) (s .blocks) I a len → (k ≡ 0 → ⊥) → SpotIn 512 (s .area .0) (s .blocks) len p
+  spot-in a len e z =
+      subst (SpotIn 512 (s .area .0) (s .blocks) len) (sym e)
+      (spot-lies 512 (s .area .0) (s .blocks) I len (s .blocks - s .area .0) a (subst (λ (q : Spot). 1 ≤ needed q) e (omega arith)))
+
+  pub spot-room : (m : ℕ) → WellFormed (s .addr .0) I → s .blocks ≡ countAt (s .addr .0) I → m ≡ length (clears (geoOf s) I) → k ≤ m → Room (geoOf s) I (needed p)
+  spot-room m w e q h =
+      let v = well-volume s I w e in
+      volume-room (geoOf s) I maxDepth (w .tree) v (needed p) (subst (λ (l : List ℕ). needed p ≤ length l) (volume-clears (geoOf s) I maxDepth (w .tree) v) (omega arith))
+
+-- ---- the site at a spot
+
+module _ (s : SuperBlock) (I : List ℕ) (fit : Fit s I) (full : List ℕ) (h : Holding) (p q : Spot) (k : ℕ) (e : p ≡ q) (needs : k ≡ needed p) where
+  abbrev owning : Own → Reply Site
+  owning o = accepted (record { dir = h .dir .0; spot = q; own = o })
+
+  abbrev told : Reply Site
+  told = andThen (ownOf 512 (dataAt (geoOf s)) (s .blocks) I (holdOf full h)) owning
+
+  spot-number : (y : Spot) → needed y ≡ 0 → spotNumber y ≡ 17
+  spot-number (spot.In y) z = absurd (omega arith)
+  spot-number (spot.After y) z = absurd (omega arith)
+  spot-number spot.Damaged z = refl
+
+  spot-none : (y : Spot) → (needed y ≡ 0 → ⊥) → spotNumber y ≡ 0
+  spot-none (spot.In y) z = refl
+  spot-none (spot.After y) z = refl
+  spot-none spot.Damaged z = absurd (z refl)
+
+  pub site-damaged : k ≡ 0 → refused 17 ≡ siteAt (geoOf s) I (holdOf full h) q
+  unfolding siteAt
+  site-damaged z = sym (given-some 17 _ (omega arith) (spot-number q (omega (arith, ap needed e))))
+
+  module _ (m : ℕ) (some : k ≡ 0 → ⊥) (is : m ≡ length (clears (geoOf s) I)) where
+    at-spot : siteAt (geoOf s) I (holdOf full h) q ≡ given (when 9 (noRoom (geoOf s) I (needed q))) told
+    unfolding siteAt
+    at-spot = given-none _ (spot-none q (λ z. some (omega (arith, ap needed e))))
+
+    pub site-full : m < k → refused 9 ≡ siteAt (geoOf s) I (holdOf full h) q
+    unfolding noRoom
+    site-full l = sym (at-spot ∙ given-some 9 told (omega arith) (when-true 9 (lt-ltb (length (clears (geoOf s) I)) (needed q) (omega (arith, ap needed e)))))
+
+    module _ (o : Owned) (enough : k ≤ m) (own-is : ownedSays o ≡ ownOf 512 (s .area .0) (s .blocks) I (holdOf full h)) where
+      at-own : siteAt (geoOf s) I (holdOf full h) q ≡ andThen (ownedSays o) owning
+      unfolding noRoom
+      at-own =
+          at-spot
+          ∙ given-none told (when-false 9 (le-ltb (length (clears (geoOf s) I)) (needed q) (omega (arith, ap needed e))))
+          ∙ ap (λ (D : ℕ). andThen (ownOf 512 D (s .blocks) I (holdOf full h)) owning) (sym (fit .area))
+          ∙ ap (λ (r : Reply Own). andThen r owning) (sym own-is)
+
+      pub site-owned : (w : Own) → o ≡ owned.At w → accepted (record { dir = h .dir .0; spot = p; own = w }) ≡ siteAt (geoOf s) I (holdOf full h) q
+      site-owned w g =
+          ap (λ (y : Spot). let z : Reply Site = accepted (record { dir = h .dir .0; spot = y; own = w }) in z) e ∙ sym (at-own ∙ and-then-ok w owning (ap ownedSays g))
+
+      pub site-lost : o ≡ owned.Lost → refused 18 ≡ siteAt (geoOf s) I (holdOf full h) q
+      site-lost g = sym (at-own ∙ and-then-no 18 owning (ap ownedSays g))
+
+-- ---- the site in a directory
+
+module _ (s : SuperBlock) (I : List ℕ) (fit : Fit s I) (full : List ℕ) (h : Holding) (k : Kind) (x : List ℕ) (b : Bool) (t : b ≡ (isDir k && leb maxDepth (h .depth))) where
+  pub in-deep : b ≡ true → refused 15 ≡ siteIn (geoOf s) I k x (holdOf full h)
+  unfolding siteIn tooDeep
+  in-deep y = sym (given-some 15 _ (omega arith) (when-true 15 (sym t ∙ y)))
+
+  module _ (f : Found) (shallow : b ≡ false) (q : f ≡ findIn x (walk 512 (s .area .0) (s .blocks) I (h .dir .0))) where
+    looked : siteIn (geoOf s) I k x (holdOf full h) ≡ given (existsNumber f) (siteAt (geoOf s) I (holdOf full h) (spotFor 512 (s .area .0) (s .blocks) I (h .dir .0) (length x)))
+    unfolding siteIn tooDeep
+    looked =
+        given-none _ (when-false 15 (sym t ∙ shallow))
+        ∙ ap (λ (D : ℕ). given (existsNumber (findIn x (walk 512 D (s .blocks) I (h .dir .0)))) (siteAt (geoOf s) I (holdOf full h) (spotFor 512 D (s .blocks) I (h .dir .0) (length x)))) (sym (fit .area))
+        ∙ ap (λ (y : Found). given (existsNumber y) (siteAt (geoOf s) I (holdOf full h) (spotFor 512 (s .area .0) (s .blocks) I (h .dir .0) (length x)))) (sym q)
+
+    pub in-exists : (e : DirEntry) (p : Place) → f ≡ found.At e p → refused 7 ≡ siteIn (geoOf s) I k x (holdOf full h)
+    in-exists e p g = sym (looked ∙ given-some 7 _ (omega arith) (ap existsNumber g))
+
+    pub in-damaged : f ≡ found.Damaged → refused 17 ≡ siteIn (geoOf s) I k x (holdOf full h)
+    in-damaged g = sym (looked ∙ given-some 17 _ (omega arith) (ap existsNumber g))
+
+    pub in-free : (r : Reply Site) → f ≡ found.Missing → r ≡ siteAt (geoOf s) I (holdOf full h) (spotFor 512 (s .area .0) (s .blocks) I (h .dir .0) (length x))
+        → r ≡ siteIn (geoOf s) I k x (holdOf full h)
+    in-free r g e = e ∙ sym (looked ∙ given-none _ (ap existsNumber g))
+
+-- ---- the stores at a site
+
+module _ (g : Geo) (I : List ℕ) (d : ℕ) (r : Sited) (S : Reply Site) (e : sitedSays d r ≡ S) where
+  pub create-refused : (j : Refusal) → r ≡ sited.Refused j → refused (refusalNumber j) ≡ freshOf g I S
+  unfolding freshOf
+  create-refused j q = sym (and-then-no (refusalNumber j) _ (sym e ∙ ap (sitedSays d) q))
+
+  pub create-leaves : (k : Kind) (x : List ℕ) (time : ℕ) (j : Refusal) → r ≡ sited.Refused j → I ≡ imageAt g I k x time S
+  create-leaves k x time j q = ap (imageAt g I k x time) (sym (ap (sitedSays d) q) ∙ e)
+
+  module _ (p : Spot) (o : Own) (q : r ≡ sited.At p o) where
+    pub create-block : (a : ℕ) → a ≡ insertedAt g I p → accepted (record { dir = d; block = a }) ≡ freshOf g I S
+    unfolding freshOf
+    create-block a h =
+        ap (λ (b : ℕ). let z : Reply Fresh = accepted (record { dir = d; block = b }) in z) h
+        ∙ sym (and-then-ok (record { dir = d; spot = p; own = o }) (λ y. accepted (record { dir = y .dir; block = insertedAt g I (y .spot) })) (sym e ∙ ap (sitedSays d) q))
+
+    pub create-stores : (k : Kind) (x : List ℕ) (time : ℕ) (J : List ℕ) → J ≡ inserted g I d p o k x time → J ≡ imageAt g I k x time S
+    create-stores k x time J h = h ∙ ap (imageAt g I k x time) (sym (ap (sitedSays d) q) ∙ e)
+
+-- what the stores ask
+module _ (s : SuperBlock) (I : List ℕ) (len : ℕ) (r : Sited) (h : SitedIn s I len r) (p : Spot) (o : Own) (q : r ≡ sited.At p o) where
+  pub asked-room : Room (geoOf s) I (needed p)
+  asked-room = subst (SitedIn s I len) q h .0
+
+  pub asked-spot : SpotIn 512 (s .area .0) (s .blocks) len p
+  asked-spot = subst (SitedIn s I len) q h .1
+
+  pub asked-own : OwnIn I o
+  asked-own = subst (SitedIn s I len) q h .2
+
+-- ---- at a path
+
+module _ (len : ℕ) (hs : Holds) (h : Holding) (i : HoldsIn len hs) (q : hs ≡ holds.At h) where
+  pub held-from : h .from ≤ h .to
+  held-from = subst (HoldsIn len) q i .0
+
+  pub held-to : h .to ≤ len
+  held-to = subst (HoldsIn len) q i .1
+
+pub short-name : (b : Bool) (x : List ℕ) → b ≡ badName x → b ≡ false → length x ≤ 255
+short-name b x t y = name-short x (sym t ∙ y) .1
+
+module _ (s : SuperBlock) (I : List ℕ) (k : Kind) (full : List ℕ) (len time : ℕ) (ps : Parts) (parts : PartsIs full len ps) (b : Bool) (t : b ≡ badName (between full (ps .from) (ps .to))) where
+  abbrev path : List ℕ
+  path = take len full
+
+  named : b ≡ badName (lastName path)
+  named = t ∙ ap badName (parts .name)
+
+  bad : b ≡ true → siteOf (geoOf s) I k path ≡ refused 8
+  unfolding siteOf
+  bad y = given-some 8 _ (omega arith) (when-true 8 (sym named ∙ y))
+
+  pub path-bad : b ≡ true → refused 8 ≡ createdOn (geoOf s) I k path
+  unfolding createdOn freshOf
+  path-bad y = sym (and-then-no 8 _ (bad y))
+
+  pub path-bad-leaves : b ≡ true → I ≡ createdImage (geoOf s) I k path time
+  unfolding createdImage
+  path-bad-leaves y = ap (imageAt (geoOf s) I k (lastName path) time) (sym (bad y))
+
+  module _ (fit : Fit s I) (hs : Holds) (good : b ≡ false) (held : holdsSays full hs ≡ holdDir 512 (s .area .0) (s .blocks) I (take (ps .dir) full)) where
+    site-held : siteOf (geoOf s) I k path ≡ andThen (holdsSays full hs) (siteIn (geoOf s) I k (lastName path))
+    unfolding siteOf
+    site-held =
+        given-none _ (when-false 8 (sym named ∙ good))
+        ∙ ap (λ (D : ℕ). andThen (holdDir 512 D (s .blocks) I (dirPart path)) (siteIn (geoOf s) I k (lastName path))) (sym (fit .area))
+        ∙ ap (λ (l : List ℕ). andThen (holdDir 512 (s .area .0) (s .blocks) I l) (siteIn (geoOf s) I k (lastName path))) (sym (parts .dir))
+        ∙ ap (λ (r : Reply Hold). andThen r (siteIn (geoOf s) I k (lastName path))) (sym held)
+
+    module _ (j : Refusal) (q : hs ≡ holds.Refused j) where
+      no-site : siteOf (geoOf s) I k path ≡ refused (refusalNumber j)
+      no-site = site-held ∙ and-then-no (refusalNumber j) _ (ap (holdsSays full) q)
+
+      pub path-refused : refused (refusalNumber j) ≡ createdOn (geoOf s) I k path
+      unfolding createdOn freshOf
+      path-refused = sym (and-then-no (refusalNumber j) _ no-site)
+
+      pub path-leaves : I ≡ createdImage (geoOf s) I k path time
+      unfolding createdImage
+      path-leaves = ap (imageAt (geoOf s) I k (lastName path) time) (sym no-site)
+
+    module _ (h : Holding) (q : hs ≡ holds.At h) where
+      a-site : siteOf (geoOf s) I k path ≡ siteIn (geoOf s) I k (between full (ps .from) (ps .to)) (holdOf full h)
+      a-site =
+          site-held
+          ∙ and-then-ok (holdOf full h) (siteIn (geoOf s) I k (lastName path)) (ap (holdsSays full) q)
+          ∙ ap (λ (x : List ℕ). siteIn (geoOf s) I k x (holdOf full h)) (sym (parts .name))
+
+      pub path-done : (r : Reply Fresh) → r ≡ freshOf (geoOf s) I (siteIn (geoOf s) I k (between full (ps .from) (ps .to)) (holdOf full h)) → r ≡ createdOn (geoOf s) I k path
+      unfolding createdOn
+      path-done r e = e ∙ ap (freshOf (geoOf s) I) (sym a-site)
+
+      pub path-stored : (J : List ℕ)
+          → J ≡ imageAt (geoOf s) I k (between full (ps .from) (ps .to)) time (siteIn (geoOf s) I k (between full (ps .from) (ps .to)) (holdOf full h)) → J ≡ createdImage (geoOf s) I k path time
+      unfolding createdImage
+      path-stored J e =
+          e
+          ∙ ap (λ (x : List ℕ). imageAt (geoOf s) I k x time (siteIn (geoOf s) I k (between full (ps .from) (ps .to)) (holdOf full h))) (parts .name)
+          ∙ ap (imageAt (geoOf s) I k (lastName path) time) (sym a-site)

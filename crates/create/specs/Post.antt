@@ -1,0 +1,30 @@
+-- What the functions answer, said as replies on paper. Definitions alone.
+use mathlib.Core.List.{List}
+use Prim.Native.Nat.{ℕ}
+use Rattle.model.specs.Answers.{Reply, accepted, refused}
+use Rattle.limits.specs.Refusals.{refusalNumber}
+use Rattle.block.specs.Block.{blockBytes}
+use Rattle.super_block.specs.declared.SuperBlock.{SuperBlock}
+use Rattle.super_block.specs.Super.{geoOf}
+use Rattle.bitmap_block.specs.Bitmap.{Room}
+use Rattle.own_entry.specs.Own.{OwnIn}
+use Rattle.create_store.specs.Create.{needed, SpotIn}
+use Rattle.create.specs.Creating.{Site, Fresh}
+use Rattle.create.specs.declared.Sited.{Sited}
+use Rattle.create.specs.declared.Sited.the-variants as sited
+use Rattle.create.specs.declared.Created.{Created}
+use Rattle.create.specs.declared.Created.the-variants as created
+
+-- a site in the directory whose first address is d
+abbrev pub sitedSays : ℕ → Sited → Reply Site
+sitedSays d (sited.At p o) = accepted (record { dir = d; spot = p; own = o })
+sitedSays d (sited.Refused r) = refused (refusalNumber r)
+
+-- There is room for the blocks, the spot lies in the data area and holds a name of len bytes, and the own entry lies in the image.
+abbrev pub SitedIn : SuperBlock → List ℕ → ℕ → Sited → Type 0
+SitedIn s I len (sited.At p o) = Room (geoOf s) I (needed p) × SpotIn blockBytes (s .area .0) (s .blocks) len p × OwnIn I o
+SitedIn s I len (sited.Refused r) = Unit {0}
+
+abbrev pub createdSays : Created → Reply Fresh
+createdSays (created.At d b) = accepted (record { dir = d .0; block = b .0 })
+createdSays (created.Refused r) = refused (refusalNumber r)

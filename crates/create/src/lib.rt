@@ -1,0 +1,174 @@
+// Creating a file or a directory by its full path, on a volume that is opened and checked: refusals 8, 5, 6, 15, 7, 9, 18 in this order, then
+// the stores of `create_store`.
+use block::Addr;
+use create_store::Spot;
+use dir::Holding;
+use dir::Holds;
+use dir::Owned;
+use dir_entry::Kind;
+use limits::Refusal;
+use own_entry::Own;
+use read_dir::Found;
+use super_block::SuperBlock;
+ghost use mathlib.Core.Path.{_≡_};
+ghost use mathlib.Core.Bool.{_&&_};
+ghost use Prim.Native.Nat.{_≤_};
+ghost use lib.Dec.{leb};
+ghost use lib.ListN.{length, take};
+ghost use Rattle.block.specs.Block.{blockBytes};
+ghost use Rattle.model.specs.Geometry.{countAt};
+ghost use Rattle.model.specs.Volume.{WellFormed, maxDepth};
+ghost use Rattle.super_block.specs.Super.{geoOf, Fit};
+ghost use Rattle.dir_entry.specs.Entry.{isDir};
+ghost use Rattle.create_store.specs.Create.{spotFor};
+ghost use Rattle.path.specs.Path.{pathLimit};
+ghost use Rattle.dir.specs.Post.{holdOf};
+ghost use Rattle.create.specs.Creating.{badName, siteAt, siteIn, freshOf, createdOn, imageAt, createdImage};
+ghost use Rattle.create.specs.Post.{sitedSays, SitedIn, createdSays};
+
+// The longest name.
+const NAME_LIMIT: usize = 255;
+
+// The root is at depth 0.
+const MAX_DEPTH: u32 = 16;
+
+// Where a new entry goes, and where its directory's own entry stands.
+enum Sited {
+    At(Spot, Own),
+    Refused(Refusal),
+}
+
+// The holding directory's first address, and the new entry's block.
+pub enum Created {
+    At(Addr, Addr),
+    Refused(Refusal),
+}
+
+// Whether no entry can have that name.
+fn bad_name(name: &[u8]) -> bool
+    ensures { λ r. ⌜ r ≡ badName (now (name .entry)) ⌝ }
+{
+    let len = name.len();
+    len == 0 || NAME_LIMIT < len
+}
+
+// Whether a directory in one at that depth would be too deep.
+fn too_deep(kind: Kind, depth: u32) -> bool
+    ensures { λ r. ⌜ r ≡ (isDir kind && leb maxDepth depth) ⌝ }
+{
+    match kind {
+        Kind::Dir => MAX_DEPTH <= depth,
+        Kind::File => false,
+        Kind::Device => false,
+    }
+}
+
+// The spot of a name of len bytes in the directory h, and h's own entry: all that the stores need is known before the first of them.
+fn site_at(img: &[u8], s: SuperBlock, full: &[u8], h: Holding, len: usize) -> Sited
+    requires { ⌜ Fit s (now img) ⌝ }
+    requires { ⌜ WellFormed (s .addr .0) (now img) ⌝ }
+    requires { ⌜ s .blocks ≡ countAt (s .addr .0) (now img) ⌝ }
+    requires { ⌜ len ≤ 255 ⌝ }
+    requires { ⌜ h .from ≤ h .to ⌝ }
+    requires { ⌜ h .to ≤ length (now full) ⌝ }
+    ensures { λ r. ⌜ sitedSays (h .dir .0) r ≡ siteAt (geoOf s) (now (img .entry)) (holdOf (now (full .entry)) h) (spotFor blockBytes (s .area .0) (s .blocks) (now (img .entry)) (h .dir .0) len) ⌝ }
+    ensures { λ r. ⌜ SitedIn s (now (img .entry)) len r ⌝ }
+{
+    let dir = h.dir;
+    let spot = create_store::spot_for(img, s, dir, len);
+    let needed = create_store::blocks_needed(spot);
+    if needed == 0 {
+        return Sited::Refused(Refusal::Damaged);
+    }
+    if bitmap_block::count_free(img, s) < needed {
+        return Sited::Refused(Refusal::NoRoom);
+    }
+    let owned = dir::own(img, s, full, h);
+    match owned {
+        Owned::At(own) => Sited::At(spot, own),
+        Owned::Lost => Sited::Refused(Refusal::LostDir),
+    }
+}
+
+// The site of a new name in the directory h.
+fn site_in(img: &[u8], s: SuperBlock, full: &[u8], h: Holding, kind: Kind, name: &[u8]) -> Sited
+    requires { ⌜ Fit s (now img) ⌝ }
+    requires { ⌜ WellFormed (s .addr .0) (now img) ⌝ }
+    requires { ⌜ s .blocks ≡ countAt (s .addr .0) (now img) ⌝ }
+    requires { ⌜ length (now name) ≤ 255 ⌝ }
+    requires { ⌜ h .from ≤ h .to ⌝ }
+    requires { ⌜ h .to ≤ length (now full) ⌝ }
+    ensures { λ r. ⌜ sitedSays (h .dir .0) r ≡ siteIn (geoOf s) (now (img .entry)) kind (now (name .entry)) (holdOf (now (full .entry)) h) ⌝ }
+    ensures { λ r. ⌜ SitedIn s (now (img .entry)) (length (now (name .entry))) r ⌝ }
+{
+    if too_deep(kind, h.depth) {
+        return Sited::Refused(Refusal::TooDeep);
+    }
+    let dir = h.dir;
+    let found = read_dir::lookup(img, s, dir, name);
+    match found {
+        Found::At(_, _) => Sited::Refused(Refusal::Exists),
+        Found::Damaged => Sited::Refused(Refusal::Damaged),
+        Found::Missing => site_at(img, s, full, h, name.len()),
+    }
+}
+
+// Creates the entry in the directory h.
+fn create_in(
+    img: &mut [u8],
+    s: SuperBlock,
+    full: &[u8],
+    h: Holding,
+    kind: Kind,
+    name: &[u8],
+    time: u64,
+) -> Created
+    requires { ⌜ Fit s (now img) ⌝ }
+    requires { ⌜ WellFormed (s .addr .0) (now img) ⌝ }
+    requires { ⌜ s .blocks ≡ countAt (s .addr .0) (now img) ⌝ }
+    requires { ⌜ length (now name) ≤ 255 ⌝ }
+    requires { ⌜ h .from ≤ h .to ⌝ }
+    requires { ⌜ h .to ≤ length (now full) ⌝ }
+    ensures { λ r. ⌜ createdSays r ≡ freshOf (geoOf s) (now (img .entry)) (siteIn (geoOf s) (now (img .entry)) kind (now (name .entry)) (holdOf (now (full .entry)) h)) ⌝ }
+    ensures { λ _. ⌜ now (img .exit) ≡ imageAt (geoOf s) (now (img .entry)) kind (now (name .entry)) time (siteIn (geoOf s) (now (img .entry)) kind (now (name .entry)) (holdOf (now (full .entry)) h)) ⌝ }
+{
+    let sited = site_in(img, s, full, h, kind, name);
+    match sited {
+        Sited::Refused(r) => Created::Refused(r),
+        Sited::At(spot, own) => {
+            let dir = h.dir;
+            let a = create_store::insert(img, s, dir, spot, own, kind, name, time);
+            Created::At(dir, a)
+        }
+    }
+}
+
+// Creates a file or a directory at the full path full[..len]. Refusals: 8, 5, 6, 15, 7, 9; on a checked volume never 17 or 18.
+pub fn create(
+    img: &mut [u8],
+    s: SuperBlock,
+    full: &[u8],
+    len: usize,
+    kind: Kind,
+    time: u64,
+) -> Created
+    requires { ⌜ Fit s (now img) ⌝ }
+    requires { ⌜ WellFormed (s .addr .0) (now img) ⌝ }
+    requires { ⌜ s .blocks ≡ countAt (s .addr .0) (now img) ⌝ }
+    requires { ⌜ len ≤ length (now full) ⌝ }
+    requires { ⌜ length (now full) ≤ pathLimit ⌝ }
+    ensures { λ r. ⌜ createdSays r ≡ createdOn (geoOf s) (now (img .entry)) kind (take len (now (full .entry))) ⌝ }
+    ensures { λ _. ⌜ now (img .exit) ≡ createdImage (geoOf s) (now (img .entry)) kind (take len (now (full .entry))) time ⌝ }
+{
+    let parts = path::parts_of(full, len);
+    let from = parts.from;
+    let to = parts.to;
+    if bad_name(&full[from..to]) {
+        return Created::Refused(Refusal::BadName);
+    }
+    let held = dir::hold(img, s, full, parts.dir);
+    match held {
+        Holds::Refused(r) => Created::Refused(r),
+        Holds::At(h) => create_in(img, s, full, h, kind, &full[from..to], time),
+    }
+}

@@ -1,0 +1,218 @@
+-- The steps of a create, over all numbers that are sound for the image: a block taken, a block linked, an entry stored. And what the code
+-- of each step needs and gives.
+use mathlib.Core.Path.{_≡_, refl, sym, ap, _∙_, subst}
+use mathlib.Core.List.{List, _++_}
+use Prim.Native.Nat.{ℕ, _+_, _-_, _*_, _^_, _≤_, _<_}
+use native.Mathlib.Omega.{arith}
+use lib.ListN.{length, getD, take, drop, length-append}
+use lib.Seq.{take-all}
+use Rattle.wire.specs.Be.{splice}
+use Rattle.wire.proofs.Laws.{length-splice}
+use Rattle.block.specs.declared.Addr.{Addr}
+use Rattle.block.specs.Block.{linked, Off, Kept}
+use Rattle.block.proofs.Laws.{linked-kept}
+use Rattle.model.specs.Tree.{Name}
+use Rattle.model.specs.Geometry.{Geo, blockSize, dataAt, Sound}
+use Rattle.model.proofs.Areas.{area, few, size-large, block-inside}
+use Rattle.super_block.specs.declared.SuperBlock.{SuperBlock}
+use Rattle.super_block.specs.Super.{geoOf, Fit}
+use Rattle.super_block.proofs.Fits.{placed, fit-long}
+use Rattle.bitmap_block.specs.Bitmap.{clears, taken, Room, fresh}
+use Rattle.bitmap_block.proofs.Laws.{found-in}
+use Rattle.bitmap_block.proofs.Steps.{Aside, sound-kept, used-kept, clears-kept, taken-kept, room-taken, fresh-low, fresh-index, fresh-first, fresh-data, fresh-high}
+use Rattle.dir_entry.specs.declared.Kind.{Kind}
+use Rattle.dir_entry.specs.declared.DirEntry.{DirEntry}
+use Rattle.dir_entry.specs.Entry.{headBytes, placeAt}
+use Rattle.dir_entry.proofs.Heads.{length-head, splice-then}
+use Rattle.read_dir.specs.declared.Place.{Place}
+use Rattle.read_dir.specs.declared.Summed.the-variants as summed
+use Rattle.read_dir.specs.Finds as finds
+use Rattle.own_entry.specs.declared.Own.{Own}
+use Rattle.own_entry.specs.declared.Own.the-variants.{Root, At}
+use Rattle.own_entry.specs.Own.{OwnIn, sumRenewed}
+use Rattle.create_store.specs.declared.Spot.{Spot}
+use Rattle.create_store.specs.declared.Spot.the-variants.{In, After, Damaged}
+use Rattle.create_store.specs.Create.{needed, SpotIn, grown, opened, placeIn, newHead, entered, inserted, insertedAt}
+
+-- ---- a block taken
+
+module _ (g : Geo) (I : List ℕ) (h : 1 ≤ length (clears g I)) (s : Sound g (length I)) where
+  -- every byte but the used count, the bitmap and the new block's is as it was
+  pub grown-kept : Kept (blockSize g) (λ b o. Aside g b o × (b ≡ fresh g I → ⊥)) I (grown g I)
+  unfolding grown
+  grown-kept =
+      let k = taken-kept g I s (fresh g I - dataAt g) (fresh-data g I h s) in
+      record { size = k .size; at = λ b o p q. k .at b o (p .0, λ e. p .1 (e ∙ fresh-index g I h)) q }
+
+  pub length-grown : length (grown g I) ≡ length I
+  length-grown = grown-kept .size
+
+  pub sound-grown : Sound g (length (grown g I))
+  sound-grown = sound-kept g I s _ (grown g I) grown-kept
+
+  pub room-grown : (k : ℕ) → Room g I (k + 1) → Room g (grown g I) k
+  unfolding grown
+  room-grown k r = room-taken g I s (fresh g I - dataAt g) (drop 1 (clears g I)) (fresh-first g I h) k r
+
+-- a store in a data block leaves the room
+pub room-kept : (g : Geo) (I : List ℕ) → Sound g (length I) → (P : ℕ → ℕ → Type 0) (J : List ℕ) → Kept (blockSize g) P I J → ((b o : ℕ) → b < dataAt g → P b o) → (k : ℕ) → Room g I k → Room g J k
+room-kept g I s P J c f k r =
+    let m = area g (length I) s .maps in
+    record {
+      clear = subst (λ (l : List ℕ). k ≤ length l) (sym (clears-kept g I s P J c (λ b o _ q. f b o q))) (r .clear);
+      count = omega (arith, r .count, used-kept g I s P J c (λ o _ _. f (g .K) o (omega arith)));
+    }
+
+-- ---- the place of the entry
+
+module _ (g : Geo) (I : List ℕ) (s : Sound g (length I)) (len : ℕ) where
+  -- where a new block is linked, the image has its length, and room for one less
+  linked-in : (a : ℕ) → dataAt g ≤ a → a < g .n → Room g I 2 → Kept (blockSize g) (Off a 0 4) (grown g I) (linked (blockSize g) (grown g I) a (fresh g I))
+  linked-in a l h r =
+      linked-kept (blockSize g) (grown g I) a (omega (arith, size-large g))
+      (block-inside g (length (grown g I)) (sound-grown g I (omega (arith, r .clear)) s) a h) (fresh g I)
+
+  pub opened-long : (t : Spot) → SpotIn (blockSize g) (dataAt g) (g .n) len t → Room g I (needed t) → length (opened g I t) ≡ length I
+  opened-long (In p) q r = refl
+  opened-long (After a) q r = linked-in (a .0) (q .0) (q .1) r .size ∙ length-grown g I (omega (arith, r .clear)) s
+  opened-long Damaged q r = refl
+
+  pub opened-room : (t : Spot) → SpotIn (blockSize g) (dataAt g) (g .n) len t → Room g I (needed t) → Room g (opened g I t) 1
+  opened-room (In p) q r = r
+  opened-room (After a) q r =
+      let h : 1 ≤ length (clears g I) = omega (arith, r .clear) in
+      room-kept g (grown g I) (sound-grown g I h s) (Off (a .0) 0 4) _ (linked-in (a .0) (q .0) (q .1) r) (λ b o k e _ _. omega (arith, q .0)) 1 (room-grown g I h s 1 r)
+  opened-room Damaged q r = absurd q
+
+  pub place-data : (t : Spot) → SpotIn (blockSize g) (dataAt g) (g .n) len t → Room g I (needed t) → (dataAt g ≤ placeIn g I t .block .0) × (placeIn g I t .block .0 < g .n)
+  place-data (In p) q r = (q .0, q .1)
+  place-data (After a) q r = let h : 1 ≤ length (clears g I) = omega (arith, r .clear) in (fresh-low g I h, fresh-high g I h s)
+  place-data Damaged q r = absurd q
+
+  pub place-room : (t : Spot) → SpotIn (blockSize g) (dataAt g) (g .n) len t → len ≤ 255 → placeIn g I t .offset + 18 + len ≤ blockSize g - 5
+  place-room (In p) q r = q .2
+  place-room (After a) q r = omega (arith, size-large g)
+  place-room Damaged q r = absurd q
+
+-- ---- the entry stored
+
+pub length-entered : (g : Geo) (I : List ℕ) → Sound g (length I) → Room g I 1 → (p : Place) (k : Kind) (name : Name) (time : ℕ)
+    → blockSize g * p .block .0 + blockSize g ≤ length I → p .offset + 18 + length name ≤ blockSize g - 5 → length (entered g I p k name time) ≡ length I
+unfolding entered
+length-entered g I s r p k name time h q =
+    let E : List ℕ = headBytes (newHead k (fresh g I) time (length name)) ++ name in
+    let l : length (grown g I) ≡ length I = length-grown g I (omega (arith, r .clear)) s in
+    let m : length E ≡ length (headBytes (newHead k (fresh g I) time (length name))) + length name = length-append (headBytes (newHead k (fresh g I) time (length name))) name in
+    length-splice (grown g I) (placeAt (blockSize g) (p .block .0) (p .offset)) E (omega (arith, length-head (newHead k (fresh g I) time (length name)), size-large g)) ∙ l
+
+-- ==== what the code needs and gives
+
+module _ {s : SuperBlock} {I : List ℕ} (f : Fit s I) where
+  -- grow
+  pub grow-small : (x : ℕ) → Room (geoOf s) I 1 → dataAt (geoOf s) + x ≡ getD (clears (geoOf s) I) 0 0 → s .area .0 + x < 2 ^ 32
+  grow-small x r e = omega (arith, found-in x f (r .clear) e, placed f .few)
+
+  pub grow-image : (x : ℕ) {J : List ℕ} → dataAt (geoOf s) + x ≡ getD (clears (geoOf s) I) 0 0 → J ≡ taken (geoOf s) I x → J ≡ grown (geoOf s) I
+  unfolding grown fresh
+  grow-image x e j = let k : x ≡ getD (clears (geoOf s) I) 0 0 - dataAt (geoOf s) = omega arith in j ∙ ap (taken (geoOf s) I) k
+
+  pub grow-block : (x : ℕ) {a : ℕ} → dataAt (geoOf s) + x ≡ getD (clears (geoOf s) I) 0 0 → a ≡ s .area .0 + x → a ≡ fresh (geoOf s) I
+  unfolding fresh
+  grow-block x e j = j ∙ ap (λ (z : ℕ). z + x) (f .area) ∙ e
+
+  -- the spot, by the struct's own numbers
+  in-data : (t : Spot) (len : ℕ) → SpotIn 512 (s .area .0) (s .blocks) len t → SpotIn 512 (dataAt (geoOf s)) (s .blocks) len t
+  in-data t len q = subst (λ (z : ℕ). SpotIn 512 z (s .blocks) len t) (f .area) q
+
+  -- open_place
+  pub after-inside : (t : Spot) (len : ℕ) (a : Addr) → SpotIn 512 (s .area .0) (s .blocks) len t → t ≡ After a → 512 * a .0 + 512 ≤ length I
+  after-inside t len a q e =
+      let w : SpotIn 512 (s .area .0) (s .blocks) len (After a) = subst (SpotIn 512 (s .area .0) (s .blocks) len) e q in
+      omega (arith, w .1, placed f .inside)
+
+  -- insert: what the second step finds
+  module _ (t : Spot) (len : ℕ) {J : List ℕ} (q : SpotIn 512 (s .area .0) (s .blocks) len t) (r : Room (geoOf s) I (needed t)) (j : J ≡ opened (geoOf s) I t) where
+    open-long : length J ≡ length I
+    open-long = ap length j ∙ opened-long (geoOf s) I (f .sound) len t (in-data t len q) r
+
+    pub open-fit : Fit s J
+    open-fit = fit-long open-long f
+
+    pub open-room : Room (geoOf s) J 1
+    open-room = subst (λ (z : List ℕ). Room (geoOf s) z 1) (sym j) (opened-room (geoOf s) I (f .sound) len t (in-data t len q) r)
+
+    module _ {p : Place} (e : p ≡ placeIn (geoOf s) I t) where
+      pub open-inside : 512 * p .block .0 + 512 ≤ length J
+      open-inside =
+          let w = place-data (geoOf s) I (f .sound) len t (in-data t len q) r in
+          let k : p .block .0 ≡ placeIn (geoOf s) I t .block .0 = ap (λ (z : Place). z .block .0) e in
+          omega (arith, w .1, k, placed f .inside, open-long)
+
+      pub open-fits : len ≤ 255 → p .offset + 18 + len ≤ 507
+      open-fits h =
+          let k : p .offset ≡ placeIn (geoOf s) I t .offset = ap (λ (z : Place). z .offset) e in
+          omega (arith, k, place-room (geoOf s) I (f .sound) len t (in-data t len q) h)
+
+      -- and the third
+      module _ {L : List ℕ} (k : Kind) (name : Name) (time : ℕ) (n : length name ≡ len) (h : len ≤ 255) (l : L ≡ entered (geoOf s) J p k name time) where
+        enter-long : length L ≡ length I
+        enter-long =
+            ap length l ∙ length-entered (geoOf s) J (open-fit .sound) open-room p k name time open-inside (omega (arith, open-fits h)) ∙ open-long
+
+        pub enter-fit : Fit s L
+        enter-fit = fit-long enter-long f
+
+        pub enter-own : (o : Own) → OwnIn I o → OwnIn L o
+        enter-own Root x = tt
+        enter-own (At y) x = (omega (arith, x .0, enter-long), x .1)
+
+-- extend
+pub extend-image : (g : Geo) (I J L : List ℕ) (a b c last : ℕ) → J ≡ grown g I → a ≡ fresh g I → c ≡ a → b ≡ last → L ≡ linked 512 J b c → L ≡ linked 512 (grown g I) last (fresh g I)
+extend-image g I J L a b c last j e d f l = l ∙ (λ i. linked 512 (j i) (f i) ((d ∙ e) i))
+
+-- open_place
+module _ (g : Geo) (I : List ℕ) (t : Spot) where
+  pub after-room : (a : Addr) → t ≡ After a → Room g I (needed t) → Room g I 1
+  after-room a e r =
+      let w : Room g I 2 = subst (λ (z : Spot). Room g I (needed z)) e r in
+      record { clear = omega (arith, w .clear); count = omega (arith, w .count) }
+
+  pub after-place : (a b : Addr) → t ≡ After a → b .0 ≡ fresh g I → _≡_ {A = Place} (record { block = b; offset = 0 }) (placeIn g I t)
+  after-place a b e f = (λ i. finds.placed (f i) 0) ∙ ap (placeIn g I) (sym e)
+
+  pub never : (B D n len : ℕ) → t ≡ Damaged → SpotIn B D n len t → ⊥
+  never B D n len e q = subst (SpotIn B D n len) e q
+
+pub after-image : (s : SuperBlock) (I J : List ℕ) (t : Spot) (a : Addr) → t ≡ After a → J ≡ linked 512 (grown (geoOf s) I) (a .0) (fresh (geoOf s) I) → J ≡ opened (geoOf s) I t
+after-image s I J t a e j = j ∙ ap (opened (geoOf s) I) (sym e)
+
+-- store_entry
+pub entry-stored : (I J L : List ℕ) (at : ℕ) (p : Place) (e : DirEntry) (name : Name) → 512 * p .block .0 + 512 ≤ length I → p .offset + 18 + length name ≤ 507
+    → at ≡ placeAt 512 (p .block .0) (p .offset) → J ≡ splice I at (headBytes e) → L ≡ splice J (at + 18) (take (length name) (drop 0 name))
+    → L ≡ splice I (placeAt 512 (p .block .0) (p .offset)) (headBytes e ++ name)
+entry-stored I J L at p e name h w f j l =
+    let q : ℕ = placeAt 512 (p .block .0) (p .offset) in
+    let k : q + 18 ≡ q + length (headBytes e) = omega (arith, length-head e) in
+    l ∙ (λ i. splice J (f i + 18) (take-all (length name) name (omega arith) i))
+    ∙ splice-then I J q (q + 18) (headBytes e) name (j ∙ ap (λ (z : ℕ). splice I z (headBytes e)) f) k (omega (arith, length-head e))
+
+-- enter
+pub enter-image : (s : SuperBlock) (I J L : List ℕ) (p : Place) (k : Kind) (a : Addr) (name : Name) (time : ℕ) (e : DirEntry) → J ≡ grown (geoOf s) I → a .0 ≡ fresh (geoOf s) I
+    → e ≡ record { kind = k; addr = a; size = 0; time = time; len = length name }
+    → L ≡ splice J (placeAt 512 (p .block .0) (p .offset)) (headBytes e ++ name) → L ≡ entered (geoOf s) I p k name time
+unfolding entered
+enter-image s I J L p k a name time e j f d l =
+    l ∙ (λ i. splice (j i) (placeAt 512 (p .block .0) (p .offset)) (headBytes (d i) ++ name))
+    ∙ (λ i. splice (grown (geoOf s) I) (placeAt 512 (p .block .0) (p .offset)) (headBytes (newHead k (f i) time (length name)) ++ name))
+
+-- insert
+pub insert-image : (s : SuperBlock) (I J L M : List ℕ) (dir : ℕ) (t : Spot) (own : Own) (k : Kind) (name : Name) (time : ℕ) (p : Place)
+    → J ≡ opened (geoOf s) I t → p ≡ placeIn (geoOf s) I t → L ≡ entered (geoOf s) J p k name time → M ≡ sumRenewed (geoOf s) L dir own time
+    → M ≡ inserted (geoOf s) I dir t own k name time
+unfolding inserted
+insert-image s I J L M dir t own k name time p j e l m =
+    m ∙ ap (λ (z : List ℕ). sumRenewed (geoOf s) z dir own time) (l ∙ (λ i. entered (geoOf s) (j i) (e i) k name time))
+
+pub insert-block : (s : SuperBlock) (I J : List ℕ) (t : Spot) (a : ℕ) → J ≡ opened (geoOf s) I t → a ≡ fresh (geoOf s) J → a ≡ insertedAt (geoOf s) I t
+unfolding insertedAt
+insert-block s I J t a j e = e ∙ ap (fresh (geoOf s)) j

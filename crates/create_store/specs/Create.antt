@@ -1,0 +1,106 @@
+-- Creating a file or a directory: where its entry goes, and what the stores make of the image, in their order. Definitions alone.
+use mathlib.Core.List.{List, [], _∷_, _++_}
+use Prim.Native.Nat.{ℕ, zero, suc, _+_, _-_, _≤_, _<_}
+use lib.Dec.{leb, eqb}
+use lib.ListN.{length}
+use Rattle.wire.specs.Be.{splice}
+use Rattle.wire.specs.Pick.{pick}
+use Rattle.block.specs.Block.{next, linked}
+use Rattle.model.specs.Tree.{Name, Block, used}
+use Rattle.model.specs.Geometry.{Geo, blockSize, dataAt}
+use Rattle.model.specs.Calls.{hasRoom}
+use Rattle.bitmap_block.specs.Bitmap.{taken, fresh}
+use Rattle.dir_entry.specs.declared.Kind.{Kind}
+use Rattle.dir_entry.specs.declared.DirEntry.{DirEntry}
+use Rattle.dir_entry.specs.declared.Slot.{Slot}
+use Rattle.dir_entry.specs.declared.Slot.the-variants.{Entry, Stop}
+use Rattle.dir_entry.specs.Entry.{header, headBytes, placeAt, slotAt}
+use Rattle.read_dir.specs.declared.Place.{Place}
+use Rattle.read_dir.specs.declared.Summed.the-variants as summed
+use Rattle.read_dir.specs.Walk.{inArea}
+use Rattle.read_dir.specs.Finds.{placed}
+use Rattle.own_entry.specs.declared.Own.{Own}
+use Rattle.own_entry.specs.Own.{sumRenewed}
+use Rattle.create_store.specs.declared.Spot.{Spot}
+use Rattle.create_store.specs.declared.Spot.the-variants.{In, After, Damaged}
+
+-- ---- where the entry goes
+
+-- k of the entry that stands at offset o, or o where the block's entries stop
+abbrev pub stopOr : Slot → (DirEntry → ℕ) → ℕ → ℕ
+stopOr (Entry e) k o = k e
+stopOr Stop k o = o
+
+-- The offset where the entries of block a stop, from offset o on. (The first number bounds them.)
+unfoldable pub stopFrom : ℕ → List ℕ → ℕ → ℕ → ℕ → ℕ
+stopFrom B I zero a o = o
+stopFrom B I (suc f) a o = stopOr (slotAt B I a o) (λ e. stopFrom B I f a (o + header + e .len)) o
+
+-- The bytes that the entries of block a use.
+abbrev pub usedAt : ℕ → List ℕ → ℕ → ℕ
+usedAt B I a = stopFrom B I B a 0
+
+-- 01, "into the first block, in chain order, where used + 18 + length <= 507; else a new block is linked at the end", and "a walk that leaves
+-- D..n-1 or passes n-D blocks in one chain gives 17": for a name of len bytes, from block a on, where k blocks may be read.
+unfoldable pub spotFrom : ℕ → ℕ → ℕ → List ℕ → ℕ → ℕ → ℕ → Spot
+spotFrom B D n I len zero a = Damaged
+spotFrom B D n I len (suc k) a =
+    pick (inArea B D n I a)
+    (pick (leb (usedAt B I a + header + len) (B - 5)) (In (placed a (usedAt B I a)))
+    (pick (eqb (next B I a) 0) (After (record { 0 = a })) (spotFrom B D n I len k (next B I a))))
+    Damaged
+
+-- The same for the directory whose first block is dir.
+abbrev pub spotFor : ℕ → ℕ → ℕ → List ℕ → ℕ → ℕ → Spot
+spotFor B D n I dir len = spotFrom B D n I len (n - D) dir
+
+-- The same on a directory of the tree, z being the block before: its first block with room, at the end of its entries, else after its last one.
+unfoldable pub spotOn : {X : Type 0} → ℕ → Name → ℕ → List (Block X) → Spot
+spotOn cap n z [] = After (record { 0 = z })
+spotOn cap n z (b ∷ bs) = pick (hasRoom cap n b) (In (placed (b .at) (used (b .entries)))) (spotOn cap n (b .at) bs)
+
+-- How many blocks an entry there takes: its own, and a new directory block before it.
+abbrev pub needed : Spot → ℕ
+needed (In p) = 1
+needed (After a) = 2
+needed Damaged = 0
+
+-- A place in the data area with room for a name of len bytes, or a last block in the data area.
+abbrev pub SpotIn : ℕ → ℕ → ℕ → ℕ → Spot → Type 0
+SpotIn B D n len (In p) = (D ≤ p .block .0) × (p .block .0 < n) × (p .offset + header + len ≤ B - 5)
+SpotIn B D n len (After a) = (D ≤ a .0) × (a .0 < n)
+SpotIn B D n len Damaged = ⊥
+
+-- ---- the stores
+
+-- 01, "Then one block for the entry, size 0, time from the caller": the fixed part of the entry.
+abbrev pub newHead : Kind → ℕ → ℕ → ℕ → DirEntry
+newHead k a time len = record { kind = k; addr = record { 0 = a }; size = 0; time = time; len = len }
+
+module _ (g : Geo) where
+  -- 01, "A new block is the lowest clear index within reach": the image with it taken.
+  unfoldable pub grown : List ℕ → List ℕ
+  grown I = taken g I (fresh g I - dataAt g)
+
+  -- "else a new block is linked at the end": the image where the entry has a place, and that place.
+  abbrev pub opened : List ℕ → Spot → List ℕ
+  opened I (In p) = I
+  opened I (After a) = linked (blockSize g) (grown I) (a .0) (fresh g I)
+  opened I Damaged = I
+
+  abbrev pub placeIn : List ℕ → Spot → Place
+  placeIn I (In p) = p
+  placeIn I (After a) = placed (fresh g I) 0
+  placeIn I Damaged = placed 0 0
+
+  -- "Then one block for the entry": the image with the block taken, and the entry at its place.
+  unfoldable pub entered : List ℕ → Place → Kind → Name → ℕ → List ℕ
+  entered I p k name time =
+      splice (grown I) (placeAt (blockSize g) (p .block .0) (p .offset)) (headBytes (newHead k (fresh g I) time (length name)) ++ name)
+
+  -- The image after a create in the directory whose first block is dir, whose own entry "gets the new sum and the time", and the block of the entry.
+  unfoldable pub inserted : List ℕ → ℕ → Spot → Own → Kind → Name → ℕ → List ℕ
+  inserted I dir spot own k name time = sumRenewed g (entered (opened I spot) (placeIn I spot) k name time) dir own time
+
+  unfoldable pub insertedAt : List ℕ → Spot → ℕ
+  insertedAt I spot = fresh g (opened I spot)

@@ -1,0 +1,54 @@
+use Rattle.delete.proofs.Laws.{mark-empty, mark-held, mark-refused, hold-from, hold-to, name-from, name-to}
+use borrow.Author.Needs.{needs}
+use Rattle.delete.proofs.mark.Statement.{statement}
+use Rattle.delete.proofs.mark.Tie as tie
+use Rattle.delete.proofs.mark.Reads as reads
+use Rattle.delete.proofs.mark.Lts as lts
+use Rattle.delete.proofs.mark_in.Reads as mark-in-reads
+use Rattle.dir.proofs.hold.Reads as hold-reads
+use Rattle.path.proofs.parts_of.Reads as parts-of-reads
+
+-- src/lib.rt:96:9
+parts-of-requires : tie.Need-parts-of-requires
+parts-of-requires c κs = search needs
+
+-- src/lib.rt:100:9
+returns : tie.Need-returns
+returns c = (search mark-empty, tt)
+
+-- src/lib.rt:102:9
+hold-requires : tie.Need-hold-requires
+hold-requires c κs = search needs
+
+-- src/lib.rt:104:19
+enum-known-holds : tie.Need-enum-known-holds
+enum-known-holds c = search needs
+
+-- src/lib.rt:104:25
+mark-in-requires : tie.Need-mark-in-requires
+mark-in-requires c κs = (search needs, (search hold-from, (search hold-to, (search name-from, search name-to))))
+
+-- src/lib.rt:105:24
+enum-known-holds-2 : tie.Need-enum-known-holds-2
+enum-known-holds-2 c = search needs
+
+-- src/lib.rt:89:1
+returns-2 : tie.Need-returns-2
+returns-2 c = (search mark-held, search needs)
+
+-- src/lib.rt:89:1
+returns-3 : tie.Need-returns-3
+returns-3 c = (search mark-refused, tt)
+
+pub mark-spec : {M : Type 1} → statement M
+mark-spec =
+    tie.close
+    (tie.spec
+    parts-of-requires
+    returns
+    hold-requires
+    enum-known-holds
+    mark-in-requires
+    enum-known-holds-2
+    returns-2
+    returns-3)

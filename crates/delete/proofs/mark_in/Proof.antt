@@ -1,0 +1,68 @@
+use Rattle.delete.proofs.Laws.{in-at, in-missing, in-damaged}
+use borrow.Author.Needs.{needs}
+use Rattle.delete.proofs.mark_in.Statement.{statement}
+use Rattle.delete.proofs.mark_in.Tie as tie
+use Rattle.delete.proofs.mark_in.Reads as reads
+use Rattle.delete.proofs.mark_in.Lts as lts
+use Rattle.delete.proofs.mark_at.Reads as mark-at-reads
+use Rattle.read_dir.proofs.lookup.Reads as lookup-reads
+
+-- src/lib.rt:80:45
+sub-lookup : tie.Need-sub-lookup
+sub-lookup c = search needs
+
+-- src/lib.rt:80:45
+part-lookup-start : tie.Need-part-lookup-start
+part-lookup-start c = search needs
+
+-- src/lib.rt:80:45
+part-lookup-end : tie.Need-part-lookup-end
+part-lookup-end c = search needs
+
+-- src/lib.rt:80:9
+lookup-requires : tie.Need-lookup-requires
+lookup-requires c κs = search needs
+
+-- src/lib.rt:82:19
+enum-known-found : tie.Need-enum-known-found
+enum-known-found c = search needs
+
+-- src/lib.rt:82:28
+mark-at-requires : tie.Need-mark-at-requires
+mark-at-requires c κs = search needs
+
+-- src/lib.rt:83:43
+enum-told : tie.Need-enum-told
+enum-told c = search needs
+
+-- src/lib.rt:84:43
+enum-told-2 : tie.Need-enum-told-2
+enum-told-2 c = search needs
+
+-- src/lib.rt:70:1
+returns : tie.Need-returns
+returns c = (search in-at, search needs)
+
+-- src/lib.rt:70:1
+returns-2 : tie.Need-returns-2
+returns-2 c = (search in-missing, tt)
+
+-- src/lib.rt:70:1
+returns-3 : tie.Need-returns-3
+returns-3 c = (search in-damaged, tt)
+
+pub mark-in-spec : {M : Type 1} → statement M
+mark-in-spec =
+    tie.close
+    (tie.spec
+    sub-lookup
+    part-lookup-start
+    part-lookup-end
+    lookup-requires
+    enum-known-found
+    mark-at-requires
+    enum-told
+    enum-told-2
+    returns
+    returns-2
+    returns-3)

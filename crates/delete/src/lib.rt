@@ -1,0 +1,125 @@
+// Deleting an entry by its full path, on a volume that is opened and checked: refusals 5, 6, 14, 18 in this order, then the stores of `delete_store`.
+// All that may refuse is read before the first store, and the contracts hold on any opened image; on a volume they are the tree's delete
+// (proofs/OnVolume.antt). A path is the first bytes of a lent buffer, as the crate path leaves it.
+use block::Addr;
+use dir::Holding;
+use dir::Holds;
+use dir::Owned;
+use dir_entry::DirEntry;
+use dir_entry::Kind;
+use limits::Refusal;
+use own_entry::Own;
+use read_dir::Found;
+use read_dir::Place;
+use super_block::SuperBlock;
+ghost use mathlib.Core.Path.{_≡_};
+ghost use Prim.Native.Nat.{_≤_};
+ghost use lib.ListN.{length, take};
+ghost use Rattle.super_block.specs.Super.{geoOf, Fit};
+ghost use Rattle.path.specs.Path.{pathLimit};
+ghost use Rattle.path.specs.Post.{between};
+ghost use Rattle.dir.specs.Post.{holdOf};
+ghost use Rattle.delete.specs.Deleting.{hasEntries, doomedAt, doomedIn, doomedOf, deletedOn, deletedImage};
+ghost use Rattle.delete.specs.Post.{markedSays, MarkedIn, deletedSays};
+
+// The entry to delete: the first address of its directory, its fixed part, its place there, and that directory's own entry.
+enum Marked {
+    At(Addr, DirEntry, Place, Own),
+    Refused(Refusal),
+}
+
+pub enum Deleted {
+    Done,
+    Refused(Refusal),
+}
+
+// Whether an entry stands for a directory that has entries: its size is their sum.
+fn has_entries(e: DirEntry) -> bool
+    ensures { λ r. ⌜ r ≡ hasEntries e ⌝ }
+{
+    let k = e.kind;
+    match k {
+        Kind::Dir => 0 < e.size,
+        Kind::File => false,
+        Kind::Device => false,
+    }
+}
+
+// The entry e at p of the directory h, unless it has entries or the directory's own entry isn't found.
+fn mark_at(img: &[u8], s: SuperBlock, full: &[u8], h: Holding, e: DirEntry, p: Place) -> Marked
+    requires { ⌜ Fit s (now img) ⌝ }
+    requires { ⌜ h .from ≤ h .to ⌝ }
+    requires { ⌜ h .to ≤ length (now full) ⌝ }
+    ensures { λ r. ⌜ markedSays r ≡ doomedAt (geoOf s) (now (img .entry)) (holdOf (now (full .entry)) h) e p ⌝ }
+    ensures { λ r. ⌜ MarkedIn (now (img .entry)) r ⌝ }
+{
+    if has_entries(e) {
+        return Marked::Refused(Refusal::NotEmpty);
+    }
+    let owned = dir::own(img, s, full, h);
+    match owned {
+        Owned::At(o) => {
+            let d = h.dir;
+            Marked::At(d, e, p, o)
+        }
+        Owned::Lost => Marked::Refused(Refusal::LostDir),
+    }
+}
+
+// The entry of the name full[from..to] in the directory h.
+fn mark_in(img: &[u8], s: SuperBlock, full: &[u8], h: Holding, from: usize, to: usize) -> Marked
+    requires { ⌜ Fit s (now img) ⌝ }
+    requires { ⌜ h .from ≤ h .to ⌝ }
+    requires { ⌜ h .to ≤ length (now full) ⌝ }
+    requires { ⌜ from ≤ to ⌝ }
+    requires { ⌜ to ≤ length (now full) ⌝ }
+    ensures { λ r. ⌜ markedSays r ≡ doomedIn (geoOf s) (now (img .entry)) (between (now (full .entry)) from to) (holdOf (now (full .entry)) h) ⌝ }
+    ensures { λ r. ⌜ MarkedIn (now (img .entry)) r ⌝ }
+{
+    let d = h.dir;
+    let found = read_dir::lookup(img, s, d, &full[from..to]);
+    match found {
+        Found::At(e, p) => mark_at(img, s, full, h, e, p),
+        Found::Missing => Marked::Refused(Refusal::NotFound),
+        Found::Damaged => Marked::Refused(Refusal::Damaged),
+    }
+}
+
+// The entry to delete at the full path full[..len]. An empty last name is not found, and nothing is walked for it.
+fn mark(img: &[u8], s: SuperBlock, full: &[u8], len: usize) -> Marked
+    requires { ⌜ Fit s (now img) ⌝ }
+    requires { ⌜ len ≤ length (now full) ⌝ }
+    requires { ⌜ length (now full) ≤ pathLimit ⌝ }
+    ensures { λ r. ⌜ markedSays r ≡ doomedOf (geoOf s) (now (img .entry)) (take len (now (full .entry))) ⌝ }
+    ensures { λ r. ⌜ MarkedIn (now (img .entry)) r ⌝ }
+{
+    let parts = path::parts_of(full, len);
+    let from = parts.from;
+    let to = parts.to;
+    if from == to {
+        return Marked::Refused(Refusal::NotFound);
+    }
+    let holds = dir::hold(img, s, full, parts.dir);
+    match holds {
+        Holds::At(h) => mark_in(img, s, full, h, from, to),
+        Holds::Refused(r) => Marked::Refused(r),
+    }
+}
+
+// Deletes the entry at the full path full[..len]. Any refusal comes before the first store.
+pub fn delete(img: &mut [u8], s: SuperBlock, full: &[u8], len: usize, time: u64) -> Deleted
+    requires { ⌜ Fit s (now img) ⌝ }
+    requires { ⌜ len ≤ length (now full) ⌝ }
+    requires { ⌜ length (now full) ≤ pathLimit ⌝ }
+    ensures { λ r. ⌜ deletedSays r ≡ deletedOn (geoOf s) (now (img .entry)) (take len (now (full .entry))) ⌝ }
+    ensures { λ _. ⌜ now (img .exit) ≡ deletedImage (geoOf s) (now (img .entry)) (take len (now (full .entry))) time ⌝ }
+{
+    let marked = mark(img, s, full, len);
+    match marked {
+        Marked::At(d, e, p, own) => {
+            delete_store::remove(img, s, d, e, p, own, time);
+            Deleted::Done
+        }
+        Marked::Refused(r) => Deleted::Refused(r),
+    }
+}

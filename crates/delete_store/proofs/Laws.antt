@@ -1,0 +1,146 @@
+-- What the code of a delete needs and gives: one law for each place.
+use mathlib.Core.Path.{_≡_, sym, ap, _∙_}
+use mathlib.Core.Bool.{Bool, true, false}
+use mathlib.Core.List.{List}
+use Prim.Native.Nat.{ℕ, suc, _+_, _-_, _*_, _≤_, _<_}
+use native.Mathlib.Omega.{arith}
+use lib.ListN.{length}
+use borrow.Author.Tests.{eq-eqb, ne-eqb, le-leb, lt-leb, lt-ltb, le-ltb}
+use Rattle.wire.specs.Pick.{zeroFrom}
+use Rattle.wire.proofs.Picks.{pick-true, pick-false}
+use Rattle.block.specs.Block.{next, linked}
+use Rattle.model.specs.Geometry.{Geo, dataAt, usedCount}
+use Rattle.super_block.specs.declared.SuperBlock.{SuperBlock}
+use Rattle.super_block.specs.Super.{geoOf, Fit}
+use Rattle.super_block.proofs.Fits.{placed, fit-long}
+use Rattle.bitmap_block.specs.Bitmap.{freed}
+use Rattle.dir_entry.specs.declared.DirEntry.{DirEntry}
+use Rattle.dir_entry.specs.Entry.{placeAt}
+use Rattle.read_dir.specs.declared.Place.{Place}
+use Rattle.own_entry.specs.declared.Own.{Own}
+use Rattle.own_entry.specs.declared.Own.the-variants.{Root, At}
+use Rattle.own_entry.specs.Own.{OwnIn, sumRenewed}
+use Rattle.delete_store.specs.Delete.{released, chainFreed, beforeFrom, unlinked, lessBare, entryGone, removed}
+
+-- ---- what calls ask
+
+pub still-fit : (s : SuperBlock) (I J : List ℕ) → Fit s I → length J ≡ length I → Fit s J
+still-fit s I J f e = fit-long e f
+
+pub own-still : (I J L : List ℕ) (o : Own) → OwnIn I o → length J ≡ length I → length L ≡ length J → OwnIn L o
+own-still I J L Root h e f = tt
+own-still I J L (At p) h e f = (omega (arith, h .0), h .1)
+
+pub fit-twice : (s : SuperBlock) (I J L : List ℕ) → Fit s I → length J ≡ length I → length L ≡ length J → Fit s L
+fit-twice s I J L f d e = fit-long (e ∙ d) f
+
+-- ---- one block given back
+
+pub release-none : (g : Geo) (I : List ℕ) (a r : ℕ) → r ≡ usedCount g I → r ≡ 0 → I ≡ released g I a
+unfolding released
+release-none g I a r e z = sym (pick-true _ _ (eq-eqb (usedCount g I) 0 (sym e ∙ z)))
+
+pub release-some : (s : SuperBlock) (I J : List ℕ) (a r x : ℕ) → Fit s I → r ≡ usedCount (geoOf s) I → (r ≡ 0 → ⊥) → x ≡ a - s .area .0
+    → J ≡ freed (geoOf s) I x → J ≡ released (geoOf s) I a
+unfolding released
+release-some s I J a r x f e z q h =
+    h ∙ ap (freed (geoOf s) I) (q ∙ ap (λ (d : ℕ). a - d) (f .area)) ∙ sym (pick-false _ _ (ne-eqb (usedCount (geoOf s) I) 0 (λ w. z (e ∙ w))))
+
+pub some-used : (g : Geo) (I : List ℕ) (r : ℕ) → r ≡ usedCount g I → (r ≡ 0 → ⊥) → 0 < usedCount g I
+some-used g I r e z = go (usedCount g I) (λ w. z (e ∙ w))
+  where
+    go : (n : ℕ) → (n ≡ 0 → ⊥) → 0 < n
+    go n h = omega arith
+
+pub index-inside : (s : SuperBlock) (a x : ℕ) → x ≡ a - s .area .0 → s .area .0 ≤ a → a < s .blocks → s .area .0 + x < s .blocks
+index-inside s a x e h k = omega arith
+
+-- ---- a chain freed: what is left to free is what was to be freed
+
+module _ (s : SuperBlock) (I J R : List ℕ) (left b : ℕ) (f : Fit s I) (v : chainFreed (geoOf s) J left b ≡ R) where
+  pub chain-end : left ≤ 0 → J ≡ R
+  unfolding chainFreed
+  chain-end h = let e : left ≡ 0 = omega arith in sym (ap (λ (k : ℕ). chainFreed (geoOf s) J k b) e) ∙ v
+
+  step : 0 < left → chainFreed (geoOf s) J left b ≡ chainFreed (geoOf s) J (suc (left - 1)) b
+  step h = let e : left ≡ suc (left - 1) = omega arith in ap (λ (k : ℕ). chainFreed (geoOf s) J k b) e
+
+  pub chain-low : (d : ℕ) → d ≡ s .area .0 → 0 < left → b < d → J ≡ R
+  unfolding chainFreed
+  chain-low d q h l = sym (step h ∙ pick-false _ _ (rw (lt-leb (dataAt (geoOf s)) b (omega (arith, f .area))))) ∙ v
+
+  pub chain-high : 0 < left → s .blocks ≤ b → J ≡ R
+  unfolding chainFreed
+  chain-high h l =
+      sym (step h ∙ pick-false _ _ (rw (le-leb (dataAt (geoOf s)) b (omega (arith, f .area, placed f .some-data)), le-ltb b (s .blocks) l))) ∙ v
+
+  pub chain-more : (d : ℕ) → d ≡ s .area .0 → 0 < left → d ≤ b → b < s .blocks → (L : List ℕ) (a to : ℕ) → to ≡ next 512 J a → a ≡ b → L ≡ released (geoOf s) J b
+      → chainFreed (geoOf s) L (left - 1) to ≡ R
+  unfolding chainFreed
+  chain-more d q h l m L a to x y z =
+      (λ i. chainFreed (geoOf s) (z i) (left - 1) ((x ∙ ap (next 512 J) y) i))
+      ∙ sym (step h ∙ pick-true _ _ (rw (le-leb (dataAt (geoOf s)) b (omega (arith, f .area)), lt-ltb b (s .blocks) m))) ∙ v
+
+-- ---- the block before: what is left to walk is what was to be walked
+
+module _ (n : ℕ) (I : List ℕ) (left a b r : ℕ) (v : beforeFrom 512 n I left a b ≡ r) where
+  pub before-end : left ≤ 0 → a ≡ r
+  unfolding beforeFrom
+  before-end h = let e : left ≡ 0 = omega arith in sym (ap (λ (k : ℕ). beforeFrom 512 n I k a b) e) ∙ v
+
+  step-before : 0 < left → beforeFrom 512 n I left a b ≡ beforeFrom 512 n I (suc (left - 1)) a b
+  step-before h = let e : left ≡ suc (left - 1) = omega arith in ap (λ (k : ℕ). beforeFrom 512 n I k a b) e
+
+  module _ (more : 0 < left) (c to : ℕ) (x : to ≡ next 512 I c) (y : c ≡ a) where
+    reads : next 512 I a ≡ to
+    reads = sym (x ∙ ap (next 512 I) y)
+
+    pub before-here : to ≡ b → a ≡ r
+    unfolding beforeFrom
+    before-here e = sym (step-before more ∙ pick-true _ _ (eq-eqb (next 512 I a) b (reads ∙ e))) ∙ v
+
+    pub before-out : (to ≡ b → ⊥) → n ≤ to → a ≡ r
+    unfolding beforeFrom
+    before-out e h =
+        sym (step-before more ∙ pick-false _ _ (ne-eqb (next 512 I a) b (λ w. e (sym reads ∙ w))) ∙ pick-true _ _ (le-leb n (next 512 I a) (omega (arith, reads)))) ∙ v
+
+    pub before-more : (to ≡ b → ⊥) → to < n → beforeFrom 512 n I (left - 1) to b ≡ r
+    unfolding beforeFrom
+    before-more e h =
+        ap (λ (z : ℕ). beforeFrom 512 n I (left - 1) z b) (sym reads)
+        ∙ sym (step-before more ∙ pick-false _ _ (ne-eqb (next 512 I a) b (λ w. e (sym reads ∙ w))) ∙ pick-false _ _ (lt-leb n (next 512 I a) (omega (arith, reads)))) ∙ v
+
+-- ---- a block that is emptied
+
+pub unlink-is : (s : SuperBlock) (I J L : List ℕ) (dir b to last a c : ℕ) → Fit s I → to ≡ next 512 I c → c ≡ b → last ≡ beforeFrom 512 (s .blocks) I (s .blocks - s .area .0) dir b
+    → a ≡ last → J ≡ linked 512 I a to → L ≡ released (geoOf s) J b → L ≡ unlinked (geoOf s) I dir b
+unfolding unlinked
+unlink-is s I J L dir b to last a c f x y z w j l =
+    l ∙ ap (λ (K : List ℕ). released (geoOf s) K b)
+    (j ∙ (λ i. linked 512 I ((w ∙ z ∙ ap (λ (d : ℕ). beforeFrom 512 (s .blocks) I (s .blocks - d) dir b) (f .area)) i) ((x ∙ ap (next 512 I) y) i)))
+
+module _ (s : SuperBlock) (I : List ℕ) (dir b : ℕ) where
+  pub bare-first : b ≡ dir → I ≡ lessBare (geoOf s) I dir b
+  unfolding lessBare
+  bare-first e = sym (pick-true _ _ (eq-eqb b dir e))
+
+  module _ (at : ℕ) (r : Bool) (n : b ≡ dir → ⊥) (p : at ≡ placeAt 512 b 0) (q : r ≡ zeroFrom I at 508) where
+    tested : zeroFrom I (512 * b + 4) 508 ≡ r
+    tested = let z : placeAt 512 b 0 ≡ 512 * b + 4 = omega arith in sym (q ∙ ap (λ (x : ℕ). zeroFrom I x 508) (p ∙ z))
+
+    pub bare-kept : r ≡ false → I ≡ lessBare (geoOf s) I dir b
+    unfolding lessBare
+    bare-kept e = sym (pick-false _ _ (ne-eqb b dir n) ∙ pick-false _ _ (tested ∙ e))
+
+    pub bare-gone : r ≡ true → (J : List ℕ) → J ≡ unlinked (geoOf s) I dir b → J ≡ lessBare (geoOf s) I dir b
+    unfolding lessBare
+    bare-gone e J h = h ∙ sym (pick-false _ _ (ne-eqb b dir n) ∙ pick-true _ _ (tested ∙ e))
+
+-- ---- the whole
+
+pub removed-in : (s : SuperBlock) (I J L M : List ℕ) (dir : ℕ) (e : DirEntry) (p : Place) (own : Own) (time : ℕ) → Fit s I → J ≡ entryGone (geoOf s) I dir e p
+    → L ≡ chainFreed (geoOf s) J (s .blocks - s .area .0) (e .addr .0) → M ≡ sumRenewed (geoOf s) L dir own time → M ≡ removed (geoOf s) I dir e p own time
+unfolding removed
+removed-in s I J L M dir e p own time f x y z =
+    z ∙ ap (λ (K : List ℕ). sumRenewed (geoOf s) K dir own time)
+    (y ∙ (λ i. chainFreed (geoOf s) (x i) (s .blocks - f .area i) (e .addr .0)))

@@ -1,0 +1,90 @@
+// What all calls share: the refusals with their numbers, the limits of a volume, and how many blocks a file has.
+use block::LinkedBlock;
+ghost use mathlib.Core.Path.{_≡_};
+ghost use Rattle.block.specs.Block.{blockBytes};
+ghost use Rattle.limits.specs.Refusals.{refusalNumber};
+ghost use Rattle.model.specs.Volume.{blocksFor};
+
+// The most bytes of a file.
+pub const FILE_LIMIT: u32 = 2_147_483_647;
+
+// A block's data bytes, as a file's size is counted.
+const CAPACITY: u32 = LinkedBlock::CAPACITY as u32;
+
+// How many blocks a file of that size has.
+pub fn blocks_for(size: u32) -> u32
+    ensures { λ r. ⌜ r ≡ blocksFor blockBytes size ⌝ }
+{
+    if size == 0 {
+        return 1;
+    }
+    (size - 1) / CAPACITY + 1
+}
+
+// Why a call is refused, in the order of 01's table.
+pub enum Refusal {
+    // 1: the image is empty, no multiple of the block size, over the limit, or ends before the bitmap
+    BadImage,
+    // 2: signature, version or size code
+    NotMfs,
+    // 3: the block count
+    BadCount,
+    // 4: the path's length or a byte of it; a working directory that does not start with a slash
+    BadPath,
+    // 5
+    NotFound,
+    // 6: a part of the path is no directory, open is not on a file, list not on a directory
+    WrongKind,
+    // 7
+    Exists,
+    // 8: a create's last name is empty or over 255 bytes
+    BadName,
+    // 9: fewer clear indexes in reach than blocks to add
+    NoRoom,
+    // 10: the file passes its limit
+    TooLarge,
+    // 11: the handle is stale
+    Stale,
+    // 12: the seek target is outside the file
+    BadSeek,
+    // 13
+    EmptyWrite,
+    // 14: the directory to delete has entries
+    NotEmpty,
+    // 15: the new directory would be at depth 17
+    TooDeep,
+    // 16: the work buffer is too short
+    ShortWork,
+    // 17
+    Damaged,
+    // 18: the holding directory's own entry is not found
+    LostDir,
+}
+
+impl Refusal {
+    // The number of the paper's table.
+    pub fn number(self) -> u8
+        ensures { λ r. ⌜ r ≡ refusalNumber self ⌝ }
+    {
+        match self {
+            Refusal::BadImage => 1,
+            Refusal::NotMfs => 2,
+            Refusal::BadCount => 3,
+            Refusal::BadPath => 4,
+            Refusal::NotFound => 5,
+            Refusal::WrongKind => 6,
+            Refusal::Exists => 7,
+            Refusal::BadName => 8,
+            Refusal::NoRoom => 9,
+            Refusal::TooLarge => 10,
+            Refusal::Stale => 11,
+            Refusal::BadSeek => 12,
+            Refusal::EmptyWrite => 13,
+            Refusal::NotEmpty => 14,
+            Refusal::TooDeep => 15,
+            Refusal::ShortWork => 16,
+            Refusal::Damaged => 17,
+            Refusal::LostDir => 18,
+        }
+    }
+}

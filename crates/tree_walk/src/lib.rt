@@ -1,2 +1,0 @@
-// The walk of a directory of the tree: on a laid-out volume it is the tree's. Theorems alone, no code.
-// May use: wire, bits, block, model, super_block, dir_entry, read_dir.

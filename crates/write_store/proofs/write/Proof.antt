@@ -1,0 +1,66 @@
+use mathlib.Core.Path.{refl}
+use Rattle.write_store.proofs.Loops.{write-resizable, write-first, resized-fit, resized-along, write-is}
+use borrow.Author.Needs.{needs}
+use Rattle.write_store.proofs.write.Statement.{statement}
+use Rattle.write_store.proofs.write.Tie as tie
+
+-- src/lib.rt:202:21
+cast-size : tie.Need-cast-size
+cast-size c = search needs
+
+-- src/lib.rt:202:16
+add-size : tie.Need-add-size
+add-size c = search needs
+
+-- src/lib.rt:203:9
+blocks-for-requires : tie.Need-blocks-for-requires
+blocks-for-requires c κs = search needs
+
+-- src/lib.rt:204:9
+blocks-for-requires-2 : tie.Need-blocks-for-requires-2
+blocks-for-requires-2 c κs = search needs
+
+-- src/lib.rt:205:5
+resize-requires : tie.Need-resize-requires
+resize-requires c κs = (search needs, write-resizable (c .before .before .before .before .before .before .args .s) _ _ _ _ _ (c .before .before .before .before .before .before .pre .1) _ _ refl (c .before .blocks-for2 .ensures) _ (c .before .before .blocks-for .ensures))
+
+-- src/lib.rt:206:5
+put-bytes-requires : tie.Need-put-bytes-requires
+put-bytes-requires c κs =
+    let w = c .before .before .before .before .before .before .before .before .before .before .pre .1 in
+    let o = c .before .before .before .before .before .before .blocks-for .ensures in
+    let n = c .before .before .before .before .before .blocks-for2 .ensures in
+    let j = c .before .before .before .resize .ensures in
+    let f = c .before .before .before .before .before .before .before .before .before .before .pre .0 in
+    let s = c .before .before .before .before .before .before .before .before .before .before .args .s in
+    let r = write-resizable s _ _ _ _ _ w _ _ refl n _ o in
+    (resized-fit _ _ f _ _ _ r _ j, (write-first s _ _ _ _ _ w _ _ refl n, resized-along _ _ f _ _ _ r _ j))
+
+-- src/lib.rt:207:5
+renew-entry-requires : tie.Need-renew-entry-requires
+renew-entry-requires c κs = search needs
+
+-- src/lib.rt:196:1
+same-length : tie.Need-same-length
+same-length c = search needs
+
+-- src/lib.rt:196:1
+returns : tie.Need-returns
+returns c =
+    let o = c .before .before .before .before .before .before .before .before .before .before .before .before .before .blocks-for .ensures in
+    let n = c .before .before .before .before .before .before .before .before .before .before .before .before .blocks-for2 .ensures in
+    write-is (c .before .before .before .before .before .before .before .before .before .before .before .before .before .before .before .before .before .args .s) _ _ _ _ _ _ _ _ _ _ _ _ refl o n (c .before .before .before .before .before .before .before .before .before .before .resize .ensures) (c .before .before .before .before .before .before .put-bytes .ensures) (c .before .before .renew-entry .ensures)
+
+pub write-spec : {M : Type 1} → statement M
+write-spec =
+    tie.close
+    (tie.spec
+    cast-size
+    add-size
+    blocks-for-requires
+    blocks-for-requires-2
+    resize-requires
+    put-bytes-requires
+    renew-entry-requires
+    same-length
+    returns)

@@ -1,0 +1,120 @@
+-- The stores of a write, in the order of the code, and what a write asks of the image. B is the block size. Definitions alone.
+use mathlib.Core.Path.{_≡_}
+use mathlib.Core.List.{List}
+use Prim.Native.Nat.{ℕ, zero, suc, _+_, _-_, _/_, _%_, _≤_, _<_}
+use lib.Dec.{ltb}
+use lib.ListN.{length, take, drop}
+use Rattle.wire.specs.Be.{bytes, splice}
+use Rattle.wire.specs.Pick.{pick}
+use Rattle.block.specs.Block.{next, linked}
+use Rattle.model.specs.Tree.{Cell}
+use Rattle.model.specs.Render.{cellsAt, cellPieces, count, ShowsAll}
+use Rattle.model.specs.Geometry.{Geo, blockSize, dataAt, usedCount}
+use Rattle.model.specs.Volume.{All, GoodCell, fileLimit, blocksFor}
+use Rattle.model.specs.Calls.{places}
+use Rattle.bitmap_block.specs.Bitmap.{mark, taken, freed, Room, fresh}
+use Rattle.dir_entry.specs.Entry.{header, placeAt}
+use Rattle.dir_entry.specs.declared.DirEntry.{DirEntry}
+use Rattle.read_dir.specs.declared.Place.{Place}
+
+-- ---- along a chain
+
+-- The address k links after a.
+unfoldable pub hop : ℕ → List ℕ → ℕ → ℕ → ℕ
+hop B I zero a = a
+hop B I (suc k) a = hop B I k (next B I a)
+
+-- W2, "every chain stays in D..n-1": the first k blocks of the chain from a on do.
+pub record Along (g : Geo) (I : List ℕ) (a k : ℕ) : Type 0 where
+  pub at : (i : ℕ) → i < k → (dataAt g ≤ hop (blockSize g) I i a) × (hop (blockSize g) I i a < g .n)
+
+-- ---- blocks added
+
+-- The image with a new block after block `last`: 01, "A new block is the lowest clear index within reach".
+unfoldable pub grown : Geo → List ℕ → ℕ → List ℕ
+grown g I last = linked (blockSize g) (taken g I (fresh g I - dataAt g)) last (fresh g I)
+
+-- 01: "Missing blocks are added in order": k of them after block `last`.
+unfoldable pub extended : Geo → List ℕ → ℕ → ℕ → List ℕ
+extended g I last zero = I
+extended g I last (suc k) = extended g (grown g I last) (fresh g I) k
+
+-- ---- blocks freed
+
+-- k blocks of the chain from a on are given back; each one's next address is read first.
+unfoldable pub dropped : Geo → List ℕ → ℕ → ℕ → List ℕ
+dropped g I a zero = I
+dropped g I a (suc k) = dropped g (freed g I (a - dataAt g)) (next (blockSize g) I a) k
+
+-- 01: "blocks past the end are freed": the k blocks after block `last`, which ends its chain then.
+unfoldable pub cutAfter : Geo → List ℕ → ℕ → ℕ → List ℕ
+cutAfter g I last k = linked (blockSize g) (dropped g I (next (blockSize g) I last) k) last 0
+
+-- The chain from a on with `new` blocks for its `old`.
+unfoldable pub resized : Geo → List ℕ → ℕ → ℕ → ℕ → List ℕ
+resized g I a old new =
+    pick (ltb old new) (extended g I (hop (blockSize g) I (old - 1) a) (new - old)) (cutAfter g I (hop (blockSize g) I (new - 1) a) (old - new))
+
+-- ---- the bytes
+
+-- The bytes vs into k blocks of the chain from a on, from data byte o of the first on: a run of each block.
+unfoldable pub poured : ℕ → List ℕ → ℕ → ℕ → List ℕ → ℕ → List ℕ
+poured B I a o vs zero = I
+poured B I a o vs (suc k) = poured B (splice I (placeAt B a o) (take (B - 4 - o) vs)) (next B I a) 0 (drop (B - 4 - o) vs) k
+
+-- The bytes vs from byte c on of the chain of m blocks from a on.
+unfoldable pub spread : ℕ → List ℕ → ℕ → ℕ → List ℕ → ℕ → List ℕ
+spread B I a c vs m = poured B I (hop B I (c / (B - 4)) a) (c % (B - 4)) vs (m - c / (B - 4))
+
+-- ---- the entry
+
+-- 01: "Size and time go into the entry": size z in its bytes 5 to 8, time k in 9 to 16.
+unfoldable pub filed : ℕ → List ℕ → Place → ℕ → ℕ → List ℕ
+filed B I p z k = splice (splice I (placeAt B (p .block .0) (p .offset) + 5) (bytes 4 z)) (placeAt B (p .block .0) (p .offset) + 9) (bytes 8 k)
+
+-- ---- a write
+
+-- 01: "Write at position c, length len: the file becomes its first c bytes and the buffer, size c + len": the file of entry e, which stands at p.
+unfoldable pub wrote : Geo → List ℕ → DirEntry → Place → ℕ → List ℕ → ℕ → List ℕ
+wrote g I e p c vs time =
+    filed (blockSize g)
+    (spread (blockSize g) (resized g I (e .addr .0) (blocksFor (blockSize g) (e .size)) (blocksFor (blockSize g) (c + length vs))) (e .addr .0) c vs (blocksFor (blockSize g) (c + length vs)))
+    p (c + length vs) time
+
+-- ---- what it asks
+
+-- W2, W4 and W5 of one chain: the image shows these blocks with their next addresses, 0 in the last; each is whole, in D..n-1 and marked, none is there twice.
+pub record HeldCells (g : Geo) (I : List ℕ) (cells : List Cell) : Type 0 where
+  pub shown : ShowsAll (blockSize g) I (cellPieces cells)
+  pub whole : All (GoodCell (blockSize g)) cells
+  pub once : (i : ℕ) → count i (places cells) ≤ 1
+  pub range : (i : ℕ) → 1 ≤ count i (places cells) → (dataAt g ≤ i) × (i < g .n)
+  pub marked : (i : ℕ) → 1 ≤ count i (places cells) → mark g I (i - dataAt g) ≡ 1
+
+-- The chain from a on has k blocks.
+pub record Chained (g : Geo) (I : List ℕ) (a k : ℕ) : Type 0 where
+  pub cells : List Cell
+  pub starts : cellsAt cells ≡ a
+  pub long : length cells ≡ k
+  pub held : HeldCells g I cells
+
+-- The chain may be given `new` blocks for its `old`: there is room for what is missing, and the used count has what is freed.
+pub record Resizable (g : Geo) (I : List ℕ) (a old new : ℕ) : Type 0 where
+  pub chain : Chained g I a old
+  pub some-old : 1 ≤ old
+  pub some-new : 1 ≤ new
+  pub room : Room g I (new - old)
+  pub enough : old ≤ usedCount g I
+
+-- The entry's fixed part lies in the volume.
+pub record Stands (g : Geo) (p : Place) : Type 0 where
+  pub block : p .block .0 < g .n
+  pub fits : p .offset + header ≤ blockSize g - 5
+
+-- The other side of refusals 13, 11, 10 and 9, and a file as the check leaves it.
+pub record CanWrite (g : Geo) (I : List ℕ) (e : DirEntry) (p : Place) (c len : ℕ) : Type 0 where
+  pub some-bytes : 1 ≤ len
+  pub position : c ≤ e .size
+  pub limit : c + len ≤ fileLimit
+  pub size : Resizable g I (e .addr .0) (blocksFor (blockSize g) (e .size)) (blocksFor (blockSize g) (c + len))
+  pub entry : Stands g p
