@@ -1,4 +1,6 @@
 pub mod Answered
+pub mod Called
+pub mod Checks
 pub mod Lookups
 pub mod Others
 pub mod Files
