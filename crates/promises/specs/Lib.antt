@@ -2,4 +2,5 @@ pub mod Once
 pub mod Sequence
 pub mod Counter
 pub mod Honest
+pub mod Refusals
 pub mod Promises
