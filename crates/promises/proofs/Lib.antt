@@ -1,3 +1,5 @@
+pub mod Spots
+pub mod Looks
 pub mod Answered
 pub mod Lookups
 pub mod Others
