@@ -9,6 +9,8 @@ pub mod Path
 pub mod Counter
 pub mod Honest
 pub mod Exact
+pub mod Deletes
+pub mod Creates
 pub mod Well
 pub mod Reopened
 pub mod Done
