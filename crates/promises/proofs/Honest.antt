@@ -110,7 +110,7 @@ module _ (K : ℕ) (I W : List ℕ) (b : Bytes I) (w : WellFormed K I) (long : m
   -- ---- write
 
   module _ (h : Handle) (buf : List ℕ) (now : ℕ) (o : WriteOut) (J Z : List ℕ) (c : Writes K I W h buf now o J Z) where
-    write-says : countedSays (o .answer) ≡ andThen (targetOf (geoAt K I) I h (length buf)) (λ t. accepted (length buf))
+    pub write-says : countedSays (o .answer) ≡ andThen (targetOf (geoAt K I) I h (length buf)) (λ t. accepted (length buf))
     unfolding writeReply countOf
     write-says = c .answer ∙ ap (λ (r : Reply Target). andThen r (λ t. accepted (length buf))) (sym (given-none (checkRefusal K I (length W)) (targetOf (geoAt K I) I h (length buf)) check-passes))
 

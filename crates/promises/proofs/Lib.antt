@@ -11,6 +11,7 @@ pub mod Honest
 pub mod Exact
 pub mod Deletes
 pub mod Creates
+pub mod Handles
 pub mod Well
 pub mod Reopened
 pub mod Done
