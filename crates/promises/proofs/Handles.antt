@@ -21,22 +21,33 @@ use Rattle.model.specs.Calls.{Occupied, fileOf, fileAt, DirAt, pathTo, freeBloc
 use Rattle.model.specs.Steps.{Bytes}
 use Rattle.model.proofs.Full.{good-lookup, good-find}
 use Rattle.model.proofs.Lists.{not-some, then-some, then-none}
+use Rattle.model.proofs.OneVolume.{well-formed-opens}
 use Rattle.model.proofs.Opens.{when-true, when-false, refuses, passes, first-of-none, first-of-one, first-of-head, first-of-tail}
 use Rattle.model.proofs.Reached.{path-found, path-is}
-use Rattle.model.proofs.Replies.{and-then-ok, and-then-no, reply-none, reply-suc}
+use Rattle.model.proofs.Replies.{and-then-ok, and-then-no, reply-none, reply-suc, settle-none, settle-suc}
+use Rattle.limits.proofs.Numbers.{number-some}
 use Rattle.check_bitmap.specs.Tally.{markLong}
 use Rattle.thm_path.proofs.Resolves.{lookup-name}
 use Rattle.file.specs.declared.Handle.{Handle}
+use Rattle.file.specs.declared.Counted.{Counted}
+use Rattle.file.specs.declared.Counted.the-variants as counted
+use Rattle.file.specs.declared.ReadOut.{ReadOut}
 use Rattle.file.specs.declared.WriteOut.{WriteOut}
-use Rattle.file.specs.File.{nameOf, staleFields}
+use Rattle.file.specs.File.{nameOf, staleFields, moved, toRead, readRefusal, bytesRead}
+use Rattle.file.specs.Post.{CountedIs}
 use Rattle.file.specs.Writing.{Target, tooLong, blocksToAdd, targetOf}
 use Rattle.file.specs.OnTree.{FileIn, OnFile, Lost, toAdd}
 use Rattle.file.specs.Written.{countedSays}
+use Rattle.file.proofs.Seeks.{fresh}
 use Rattle.file.proofs.Aims.{aim-empty}
 use Rattle.file.proofs.Targets.{accepted-is, no-room, stale-is, long-is}
+use Rattle.mfs.specs.Reading.{size, area, end, readCall, Reads}
 use Rattle.mfs.specs.Changing.{Writes}
+use Rattle.thm_calls.specs.Handles.{HandleOf}
+use Rattle.thm_calls.proofs.Calls.{read-file, read-bytes}
+use Rattle.thm_calls.proofs.FileReads.{FileThere, handle-or}
 use Rattle.thm_calls.proofs.Changing.{volume-at}
-use Rattle.promises.specs.Refusals.{fileBy, staleBy, writeNumber}
+use Rattle.promises.specs.Refusals.{fileBy, staleBy, readNumber, bytesFrom, writeNumber}
 use Rattle.promises.proofs.Files.{file-at, file-there}
 use Rattle.promises.proofs.Honest.{write-says}
 
@@ -190,3 +201,110 @@ writes K I W b w long h buf now o J Z c = write-says K I W b w long h buf now o 
     go (inl a) =
         and-then-no (a .0) (λ t. accepted (length buf)) (a .1) ∙ sym (ap (λ (k : ℕ). reply k (length buf)) (a .2) ∙ reply-suc (a .0) (length buf) (a .3))
     go (inr a) = and-then-ok (a .0) (λ t. accepted (length buf)) (a .1) ∙ sym (reply-none (length buf) (a .2))
+
+-- ---- a read
+
+-- what a read says by its number, which is 0 for none
+module _ (h f : Handle) (vs l m : List ℕ) where
+  abbrev Counts : ℕ → Counted → Type 0
+  Counts k c = (countedSays c ≡ reply k (toRead h (length l))) × (f ≡ settle k (moved h (h .position + toRead h (length l))) h) × (m ≡ settle k (splice l 0 vs) l)
+
+  counts : (k : ℕ) (c : Counted) → CountedIs k h f vs l m c → Counts k c
+  counts k (counted.Bytes j) a = (
+    ap accepted (a .count) ∙ sym (reply-none (toRead h (length l)) (a .good)),
+    a .handle ∙ ap (λ (i : ℕ). moved h (h .position + i)) (a .count) ∙ sym (settle-none _ h (a .good)),
+    a .stored ∙ sym (settle-none _ l (a .good)),
+  )
+  counts k (counted.Refused x) a =
+      let some-number : 1 ≤ k = omega (arith, a .refused, number-some x) in (
+        ap refused (sym (a .refused)) ∙ sym (reply-suc k (toRead h (length l)) some-number),
+        a .handle ∙ sym (settle-suc k _ h some-number),
+        a .kept ∙ sym (settle-suc k _ l some-number),
+      )
+
+module _ (K : ℕ) (I : List ℕ) (w : WellFormed K I) (h : Handle) (q : List Name) (s : DirAt maxDepth (h .dir .0) q (w .tree)) (long : length (h .name) ≡ 255) where
+  abbrev file-bytes : ℕ → List ℕ
+  file-bytes len = bytesFrom (h .position) len (fileBy h (w .tree))
+
+  -- the read's number and bytes are the tree's
+  abbrev Shown : ℕ → Type 0
+  Shown len = ((readCall K I h len ≡ 0) × (readNumber h (w .tree) ≡ 0) × (bytesRead (size K I) (area K I) (end K I) I h len ≡ file-bytes len))
+      ⊎ ((readCall K I h len ≡ 11) × (readNumber h (w .tree) ≡ 11))
+
+  -- 1, 2 and 3 are not given
+  call-is : (len : ℕ) → readCall K I h len ≡ readRefusal (size K I) (area K I) (end K I) I h len
+  unfolding readCall
+  call-is len = first-of-tail _ _ (well-formed-opens K I w) ∙ first-of-one _
+
+  on-file : staleFields h ≡ false → (f : OnFile maxDepth (w .tree) h) → staleBy h (fileBy h (w .tree)) ≡ 0 → (len : ℕ) → Shown len
+  unfolding fileEntry readCall readNumber bytesFrom
+  on-file a f z len =
+      let c = fresh h a in
+      let o : HandleOf (blocksAt (f .there .dir .1)) (nameOf h) (h .size) (f .file .cells) h = record {
+        dir = sym (f .there .starts);
+        name = refl;
+        letters = sym (length-take-le (h .len) (h .name) (omega (arith, c .few)));
+        addr = sym (f .file .starts);
+        size = refl;
+        position = c .place;
+      } in
+      let e : fileBy h (w .tree) ≡ some (h .size, f .file .time, f .file .cells)
+      = by-path (geoAt K I) I (w .tree) (volume-at K I w) h (f .path) (path-is (geoAt K I) I maxDepth (w .tree) _ (h .dir .0) (f .path) (volume-at K I w .laid) (f .there))
+      ∙ in-file (geoAt K I) I (w .tree) (volume-at K I w) h (f .path) (f .there) (f .file) in
+      inl (
+        read-file K I w (f .path) (f .there .dir) (f .there .there) (nameOf h) _ (f .file .held) (h .size) (f .file .cells) refl h o len,
+        passes 11 _ a ∙ first-of-one _ ∙ z,
+        read-bytes K I w (f .path) (f .there .dir) (f .there .there) (nameOf h) _ (f .file .held) (h .size) (f .file .cells) refl h o len
+            ∙ ap (bytesFrom (h .position) len) (sym e),
+      )
+
+  -- a file that is there is the handle's
+  not-stale : FileThere (s .dir) h → staleBy h (fileBy h (w .tree)) ≡ 0
+  unfolding fileOf
+  not-stale x =
+      let p = path-is (geoAt K I) I maxDepth (w .tree) _ (h .dir .0) q (volume-at K I w .laid) s in
+      let e : fileBy h (w .tree) ≡ some (h .size, x .0 .time, x .1)
+      = by-path (geoAt K I) I (w .tree) (volume-at K I w) h q p ∙ file-at maxDepth q (nameOf h) (w .tree) (s .dir) (s .there)
+      ∙ then-some (λ e. fileOf (e .time) (e .node)) (x .2) ∙ ap (λ (n : Node (Below (s .dir .0))). fileOf (x .0 .time) n) (x .3) in
+      ap (staleBy h) e ∙ stale-some (geoAt K I) I (w .tree) (volume-at K I w) h (h .size, x .0 .time, x .1)
+      (both-and (eq-eqb (h .size) (h .size) refl) (eq-eqb (cellsAt (x .1)) (h .addr .0) (sym (x .4 .addr))))
+
+  shown : (len : ℕ) → Shown len
+  unfolding readNumber readRefusal
+  shown len = go (either (staleFields h)) (numbered (geoAt K I) I (w .tree) (volume-at K I w) h)
+    where
+      lost : staleFields h ≡ false → staleBy h (fileBy h (w .tree)) ≡ 11
+          → FileThere (s .dir) h ⊎ ((len : ℕ) → readRefusal (size K I) (area K I) (end K I) I h len ≡ 11) → Shown len
+      lost a e (inl x) = absurd (omega (arith, e, not-stale x))
+      lost a e (inr r) = inr (call-is len ∙ r len, passes 11 _ a ∙ first-of-one _ ∙ e)
+
+      go : (staleFields h ≡ true) ⊎ (staleFields h ≡ false) → Numbered (geoAt K I) I (w .tree) (volume-at K I w) h → Shown len
+      go (inl a) n = inr (call-is len ∙ refuses 11 _ (omega arith) a, refuses 11 _ (omega arith) a)
+      go (inr a) (inl n) = on-file a (n .0) (n .1) len
+      go (inr a) (inr n) = lost a (n .1) (handle-or (geoAt K I) I maxDepth (w .tree) _ q (s .dir) h (volume-at K I w .laid) (s .there) long (sym (s .starts)))
+
+  -- A read is refused by 11 just where the tree says, and else gives the file's bytes from the position on.
+  pub reads : (buf out : List ℕ) (o : ReadOut) → Reads K I h buf out o
+      → (countedSays (o .answer) ≡ reply (readNumber h (w .tree)) (toRead h (length buf)))
+      × (o .handle ≡ settle (readNumber h (w .tree)) (moved h (h .position + toRead h (length buf))) h)
+      × (out ≡ settle (readNumber h (w .tree)) (splice buf 0 (bytesFrom (h .position) (length buf) (fileBy h (w .tree)))) buf)
+  reads buf out o c = go (shown (length buf)) (counts h (o .handle) vs buf out (readCall K I h (length buf)) (o .answer) c)
+    where
+      vs : List ℕ
+      vs = bytesRead (size K I) (area K I) (end K I) I h (length buf)
+
+      Gives : List ℕ → ℕ → Type 0
+      Gives bs k =
+          (countedSays (o .answer) ≡ reply k (toRead h (length buf))) × (o .handle ≡ settle k (moved h (h .position + toRead h (length buf))) h)
+          × (out ≡ settle k (splice buf 0 bs) buf)
+
+      go : Shown (length buf) → Counts h (o .handle) vs buf out (readCall K I h (length buf)) (o .answer) → Gives (file-bytes (length buf)) (readNumber h (w .tree))
+      go (inl a) d =
+          let e : readCall K I h (length buf) ≡ readNumber h (w .tree) = a .0 ∙ sym (a .1) in
+          subst (Gives (file-bytes (length buf))) e (subst (λ (b : List ℕ). Gives b (readCall K I h (length buf))) (a .2) d)
+      go (inr a) d = (
+        d .0 ∙ ap (λ (k : ℕ). reply k (toRead h (length buf))) (a .0 ∙ sym (a .1)),
+        d .1 ∙ ap (λ (k : ℕ). settle k (moved h (h .position + toRead h (length buf))) h) (a .0 ∙ sym (a .1)),
+        d .2 ∙ ap (λ (k : ℕ). settle k (splice buf 0 vs) buf) (a .0) ∙ settle-suc 11 _ buf (omega arith)
+            ∙ sym (ap (λ (k : ℕ). settle k (splice buf 0 (file-bytes (length buf))) buf) (a .1) ∙ settle-suc 11 _ buf (omega arith)),
+      )
