@@ -1,6 +1,8 @@
 pub mod Spots
 pub mod Looks
 pub mod Answered
+pub mod Called
+pub mod Checks
 pub mod Lookups
 pub mod Others
 pub mod Files

@@ -3,4 +3,5 @@ pub mod Sequence
 pub mod Counter
 pub mod Honest
 pub mod Refusals
+pub mod Exact
 pub mod Promises

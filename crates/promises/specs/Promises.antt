@@ -9,7 +9,7 @@ use Prim.Native.Nat.{ℕ, _+_, _-_, _^_, _≤_, _<_, min}
 use lib.ListN.{length, take, drop}
 use Rattle.wire.specs.Be.{splice}
 use Rattle.wire.specs.Pick.{same}
-use Rattle.model.specs.Answers.{refused}
+use Rattle.model.specs.Answers.{accepted, refused}
 use Rattle.model.specs.Tree.{Name, Cell, blank, NoEntries}
 use Rattle.model.specs.Render.{blocksAt}
 use Rattle.model.specs.Geometry.{blockSize, dataAt, geoAt, setBits, usedCount}
@@ -37,7 +37,7 @@ use Rattle.mfs.specs.declared.InfoOut.{InfoOut}
 use Rattle.mfs.specs.Says.{says}
 use Rattle.mfs.specs.Reading.{openSays, Opens, infoSays, Informs, Reads}
 use Rattle.mfs.specs.Format.{Formats}
-use Rattle.mfs.specs.Checking.{Checks, checkRefusal}
+use Rattle.mfs.specs.Checking.{Checks}
 use Rattle.mfs.specs.Changing.{CreatesFile, CreatesDir, Deletes, Writes}
 use Rattle.thm_calls.specs.Handles.{HandleOf}
 use Rattle.thm_calls.specs.Named.{wayOf, lastOf}
@@ -128,70 +128,77 @@ pub record WorkIsDone : Type 0 where
   pub delete-leaves : (K : ℕ) (I W cwd p : List ℕ) (now : ℕ) (r : Answer) (J Z : List ℕ) → Deletes K I W cwd p now r J Z → (w : WellFormed K I) → now < 2 ^ 64
       → r ≡ answer.Success → (v : WellFormed K J) → Vacant maxDepth (wayOf cwd p) (lastOf cwd p) (v .tree)
 
--- "On a well-formed volume": an accepted format makes one, its root empty; each accepted call leaves one; and every one passes the check.
+-- S1: an accepted format makes a well-formed volume, its root empty; each accepted changing call leaves one; and every one passes the
+-- check, given a work buffer that is long enough.
 pub record StaysWell : Type 0 where
-  pub format : (K : ℕ) (I : List ℕ) (r : Answer) (J : List ℕ) → Formats K I r J → r ≡ answer.Success
+  pub format : (K : ℕ) (I : List ℕ) (r : Answer) (J : List ℕ) → Formats K I r J → says r ≡ accepted tt
       → (w : WellFormed K J) × (w .tree ≡ blank maxDepth (dataAt (geoAt K J)))
   pub create-file : (K : ℕ) (I W : List ℕ) (now : ℕ) (J Z : List ℕ) → Bytes I → now < 2 ^ 64 → (cwd p : List ℕ) (o : OpenOut)
-      → CreatesFile K I W cwd p now o J Z → o .answer ≡ answer.Success → WellFormed K J
+      → CreatesFile K I W cwd p now o J Z → (a : Handle) → openSays o ≡ accepted a → WellFormed K J
   pub create-dir : (K : ℕ) (I W : List ℕ) (now : ℕ) (J Z : List ℕ) → Bytes I → now < 2 ^ 64 → (cwd p : List ℕ) (r : Answer)
-      → CreatesDir K I W cwd p now r J Z → r ≡ answer.Success → WellFormed K J
+      → CreatesDir K I W cwd p now r J Z → says r ≡ accepted tt → WellFormed K J
   pub delete : (K : ℕ) (I W : List ℕ) (now : ℕ) (J Z : List ℕ) → Bytes I → now < 2 ^ 64 → (cwd p : List ℕ) (r : Answer)
-      → Deletes K I W cwd p now r J Z → r ≡ answer.Success → WellFormed K J
-  pub write : (K : ℕ) (I W : List ℕ) (now : ℕ) (J Z : List ℕ) → Bytes I → now < 2 ^ 64 → (h : Handle) (buf : List ℕ) (o : WriteOut) (k : ℕ)
-      → Writes K I W h buf now o J Z → o .answer ≡ counted.Bytes k → WellFormed K J
-  pub check : (K : ℕ) (I W Z : List ℕ) (r : Answer) → Checks K I W r Z → WellFormed K I → markLong (geoAt K I) ≤ length W → r ≡ answer.Success
+      → Deletes K I W cwd p now r J Z → says r ≡ accepted tt → WellFormed K J
+  pub write : (K : ℕ) (I W : List ℕ) (now : ℕ) (J Z : List ℕ) → Bytes I → now < 2 ^ 64 → (h : Handle) (buf : List ℕ) (o : WriteOut)
+      → (k : ℕ) → Writes K I W h buf now o J Z → countedSays (o .answer) ≡ accepted k → WellFormed K J
+  pub check : (K : ℕ) (I W Z : List ℕ) (r : Answer) → Checks K I W r Z → WellFormed K I → markLong (geoAt K I) ≤ length W
+      → says r ≡ accepted tt
 
--- "A used count is never invented (W5 after every accepted call)": D and the number of set bits.
+-- S2: the used count is D and the number of set bits,
 abbrev pub UsedTrue : ℕ → List ℕ → Type 0
 UsedTrue K J = usedCount (geoAt K J) J ≡ dataAt (geoAt K J) + setBits J (geoAt K J)
 
+-- after every accepted call.
 pub record UsedIsTrue : Type 0 where
-  pub format : (K : ℕ) (I : List ℕ) (r : Answer) (J : List ℕ) → Formats K I r J → r ≡ answer.Success → UsedTrue K J
+  pub format : (K : ℕ) (I : List ℕ) (r : Answer) (J : List ℕ) → Formats K I r J → says r ≡ accepted tt → UsedTrue K J
   pub create-file : (K : ℕ) (I W : List ℕ) (now : ℕ) (J Z : List ℕ) → Bytes I → now < 2 ^ 64 → (cwd p : List ℕ) (o : OpenOut)
-      → CreatesFile K I W cwd p now o J Z → o .answer ≡ answer.Success → UsedTrue K J
+      → CreatesFile K I W cwd p now o J Z → (a : Handle) → openSays o ≡ accepted a → UsedTrue K J
   pub create-dir : (K : ℕ) (I W : List ℕ) (now : ℕ) (J Z : List ℕ) → Bytes I → now < 2 ^ 64 → (cwd p : List ℕ) (r : Answer)
-      → CreatesDir K I W cwd p now r J Z → r ≡ answer.Success → UsedTrue K J
+      → CreatesDir K I W cwd p now r J Z → says r ≡ accepted tt → UsedTrue K J
   pub delete : (K : ℕ) (I W : List ℕ) (now : ℕ) (J Z : List ℕ) → Bytes I → now < 2 ^ 64 → (cwd p : List ℕ) (r : Answer)
-      → Deletes K I W cwd p now r J Z → r ≡ answer.Success → UsedTrue K J
-  pub write : (K : ℕ) (I W : List ℕ) (now : ℕ) (J Z : List ℕ) → Bytes I → now < 2 ^ 64 → (h : Handle) (buf : List ℕ) (o : WriteOut) (k : ℕ)
-      → Writes K I W h buf now o J Z → o .answer ≡ counted.Bytes k → UsedTrue K J
+      → Deletes K I W cwd p now r J Z → says r ≡ accepted tt → UsedTrue K J
+  pub write : (K : ℕ) (I W : List ℕ) (now : ℕ) (J Z : List ℕ) → Bytes I → now < 2 ^ 64 → (h : Handle) (buf : List ℕ) (o : WriteOut)
+      → (k : ℕ) → Writes K I W h buf now o J Z → countedSays (o .answer) ≡ accepted k → UsedTrue K J
 
--- ---- demand 3
+-- ---- D3
 
--- "take a well-formed volume and a path that names nothing in an existing directory; any finite sequence of create, open, read, seek, write, delete calls at
--- that path, ending with nothing there. Then superblock, bitmap, every directory block and every other file's or device's blocks hold their first
--- bytes again, except the time field in the holding directory's own entry."
+-- From a well-formed volume and a path that names nothing in a directory that is there: whatever calls are made at that path, the image
+-- stays well formed, and if nothing is there at the end, what D3 names is restored.
 pub record PathIsRestored : Type 0 where
   pub well : (K : ℕ) (p : List Name) (n : Name) (I J : List ℕ) (w : WellFormed K I) (v : Vacant maxDepth p n (w .tree))
       → Calls K (blocksAt (v .dir .1)) p n I J → WellFormed K J
   pub restored : (K : ℕ) (p : List Name) (n : Name) (I J : List ℕ) (w : WellFormed K I) (v : Vacant maxDepth p n (w .tree))
-      → Calls K (blocksAt (v .dir .1)) p n I J → Bytes I → Bytes J → (u : WellFormed K J) → Vacant maxDepth p n (u .tree)
+      → Calls K (blocksAt (v .dir .1)) p n I J → Bytes I → (u : WellFormed K J) → Vacant maxDepth p n (u .tree)
       → Restored (geoAt K I) maxDepth p I (w .tree) J
 
--- ---- the counter's safety
+-- ---- what a call leaves alone
 
--- "an accepted write through a handle changes no byte of another file", nor of a device; and no more does an accepted create or delete, at a path that is not the
--- call's own.
+-- S3: an accepted write through a handle changes no byte of another file or device; nor does an accepted create or delete, at a path that
+-- is not the call's own.
 pub record OthersKept : Type 0 where
   pub write : (K : ℕ) (I W : List ℕ) (h : Handle) (buf : List ℕ) (now : ℕ) (o : WriteOut) (J Z : List ℕ) → Writes K I W h buf now o J Z
-      → (k : ℕ) → o .answer ≡ counted.Bytes k → now < 2 ^ 64 → (w : WellFormed K I) (v : WellFormed K J) (q : List Name) (m : Name)
-      → Another maxDepth (w .tree) h q m → Untouched (blockSize (geoAt K I)) maxDepth (w .tree) (v .tree) I J q m
+      → (k : ℕ) → countedSays (o .answer) ≡ accepted k → now < 2 ^ 64 → (w : WellFormed K I) (v : WellFormed K J)
+      → (q : List Name) (m : Name) → Another maxDepth (w .tree) h q m
+      → Untouched (blockSize (geoAt K I)) maxDepth (w .tree) (v .tree) I J q m
   pub create-file : (K : ℕ) (I W cwd p : List ℕ) (now : ℕ) (o : OpenOut) (J Z : List ℕ) → CreatesFile K I W cwd p now o J Z
-      → o .answer ≡ answer.Success → now < 2 ^ 64 → (w : WellFormed K I) (v : WellFormed K J) (q : List Name) (m : Name)
+      → (a : Handle) → openSays o ≡ accepted a → now < 2 ^ 64 → (w : WellFormed K I) (v : WellFormed K J) (q : List Name) (m : Name)
       → (Leads q m cwd p → ⊥) → Untouched (blockSize (geoAt K I)) maxDepth (w .tree) (v .tree) I J q m
   pub create-dir : (K : ℕ) (I W cwd p : List ℕ) (now : ℕ) (r : Answer) (J Z : List ℕ) → CreatesDir K I W cwd p now r J Z
-      → r ≡ answer.Success → now < 2 ^ 64 → (w : WellFormed K I) (v : WellFormed K J) (q : List Name) (m : Name)
+      → says r ≡ accepted tt → now < 2 ^ 64 → (w : WellFormed K I) (v : WellFormed K J) (q : List Name) (m : Name)
       → (Leads q m cwd p → ⊥) → Untouched (blockSize (geoAt K I)) maxDepth (w .tree) (v .tree) I J q m
   pub delete : (K : ℕ) (I W cwd p : List ℕ) (now : ℕ) (r : Answer) (J Z : List ℕ) → Deletes K I W cwd p now r J Z
-      → r ≡ answer.Success → now < 2 ^ 64 → (w : WellFormed K I) (v : WellFormed K J) (q : List Name) (m : Name)
+      → says r ≡ accepted tt → now < 2 ^ 64 → (w : WellFormed K I) (v : WellFormed K J) (q : List Name) (m : Name)
       → (Leads q m cwd p → ⊥) → Untouched (blockSize (geoAt K I)) maxDepth (w .tree) (v .tree) I J q m
 
+-- S4
 pub record CounterIsSafe : Type 0 where
-  -- "a call whose handle is stale at its entry changes no image": nor the handle; and where the check passes and there are bytes to write, it gets 11.
-  pub stale-kept : (K : ℕ) (I W : List ℕ) (h : Handle) (buf : List ℕ) (now : ℕ) (o : WriteOut) (J Z : List ℕ) → Writes K I W h buf now o J Z
-      → Bytes I → StaleAtEntry K I h → (J ≡ I) × (o .handle ≡ h)
-  pub stale-answer : (K : ℕ) (I W : List ℕ) (h : Handle) (buf : List ℕ) (now : ℕ) (o : WriteOut) (J Z : List ℕ) → Writes K I W h buf now o J Z
-      → checkRefusal K I (length W) ≡ 0 → 1 ≤ length buf → (w : WellFormed K I) → Stale maxDepth (w .tree) h → countedSays (o .answer) ≡ refused 11
-  -- "a handle can become current again when name, address and size come back"
-  pub current-again : (K : ℕ) (I : List ℕ) (w : WellFormed K I) (h : Handle) → staleFields h ≡ false → OnFile maxDepth (w .tree) h → Stale maxDepth (w .tree) h → ⊥
+  -- A write through a handle that is stale at the call's entry changes neither image nor handle;
+  pub stale-kept : (K : ℕ) (I W : List ℕ) (h : Handle) (buf : List ℕ) (now : ℕ) (o : WriteOut) (J Z : List ℕ)
+      → Writes K I W h buf now o J Z → Bytes I → StaleAtEntry K I h → (J ≡ I) × (o .handle ≡ h)
+  -- on a well-formed volume, with a work buffer that is long enough and bytes to write, it gets 11.
+  pub stale-answer : (K : ℕ) (I W : List ℕ) (h : Handle) (buf : List ℕ) (now : ℕ) (o : WriteOut) (J Z : List ℕ)
+      → Writes K I W h buf now o J Z → Bytes I → markLong (geoAt K I) ≤ length W → 1 ≤ length buf
+      → (w : WellFormed K I) → Stale maxDepth (w .tree) h → countedSays (o .answer) ≡ refused 11
+  -- A handle can become current again (H3): when its directory has a file entry with its name, address and size, it is not stale.
+  pub current-again : (K : ℕ) (I : List ℕ) (w : WellFormed K I) (h : Handle) → staleFields h ≡ false → OnFile maxDepth (w .tree) h
+      → Stale maxDepth (w .tree) h → ⊥
