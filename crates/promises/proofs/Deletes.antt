@@ -40,7 +40,7 @@ use Rattle.mfs.specs.Changing.{changeCall, Deletes}
 use Rattle.thm_calls.specs.Named.{wayOf, lastOf}
 use Rattle.thm_calls.proofs.Changing.{volume-at}
 use Rattle.promises.specs.Refusals.{Spot, entryAt, hasEntry, deleteAnswer}
-use Rattle.promises.proofs.Honest.{check-passes}
+use Rattle.promises.proofs.Checks.{long-passes}
 use Rattle.promises.proofs.Spots.{way-found, hold-stops, name-five, at-stops, at-missing, at-entry}
 
 -- ---- a directory that has an entry
@@ -80,7 +80,7 @@ module _ (K : ℕ) (I W : List ℕ) (b : Bytes I) (w : WellFormed K I) (long : m
   -- the check passes, and 4 alone is given before the way
   pub change-is : changeCall K I (length W) cwd p ≡ pathRefusal cwd p
   unfolding changeCall
-  change-is = first-of-tail _ _ (check-passes K I W b w long) ∙ first-of-one _
+  change-is = first-of-tail _ _ (long-passes K I W w long b) ∙ first-of-one _
 
   abbrev doomed : Reply Doomed
   doomed = doomedOf (geoAt K I) I (realPath cwd p)

@@ -24,7 +24,7 @@ use Rattle.model.proofs.Lists.{not-some, then-some, then-none}
 use Rattle.model.proofs.OneVolume.{well-formed-opens}
 use Rattle.model.proofs.Opens.{when-true, when-false, refuses, passes, first-of-none, first-of-one, first-of-head, first-of-tail}
 use Rattle.model.proofs.Reached.{path-found, path-is}
-use Rattle.model.proofs.Replies.{and-then-ok, and-then-no, reply-none, reply-suc, settle-none, settle-suc}
+use Rattle.model.proofs.Replies.{given-none, and-then-ok, and-then-no, reply-none, reply-suc, settle-none, settle-suc}
 use Rattle.limits.proofs.Numbers.{number-some}
 use Rattle.check_bitmap.specs.Tally.{markLong}
 use Rattle.thm_path.proofs.Resolves.{lookup-name}
@@ -35,21 +35,21 @@ use Rattle.file.specs.declared.ReadOut.{ReadOut}
 use Rattle.file.specs.declared.WriteOut.{WriteOut}
 use Rattle.file.specs.File.{nameOf, staleFields, moved, toRead, readRefusal, bytesRead}
 use Rattle.file.specs.Post.{CountedIs}
-use Rattle.file.specs.Writing.{Target, tooLong, blocksToAdd, targetOf}
+use Rattle.file.specs.Writing.{Target, tooLong, blocksToAdd, targetOf, countOf}
 use Rattle.file.specs.OnTree.{FileIn, OnFile, Lost, toAdd}
 use Rattle.file.specs.Written.{countedSays}
 use Rattle.file.proofs.Seeks.{fresh}
 use Rattle.file.proofs.Aims.{aim-empty}
 use Rattle.file.proofs.Targets.{accepted-is, no-room, stale-is, long-is}
 use Rattle.mfs.specs.Reading.{size, area, end, readCall, Reads}
-use Rattle.mfs.specs.Changing.{Writes}
+use Rattle.mfs.specs.Changing.{writeReply, Writes}
 use Rattle.thm_calls.specs.Handles.{HandleOf}
 use Rattle.thm_calls.proofs.Calls.{read-file, read-bytes}
 use Rattle.thm_calls.proofs.FileReads.{FileThere, handle-or}
 use Rattle.thm_calls.proofs.Changing.{volume-at}
 use Rattle.promises.specs.Refusals.{fileBy, staleBy, readNumber, bytesFrom, writeNumber}
 use Rattle.promises.proofs.Files.{file-at, file-there}
-use Rattle.promises.proofs.Honest.{write-says}
+use Rattle.promises.proofs.Checks.{long-passes}
 
 -- ---- the file that a handle names
 
@@ -190,17 +190,24 @@ module _ (g : Geo) (I : List ℕ) (t : Tree maxDepth) (v : Volume g I maxDepth t
             inl (11, stale-is g I t v h len (some-len a) .1 (inr (n .0)), passes 13 _ a ∙ passes 11 _ c ∙ first-of-head _ _ (omega (arith, n .1)) ∙ n .1, omega arith)
         go (inr a) (inr c) (inl n) = on-file (some-len a) a c (n .0) (n .1) (either (tooLong h len))
 
--- A write is refused by 13, 11, 10 and 9 just where the tree says, and else answers the buffer's length.
-pub writes : (K : ℕ) (I W : List ℕ) → Bytes I → (w : WellFormed K I) → markLong (geoAt K I) ≤ length W
-    → (h : Handle) (buf : List ℕ) (now : ℕ) (o : WriteOut) (J Z : List ℕ) → Writes K I W h buf now o J Z
-    → countedSays (o .answer) ≡ reply (writeNumber (geoAt K I) h (length buf) (w .tree)) (length buf)
-writes K I W b w long h buf now o J Z c = write-says K I W b w long h buf now o J Z c ∙ go (agreed (geoAt K I) I (w .tree) (volume-at K I w) h (length buf))
-  where
-    go : Agreed (geoAt K I) I (w .tree) (volume-at K I w) h (length buf)
-        → andThen (targetOf (geoAt K I) I h (length buf)) (λ t. accepted (length buf)) ≡ reply (writeNumber (geoAt K I) h (length buf) (w .tree)) (length buf)
-    go (inl a) =
-        and-then-no (a .0) (λ t. accepted (length buf)) (a .1) ∙ sym (ap (λ (k : ℕ). reply k (length buf)) (a .2) ∙ reply-suc (a .0) (length buf) (a .3))
-    go (inr a) = and-then-ok (a .0) (λ t. accepted (length buf)) (a .1) ∙ sym (reply-none (length buf) (a .2))
+module _ (K : ℕ) (I W : List ℕ) (b : Bytes I) (w : WellFormed K I) (long : markLong (geoAt K I) ≤ length W) (h : Handle) (buf : List ℕ) (now : ℕ) (o : WriteOut)
+    (J Z : List ℕ) (c : Writes K I W h buf now o J Z) where
+  -- the check passes
+  pub write-says : countedSays (o .answer) ≡ andThen (targetOf (geoAt K I) I h (length buf)) (λ t. accepted (length buf))
+  unfolding writeReply countOf
+  write-says =
+      c .answer
+      ∙ ap (λ (r : Reply Target). andThen r (λ t. accepted (length buf))) (given-none (targetOf (geoAt K I) I h (length buf)) (long-passes K I W w long b))
+
+  -- A write is refused by 13, 11, 10 and 9 just where the tree says, and else answers the buffer's length.
+  pub writes : countedSays (o .answer) ≡ reply (writeNumber (geoAt K I) h (length buf) (w .tree)) (length buf)
+  writes = write-says ∙ go (agreed (geoAt K I) I (w .tree) (volume-at K I w) h (length buf))
+    where
+      go : Agreed (geoAt K I) I (w .tree) (volume-at K I w) h (length buf)
+          → andThen (targetOf (geoAt K I) I h (length buf)) (λ t. accepted (length buf)) ≡ reply (writeNumber (geoAt K I) h (length buf) (w .tree)) (length buf)
+      go (inl a) =
+          and-then-no (a .0) (λ t. accepted (length buf)) (a .1) ∙ sym (ap (λ (k : ℕ). reply k (length buf)) (a .2) ∙ reply-suc (a .0) (length buf) (a .3))
+      go (inr a) = and-then-ok (a .0) (λ t. accepted (length buf)) (a .1) ∙ sym (reply-none (length buf) (a .2))
 
 -- ---- a read
 

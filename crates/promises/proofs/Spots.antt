@@ -1,5 +1,5 @@
 -- What a path leads to on a volume, by the tree: 5 and 6 exactly, in walking order.
-use mathlib.Core.Path.{_≡_, refl, sym, ap, _∙_}
+use mathlib.Core.Path.{_≡_, refl, sym, ap, _∙_, subst}
 use mathlib.Core.Logic.{_⊎_, inl, inr}
 use mathlib.Core.Option.{Option, none, some}
 use mathlib.Core.List.{List, [], _∷_}
@@ -13,7 +13,7 @@ use Rattle.model.specs.Geometry.{Geo, blockSize, dataAt}
 use Rattle.model.specs.Volume.{GoodBelow, Laid, maxDepth}
 use Rattle.model.proofs.Full.{good-lookup, good-find}
 use Rattle.model.proofs.Lists.{not-some}
-use Rattle.model.proofs.Replies.{not-accepted, and-then-ok, and-then-no, first-refused}
+use Rattle.model.proofs.Replies.{not-accepted, refused-one, and-then-ok, and-then-no, first-refused}
 use Rattle.dir_entry.specs.Shown.{headOf}
 use Rattle.path.specs.Path.{lastName, dirPart, steps}
 use Rattle.dir.specs.Resolve.{Held, held, onName, entryOf}
@@ -27,13 +27,29 @@ use Rattle.promises.specs.Refusals.{Spot, entryIn, entryAt}
 
 -- ---- the way, and the tree's path
 
--- Where the way leads to a directory, the tree has it there.
+-- Where the way leads to a directory, the tree has it there,
 pub way-found : (d : ℕ) (p : List Name) (t : Tree d) (s : Some) → wayTo d p t ≡ accepted s → find d p t ≡ some s
 way-found d p t s e = go (way-agrees d p t)
   where
     go : Agree (wayTo d p t) (find d p t) → find d p t ≡ some s
     go (leads r a b) = let z : r ≡ s = cc in b ∙ ap some z
     go (stops k a b c) = absurd (not-accepted k s (sym a ∙ e))
+
+-- and where the tree has a directory, the way leads there;
+pub found-way : (d : ℕ) (p : List Name) (t : Tree d) (s : Some) → find d p t ≡ some s → wayTo d p t ≡ accepted s
+found-way d p t s e = go (way-agrees d p t)
+  where
+    go : Agree (wayTo d p t) (find d p t) → wayTo d p t ≡ accepted s
+    go (leads r a b) = let z : r ≡ s = cc in a ∙ ap (λ (x : Some). accepted x) z
+    go (stops k a b c) = absurd (not-some b e)
+
+-- a way that stops stops with 5 or 6.
+pub way-number : (d : ℕ) (p : List Name) (t : Tree d) (j : ℕ) → wayTo d p t ≡ refused j → (j ≡ 5) ⊎ (j ≡ 6)
+way-number d p t j e = go (way-agrees d p t)
+  where
+    go : Agree (wayTo d p t) (find d p t) → (j ≡ 5) ⊎ (j ≡ 6)
+    go (leads s a b) = absurd (not-accepted j s (sym e ∙ a))
+    go (stops k a b c) = subst (λ (i : ℕ). (i ≡ 5) ⊎ (i ≡ 6)) (refused-one {A = Some} k j (sym a ∙ e)) c
 
 -- An empty last name gives 5, and so does one that is not there.
 pub name-five : {A : Type 0} (n : Name) (r : Reply A) → r ≡ refused 5 → onName n r ≡ refused 5

@@ -3,5 +3,6 @@ pub mod Sequence
 pub mod Counter
 pub mod Honest
 pub mod Refusals
+pub mod Work
 pub mod Exact
 pub mod Promises
