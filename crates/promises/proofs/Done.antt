@@ -18,11 +18,12 @@ use Rattle.file.specs.declared.Counted.the-variants as counted
 use Rattle.file.specs.File.{nameOf}
 use Rattle.file.specs.Written.{countedSays}
 use Rattle.file.proofs.Targets.{accepted-is}
+use Rattle.mfs.specs.Says.{soughtSays}
 use Rattle.mfs.specs.Reading.{Reads}
 use Rattle.mfs.specs.Changing.{Writes}
 use Rattle.thm_calls.proofs.Changing.{volume-at, tree-after, write-passed, write-tree}
 use Rattle.thm_calls.proofs.ReadsBack.{bytes-written, write-seek, write-read}
-use Rattle.promises.specs.Work.{soughtSays, FileOf, ReadsBack}
+use Rattle.promises.specs.Work.{FileOf, ReadsBack}
 use Rattle.promises.proofs.Answered.{count-said}
 use Rattle.promises.proofs.Files.{file-at}
 

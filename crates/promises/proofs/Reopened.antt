@@ -24,12 +24,13 @@ use Rattle.file.specs.File.{staleFields, moved, readRefusal}
 use Rattle.file.specs.Post.{SoughtIs}
 use Rattle.file.specs.Written.{countedSays}
 use Rattle.mfs.specs.declared.OpenOut.{OpenOut}
+use Rattle.mfs.specs.Says.{soughtSays}
 use Rattle.mfs.specs.Reading.{Opens, readCall, Reads}
 use Rattle.thm_calls.specs.Handles.{HandleOf}
 use Rattle.thm_calls.specs.Named.{wayOf, lastOf}
 use Rattle.thm_calls.proofs.Calls.{open-file, open-handle, read-file, read-bytes}
 use Rattle.thm_calls.proofs.ReadsBack.{seek-inside, reads-given}
-use Rattle.promises.specs.Work.{soughtSays, ReadsBack}
+use Rattle.promises.specs.Work.{ReadsBack}
 use Rattle.promises.proofs.Answered.{value-is}
 use Rattle.promises.proofs.Files.{file-there}
 

@@ -7,8 +7,7 @@ use mathlib.Core.List.{List, [], _∷_, _++_}
 use Prim.Native.Nat.{ℕ, _+_, _-_, _^_, _≤_, _<_, min}
 use lib.ListN.{length, take, drop}
 use Rattle.wire.specs.Be.{splice}
-use Rattle.model.specs.Answers.{Reply, accepted, refused}
-use Rattle.limits.specs.Refusals.{refusalNumber}
+use Rattle.model.specs.Answers.{accepted}
 use Rattle.model.specs.Tree.{Name, Cell, Tree, NoEntries}
 use Rattle.model.specs.Geometry.{geoAt}
 use Rattle.model.specs.Volume.{WellFormed, maxDepth}
@@ -16,8 +15,6 @@ use Rattle.model.specs.Calls.{Vacant, Occupied, fileAt, DirAt, emptyCell, conte
 use Rattle.path.specs.Path.{badPath}
 use Rattle.file.specs.declared.Handle.{Handle}
 use Rattle.file.specs.declared.SeekFrom.the-variants.{Start}
-use Rattle.file.specs.declared.Outcome.{Outcome}
-use Rattle.file.specs.declared.Outcome.the-variants as outcome
 use Rattle.file.specs.declared.Sought.{Sought}
 use Rattle.file.specs.declared.ReadOut.{ReadOut}
 use Rattle.file.specs.declared.WriteOut.{WriteOut}
@@ -26,16 +23,11 @@ use Rattle.file.specs.Post.{SoughtIs}
 use Rattle.file.specs.Written.{countedSays}
 use Rattle.mfs.specs.declared.Answer.{Answer}
 use Rattle.mfs.specs.declared.OpenOut.{OpenOut}
-use Rattle.mfs.specs.Says.{says}
+use Rattle.mfs.specs.Says.{says, soughtSays}
 use Rattle.mfs.specs.Reading.{openSays, Opens, Reads}
 use Rattle.mfs.specs.Changing.{CreatesFile, CreatesDir, Deletes, Writes}
 use Rattle.thm_calls.specs.Handles.{HandleOf}
 use Rattle.thm_calls.specs.Named.{wayOf, lastOf}
-
--- C8, seek: plain success, and the handle beside it
-abbrev pub soughtSays : Outcome → Reply (Unit {0})
-soughtSays outcome.Success = accepted tt
-soughtSays (outcome.Refused r) = refused (refusalNumber r)
 
 -- H1: the file that a handle names in the tree t. Its directory is the one at `path`, and the file is `size` bytes in the blocks `cells`.
 pub record FileOf (h : Handle) (t : Tree maxDepth) : Type 0 where
