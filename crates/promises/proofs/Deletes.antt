@@ -58,7 +58,8 @@ entries-none {X} (b ∷ bs) h = go (b .entries) refl (entries-none bs)
     go : (l : List (Entry X)) → b .entries ≡ l → (length (entriesOf bs) ≡ 0 → NoEntries bs) → NoEntries (b ∷ bs)
     go [] e below = (e, below (ap (λ (l : List (Entry X)). length (l ++ entriesOf bs)) (sym e) ∙ h))
     go (x ∷ l) e below =
-        let z : suc (length (l ++ entriesOf bs)) ≡ 0 = ap (λ (m : List (Entry X)). length (m ++ entriesOf bs)) (sym e) ∙ h in absurd (omega arith)
+        let z : suc (length (l ++ entriesOf bs)) ≡ 0 = ap (λ (m : List (Entry X)). length (m ++ entriesOf bs)) (sym e)
+        ∙ h in absurd (omega arith)
 
 bare-none : (d : ℕ) (x : Node (Below d)) → hasEntry d x ≡ false → Bare d x
 unfolding hasEntry
@@ -98,10 +99,12 @@ module _ (K : ℕ) (I W : List ℕ) (b : Bytes I) (w : WellFormed K I) (long : m
   way-stops k e =
       go (lastOf cwd p)
       (ap (λ (r : Reply Doomed). onName (lastOf cwd p) r)
-      (and-then-no k (doomedIn (geoAt K I) I (lastOf cwd p)) (hold-stops (geoAt K I) I (w .tree) _ (volume-at K I w .laid) (wayOf cwd p) k e)))
+      (and-then-no k (doomedIn (geoAt K I) I (lastOf cwd p))
+      (hold-stops (geoAt K I) I (w .tree) _ (volume-at K I w .laid) (wayOf cwd p) k e)))
       (at-stops (geoAt K I) I (w .tree) _ (volume-at K I w .laid) (realPath cwd p) k e)
     where
-      go : (n : Name) → doomed ≡ onName n (refused k) → entryAt (wayOf cwd p) (lastOf cwd p) (w .tree) ≡ onName n (refused k) → Said
+      go : (n : Name) → doomed ≡ onName n (refused k) → entryAt (wayOf cwd p) (lastOf cwd p) (w .tree) ≡ onName n (refused k)
+          → Said
       go [] a c = and-then-no 5 (λ x. accepted tt) a ∙ sym (and-then-no 5 onSpot c)
       go (x ∷ n) a c = and-then-no k (λ x. accepted tt) a ∙ sym (and-then-no k onSpot c)
 
@@ -113,23 +116,28 @@ module _ (K : ℕ) (I W : List ℕ) (b : Bytes I) (w : WellFormed K I) (long : m
       let s : Some = v .dir in
       let laid = volume-at K I w .laid in
       let h = hold-some (geoAt K I) I maxDepth (w .tree) _ (wayOf cwd p) laid s (v .there) in
-      let q : HeldAt (blockSize (geoAt K I)) maxDepth (wayOf cwd p) (w .tree) (h .0) = hold-is (geoAt K I) I maxDepth (w .tree) _ (wayOf cwd p) laid (h .0) (h .1) in
+      let q : HeldAt (blockSize (geoAt K I)) maxDepth (wayOf cwd p) (w .tree) (h .0)
+      = hold-is (geoAt K I) I maxDepth (w .tree) _ (wayOf cwd p) laid (h .0) (h .1) in
       let z : some s ≡ some (q .there) = sym (v .there) ∙ q .found in
       let y : s ≡ q .there = cc in
       let found-from : ℕ → Found = λ a. findIn n (walk (blockSize (geoAt K I)) (dataAt (geoAt K I)) (geoAt K I .n) I a) in
       let f : found-from (h .0 .dir) ≡ found.Missing
-      = ap found-from (sym (ap (λ (x : Some). blocksAt (x .1)) y ∙ q .starts)) ∙ find-missing (geoAt K I) I maxDepth (w .tree) _ (wayOf cwd p) s laid (v .there) n (v .free) in
-      name-five n _ (and-then-ok (h .0) (doomedIn (geoAt K I) I n) (h .1) ∙ ap (λ (x : Found). onPlaced x (doomedAt (geoAt K I) I (h .0))) f)
+      = ap found-from (sym (ap (λ (x : Some). blocksAt (x .1)) y ∙ q .starts))
+      ∙ find-missing (geoAt K I) I maxDepth (w .tree) _ (wayOf cwd p) s laid (v .there) n (v .free) in
+      name-five n _ (and-then-ok (h .0) (doomedIn (geoAt K I) I n) (h .1)
+      ∙ ap (λ (x : Found). onPlaced x (doomedAt (geoAt K I) I (h .0))) f)
 
   name-absent : (s : Some) → wayTo maxDepth (wayOf cwd p) (w .tree) ≡ accepted s → Absent (lastOf cwd p) (s .1) → Said
   unfolding deletedOn
   name-absent s e a =
-      let v : Vacant maxDepth (wayOf cwd p) (lastOf cwd p) (w .tree) = record { dir = s; there = way-found maxDepth (wayOf cwd p) (w .tree) s e; free = a } in
+      let v : Vacant maxDepth (wayOf cwd p) (lastOf cwd p) (w .tree)
+      = record { dir = s; there = way-found maxDepth (wayOf cwd p) (w .tree) s e; free = a } in
       and-then-no 5 (λ x. accepted tt) (nothing-there v)
       ∙ sym (and-then-no 5 onSpot (at-missing (geoAt K I) I (w .tree) _ (volume-at K I w .laid) (realPath cwd p) s e a))
 
   -- an entry that is there: 14, or it goes
-  entry-there : (s : Some) → wayTo maxDepth (wayOf cwd p) (w .tree) ≡ accepted s → (e : Entry (Below (s .0))) → lookup (lastOf cwd p) (s .1) ≡ some e → Said
+  entry-there : (s : Some) → wayTo maxDepth (wayOf cwd p) (w .tree) ≡ accepted s → (e : Entry (Below (s .0)))
+      → lookup (lastOf cwd p) (s .1) ≡ some e → Said
   unfolding deletedOn
   entry-there s m e k = go (either (hasEntry (s .0) (e .node)))
     where
@@ -141,16 +149,19 @@ module _ (K : ℕ) (I W : List ℕ) (b : Bytes I) (w : WellFormed K I) (long : m
 
       go : (hasEntry (s .0) (e .node) ≡ true) ⊎ (hasEntry (s .0) (e .node) ≡ false) → Said
       go (inl h) =
-          and-then-no 14 (λ x. accepted tt) (full-refused (geoAt K I) I maxDepth (w .tree) (realPath cwd p) (volume-at K I w) o (none-bare (s .0) (e .node) h))
+          and-then-no 14 (λ x. accepted tt)
+          (full-refused (geoAt K I) I maxDepth (w .tree) (realPath cwd p) (volume-at K I w) o (none-bare (s .0) (e .node) h))
           ∙ sym (spot ∙ ap (λ (j : ℕ). reply j tt) (when-true 14 h) ∙ reply-suc 14 tt (omega arith))
       go (inr h) =
-          let x = bare-accepted (geoAt K I) I maxDepth (w .tree) (realPath cwd p) (volume-at K I w) o (bare-none (s .0) (e .node) h) in
+          let x = bare-accepted (geoAt K I) I maxDepth (w .tree) (realPath cwd p) (volume-at K I w) o
+          (bare-none (s .0) (e .node) h) in
           and-then-ok (x .0) (λ x. accepted tt) (x .1) ∙ sym (spot ∙ reply-none tt (when-false 14 h))
 
   deleted-says : Said
   deleted-says = go (wayTo maxDepth (wayOf cwd p) (w .tree)) refl
     where
-      by : (s : Some) → wayTo maxDepth (wayOf cwd p) (w .tree) ≡ accepted s → ((e : Entry (Below (s .0))) × (lookup (lastOf cwd p) (s .1) ≡ some e)) ⊎ Absent (lastOf cwd p) (s .1) → Said
+      by : (s : Some) → wayTo maxDepth (wayOf cwd p) (w .tree) ≡ accepted s
+          → ((e : Entry (Below (s .0))) × (lookup (lastOf cwd p) (s .1) ≡ some e)) ⊎ Absent (lastOf cwd p) (s .1) → Said
       by s f (inl e) = entry-there s f (e .0) (e .1)
       by s f (inr a) = name-absent s f a
 
@@ -162,4 +173,5 @@ module _ (K : ℕ) (I W : List ℕ) (b : Bytes I) (w : WellFormed K I) (long : m
   pub deletes : (now : ℕ) (r : Answer) (J Z : List ℕ) → Deletes K I W cwd p now r J Z → says r ≡ deleteAnswer cwd p (w .tree)
   unfolding deleteAnswer
   deletes now r J Z c =
-      c .answer ∙ ap (λ (k : ℕ). given k (deletedOn (geoAt K I) I (realPath cwd p))) change-is ∙ ap (given (pathRefusal cwd p)) deleted-says
+      c .answer ∙ ap (λ (k : ℕ). given k (deletedOn (geoAt K I) I (realPath cwd p))) change-is
+      ∙ ap (given (pathRefusal cwd p)) deleted-says

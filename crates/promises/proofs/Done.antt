@@ -28,20 +28,24 @@ use Rattle.promises.proofs.Answered.{count-said}
 use Rattle.promises.proofs.Files.{file-at}
 
 -- the file that a write is on
-pub file-of : (g : Geo) (p : List Name) (n : Name) (now c : ℕ) (buf : List ℕ) (t : Tree maxDepth) (I J : List ℕ) (m : TreeWrites g maxDepth p n now c buf t I J)
+pub file-of : (g : Geo) (p : List Name) (n : Name) (now c : ℕ) (buf : List ℕ) (t : Tree maxDepth) (I J : List ℕ)
+    (m : TreeWrites g maxDepth p n now c buf t I J)
     → fileAt maxDepth p n t ≡ some (m .size, m .time, m .cells)
 unfolding fileEntry fileOf
 file-of g p n now c buf t I J m =
-    file-at maxDepth p n t (m .occupied .dir) (m .occupied .there) ∙ then-some (λ e. fileOf (e .time) (e .node)) (m .occupied .held)
+    file-at maxDepth p n t (m .occupied .dir) (m .occupied .there)
+    ∙ then-some (λ e. fileOf (e .time) (e .node)) (m .occupied .held)
     ∙ ap (λ (e : Entry _). fileOf (e .time) (e .node)) (m .is-file)
 
-module _ (K : ℕ) (I W : List ℕ) (h : Handle) (buf : List ℕ) (now : ℕ) (o : WriteOut) (J Z : List ℕ) (c : Writes K I W h buf now o J Z) (k : ℕ)
+module _ (K : ℕ) (I W : List ℕ) (h : Handle) (buf : List ℕ) (now : ℕ) (o : WriteOut) (J Z : List ℕ)
+    (c : Writes K I W h buf now o J Z) (k : ℕ)
     (said : countedSays (o .answer) ≡ accepted k) (clock : now < 2 ^ 64) where
   counts : o .answer ≡ counted.Bytes k
   counts = count-said (o .answer) k said
 
   module _ (w : WellFormed K I) where
-    done : (q : List Name) × DirAt maxDepth (h .dir .0) q (w .tree) × TreeWrites (geoAt K I) maxDepth q (nameOf h) now (h .position) buf (w .tree) I J
+    done : (q : List Name) × DirAt maxDepth (h .dir .0) q (w .tree)
+        × TreeWrites (geoAt K I) maxDepth q (nameOf h) now (h .position) buf (w .tree) I J
     done = write-tree K I W h buf now o J Z c k w clock counts
 
     -- The handle names a file,
@@ -56,10 +60,11 @@ module _ (K : ℕ) (I W : List ℕ) (h : Handle) (buf : List ℕ) (now : ℕ) (o
           file = file-of (geoAt K I) (done .0) (nameOf h) now (h .position) buf (w .tree) I J (done .2);
         }
 
-    -- which has after the write the position and the buffer's length as its size, the call's time, and the old bytes before the position, then the
-    -- buffer's. So an image that is left as it was had them already.
+    -- which has after the write the position and the buffer's length as its size, the call's time, and the old bytes before the
+    -- position, then the buffer's. So an image that is left as it was had them already.
     pub write-leaves : (v : WellFormed K J)
-        → (f : FileOf h (w .tree)) × (es : List Cell) × (fileAt maxDepth (f .path) (nameOf h) (v .tree) ≡ some (h .position + length buf, now, es))
+        → (f : FileOf h (w .tree)) × (es : List Cell)
+        × (fileAt maxDepth (f .path) (nameOf h) (v .tree) ≡ some (h .position + length buf, now, es))
         × (contents (h .position + length buf) es ≡ take (h .position) (contents (f .size) (f .cells)) ++ buf)
     unfolding file-before
     write-leaves v =
@@ -70,13 +75,15 @@ module _ (K : ℕ) (I W : List ℕ) (h : Handle) (buf : List ℕ) (now : ℕ) (o
           file-before,
           rewrite (blockSize (geoAt K I)) (freeBlocks (geoAt K I) maxDepth (w .tree)) (h .position) buf (m .cells),
           ap (fileAt maxDepth q (nameOf h)) (tree-after K I J w _ _ (m .makes) v)
-              ∙ file-written maxDepth q (nameOf h) now (m .size) (m .time) (h .position + length buf) (m .cells) _ (w .tree) (file-before .file),
+              ∙ file-written maxDepth q (nameOf h) now (m .size) (m .time) (h .position + length buf) (m .cells) _ (w .tree)
+              (file-before .file),
           bytes-written K I J w h now buf q (done .1) m on,
         )
 
     -- A seek and a read through the handles answered give those bytes.
     pub write-then-read : length (h .name) ≡ 255
-        → (f : FileOf h (w .tree)) × ReadsBack K J (o .handle) (h .position + length buf) (take (h .position) (contents (f .size) (f .cells)) ++ buf)
+        → (f : FileOf h (w .tree)) × ReadsBack K J (o .handle) (h .position + length buf)
+        (take (h .position) (contents (f .size) (f .cells)) ++ buf)
     unfolding file-before
     write-then-read name = (
       file-before,

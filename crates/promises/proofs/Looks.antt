@@ -32,11 +32,14 @@ use Rattle.file.specs.declared.Handle.{Handle}
 use Rattle.mfs.specs.declared.OpenOut.{OpenOut}
 use Rattle.mfs.specs.declared.InfoOut.{InfoOut}
 use Rattle.mfs.specs.declared.Listing.{Listing}
-use Rattle.mfs.specs.Reading.{size, area, end, pathCall, openEntry, openOn, openReply, openSays, Opens, About, about, aboutEntry, aboutRoot, infoOn, infoReply, infoSays, Informs, Counts, listOn, listReply, recordsOn, onReply, listSays, Lists}
+use Rattle.mfs.specs.Reading.{size, area, end, pathCall, openEntry, openOn, openReply, openSays, Opens, About, about, aboutEntry}
+use Rattle.mfs.specs.Reading.{aboutRoot, infoOn, infoReply, infoSays, Informs, Counts, listOn, listReply, recordsOn, onReply}
+use Rattle.mfs.specs.Reading.{listSays, Lists}
 use Rattle.thm_calls.specs.Named.{wayOf, lastOf, allOf, recordsLong, recordsOf, listedFrom}
 use Rattle.thm_calls.proofs.Calls.{info-root, list-counts, list-records}
 use Rattle.thm_calls.proofs.Changing.{volume-at}
-use Rattle.promises.specs.Refusals.{Spot, entryAt, openNode, openAnswer, aboutSpot, infoAnswer, dirAnswer, listAnswer, recordsIn}
+use Rattle.promises.specs.Refusals.{Spot, entryAt, openNode, openAnswer, aboutSpot, infoAnswer, dirAnswer, listAnswer}
+use Rattle.promises.specs.Refusals.{recordsIn}
 use Rattle.promises.proofs.Spots.{way-found, entry-then}
 
 -- ---- answers
@@ -51,13 +54,21 @@ test-reply k false a = refl
 
 -- what an entry shows is opened by what it stands for
 open-node : {X : Type 0} (v : View X) (a : ℕ) (n : Name) (t k : ℕ) (x : Node X)
-    → openEntry n (held a (record { kind = kindIs x; addr = record { 0 = addressOf v x }; size = sizeOf v x; time = t; len = k })) ≡ openNode a n x
+    → openEntry n (held a (record {
+      kind = kindIs x;
+      addr = record { 0 = addressOf v x };
+      size = sizeOf v x;
+      time = t;
+      len
+          = k;
+    })) ≡ openNode a n x
 unfolding openEntry openNode addressOf sizeOf pick when reply
 open-node v a n t k (file z cs) = test-reply 9 (ltb fileLimit z) _
 open-node v a n t k (device z cs) = refl
 open-node v a n t k (sub x) = refl
 
-open-spot : (B : ℕ) (n : Name) (s : Some) (e : Entry (Below (s .0))) → openEntry n (held (blocksAt (s .1)) (headOf (view B (s .0)) e)) ≡ openNode (blocksAt (s .1)) n (e .node)
+open-spot : (B : ℕ) (n : Name) (s : Some) (e : Entry (Below (s .0)))
+    → openEntry n (held (blocksAt (s .1)) (headOf (view B (s .0)) e)) ≡ openNode (blocksAt (s .1)) n (e .node)
 unfolding headOf
 open-spot B n s e = open-node (view B (s .0)) (blocksAt (s .1)) n (e .time) (length (e .name)) (e .node)
 
@@ -66,7 +77,8 @@ about-spot : (B : ℕ) (n : Name) (s : Some) (e : Entry (Below (s .0))) → look
     → aboutEntry n (held (blocksAt (s .1)) (headOf (view B (s .0)) e)) ≡ aboutSpot B (s, e)
 unfolding headOf
 about-spot B n s e k =
-    ap (λ (x : Name). accepted (about (kindIs (e .node)) (sizeOf (view B (s .0)) (e .node)) (e .time) x)) (lookup-name n (s .1) e k)
+    ap (λ (x : Name). accepted (about (kindIs (e .node)) (sizeOf (view B (s .0)) (e .node)) (e .time) x))
+    (lookup-name n (s .1) e k)
 
 -- nothing is put into a buffer by no bytes
 splice-none : (l : List ℕ) → splice l 0 [] ≡ l
@@ -88,7 +100,8 @@ module _ (K : ℕ) (I : List ℕ) (w : WellFormed K I) (cwd p : List ℕ) where
       c .answer
       ∙ ap (λ (k : ℕ). given k (openOn (size K I) (area K I) (end K I) I (realPath cwd p))) call-is
       ∙ ap (given (pathRefusal cwd p))
-      (entry-then (geoAt K I) I (w .tree) _ laid (realPath cwd p) (openEntry (lastOf cwd p)) (λ (x : Spot). openNode (blocksAt (x .0 .1)) (lastOf cwd p) (x .1 .node))
+      (entry-then (geoAt K I) I (w .tree) _ laid (realPath cwd p) (openEntry (lastOf cwd p))
+      (λ (x : Spot). openNode (blocksAt (x .0 .1)) (lastOf cwd p) (x .1 .node))
       (λ s e k. open-spot (size K I) (lastOf cwd p) s e))
 
   root-sum : aboutRoot (sumFrom 0 (walk (size K I) (area K I) (end K I) I (area K I))) ≡ accepted (about Dir (sum (w .tree)) 0 [])
@@ -103,7 +116,8 @@ module _ (K : ℕ) (I : List ℕ) (w : WellFormed K I) (cwd p : List ℕ) where
       let entry = andThen (entryAt (wayOf cwd p) (lastOf cwd p) (w .tree)) (aboutSpot (size K I)) in
       c .answer
       ∙ ap (λ (k : ℕ). given k (infoOn (size K I) (area K I) (end K I) I (realPath cwd p) p)) call-is
-      ∙ ap (λ (r : Reply About). given (pathRefusal cwd p) (pick (same p (slash ∷ [])) (aboutRoot (sumFrom 0 (walk (size K I) (area K I) (end K I) I (area K I)))) r))
+      ∙ ap (λ (r : Reply About). given (pathRefusal cwd p)
+      (pick (same p (slash ∷ [])) (aboutRoot (sumFrom 0 (walk (size K I) (area K I) (end K I) I (area K I)))) r))
       (entry-then (geoAt K I) I (w .tree) _ laid (realPath cwd p) (aboutEntry (lastOf cwd p)) (aboutSpot (size K I))
       (λ s e k. about-spot (size K I) (lastOf cwd p) s e k))
       ∙ ap (λ (r : Reply About). given (pathRefusal cwd p) (pick (same p (slash ∷ [])) r entry)) root-sum
@@ -119,18 +133,22 @@ module _ (K : ℕ) (I : List ℕ) (w : WellFormed K I) (cwd p : List ℕ) where
     unfolding listAnswer
     list-refused k a b = (
       c .answer ∙ a ∙ sym (and-then-no k _ b),
-      c .buffer ∙ ap (λ (r : Reply Counts). onReply r (splice buf 0 (recordsOn (size K I) (area K I) (end K I) I (realPath cwd p) i (length buf))) buf) a
+      c .buffer ∙ ap (λ (r : Reply Counts). onReply r
+          (splice buf 0 (recordsOn (size K I) (area K I) (end K I) I (realPath cwd p) i (length buf))) buf) a
           ∙ sym (splice-none buf) ∙ ap (λ (r : Reply Some). splice buf 0 (recordsIn (size K I) i (length buf) r)) (sym b),
     )
 
-    list-given : badPath cwd p ≡ false → (s : Some) → wayTo maxDepth (allOf cwd p) (w .tree) ≡ accepted s → dirAnswer cwd p (w .tree) ≡ accepted s → Said
+    list-given : badPath cwd p ≡ false → (s : Some) → wayTo maxDepth (allOf cwd p) (w .tree) ≡ accepted s
+        → dirAnswer cwd p (w .tree) ≡ accepted s → Said
     unfolding listAnswer
     list-given good s f b =
         let found = way-found maxDepth (allOf cwd p) (w .tree) s f in
         let a = list-counts K I w cwd p good s found i (length buf) in (
           c .answer ∙ a ∙ sym (and-then-ok s _ b),
-          c .buffer ∙ ap (λ (r : Reply Counts). onReply r (splice buf 0 (recordsOn (size K I) (area K I) (end K I) I (realPath cwd p) i (length buf))) buf) a
-              ∙ ap (splice buf 0) (list-records K I w cwd p good s found i (length buf)) ∙ ap (λ (r : Reply Some). splice buf 0 (recordsIn (size K I) i (length buf) r)) (sym b),
+          c .buffer ∙ ap (λ (r : Reply Counts). onReply r
+              (splice buf 0 (recordsOn (size K I) (area K I) (end K I) I (realPath cwd p) i (length buf))) buf) a
+              ∙ ap (splice buf 0) (list-records K I w cwd p good s found i (length buf))
+              ∙ ap (λ (r : Reply Some). splice buf 0 (recordsIn (size K I) i (length buf) r)) (sym b),
         )
 
     pub lists : Said
@@ -140,11 +158,13 @@ module _ (K : ℕ) (I : List ℕ) (w : WellFormed K I) (cwd p : List ℕ) where
         called : (r : Reply Counts) → given (pathCall K I cwd p) r ≡ given (pathRefusal cwd p) r
         called r = ap (λ (k : ℕ). given k r) call-is
 
-        go : (badPath cwd p ≡ true) ⊎ (badPath cwd p ≡ false) → (r : Reply Some) → wayTo maxDepth (allOf cwd p) (w .tree) ≡ r → Said
+        go : (badPath cwd p ≡ true) ⊎ (badPath cwd p ≡ false) → (r : Reply Some) → wayTo maxDepth (allOf cwd p) (w .tree) ≡ r
+            → Said
         go (inl bad) r f = list-refused 4 (called _ ∙ given-yes 4 _ (omega arith) bad) (given-yes 4 _ (omega arith) bad)
         go (inr good) (accepted s) f = list-given good s f (given-no 4 _ good ∙ f)
         go (inr good) (refused k) f =
             list-refused k
             (called _ ∙ given-no 4 _ good
-            ∙ and-then-no k _ (resolve-way (geoAt K I) I maxDepth (w .tree) _ (allOf cwd p) laid ∙ and-then-no k (λ s. accepted (blocksAt (s .1))) f))
+            ∙ and-then-no k _ (resolve-way (geoAt K I) I maxDepth (w .tree) _ (allOf cwd p) laid
+            ∙ and-then-no k (λ s. accepted (blocksAt (s .1))) f))
             (given-no 4 _ good ∙ f)

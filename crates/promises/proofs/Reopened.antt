@@ -35,7 +35,8 @@ use Rattle.promises.proofs.Answered.{value-is}
 use Rattle.promises.proofs.Files.{file-there}
 
 -- A handle of a file, z bytes in the blocks cs: a seek to any position in the file and a read from there.
-module _ (K : ℕ) (I : List ℕ) (w : WellFormed K I) (q : List Name) (n : Name) (z : ℕ) (cs : List Cell) (o : Occupied maxDepth q n (w .tree)) (f : o .entry .node ≡ file z cs)
+module _ (K : ℕ) (I : List ℕ) (w : WellFormed K I) (q : List Name) (n : Name) (z : ℕ) (cs : List Cell)
+    (o : Occupied maxDepth q n (w .tree)) (f : o .entry .node ≡ file z cs)
     (h : Handle) (a : HandleOf (blocksAt (o .dir .1)) n z cs h) where
   handle-whole : staleFields h ≡ false
   unfolding readRefusal
@@ -50,16 +51,19 @@ module _ (K : ℕ) (I : List ℕ) (w : WellFormed K I) (q : List Name) (n : Name
       let at : HandleOf (blocksAt (o .dir .1)) n z cs (moved h i)
       = record { dir = a .dir; name = a .name; letters = a .letters; addr = a .addr; size = a .size; position = inside } in
       let c = subst (λ (g : Handle). Reads K I g rbuf out r) (y .1) b in
-      let d = reads-given _ (moved h i) (r .handle) _ rbuf out (r .answer) (read-file K I w q (o .dir) (o .there) n (o .entry) (o .held) z cs f (moved h i) at (length rbuf)) c in (
+      let d = reads-given _ (moved h i) (r .handle) _ rbuf out (r .answer)
+      (read-file K I w q (o .dir) (o .there) n (o .entry) (o .held) z cs f (moved h i) at (length rbuf)) c in (
         ap soughtSays (y .0),
         ap countedSays (d .0) ∙ ap (λ (k : ℕ). accepted (min (length rbuf) (k - i))) (a .size),
-        d .1 ∙ ap (splice rbuf 0) (read-bytes K I w q (o .dir) (o .there) n (o .entry) (o .held) z cs f (moved h i) at (length rbuf)),
+        d .1 ∙ ap (splice rbuf 0) (read-bytes K I w q (o .dir) (o .there) n (o .entry) (o .held) z cs f (moved h i) at
+            (length rbuf)),
       )
 
 -- ---- open
 
 -- Open of a file is accepted, with a handle of that file at position 0.
-open-succeeds : (K : ℕ) (I : List ℕ) (w : WellFormed K I) (cwd p : List ℕ) → badPath cwd p ≡ false → (o : OpenOut) → Opens K I cwd p o
+open-succeeds : (K : ℕ) (I : List ℕ) (w : WellFormed K I) (cwd p : List ℕ) → badPath cwd p ≡ false → (o : OpenOut)
+    → Opens K I cwd p o
     → (z t : ℕ) (cs : List Cell) → fileAt maxDepth (wayOf cwd p) (lastOf cwd p) (w .tree) ≡ some (z, t, cs)
     → (x : Occupied maxDepth (wayOf cwd p) (lastOf cwd p) (w .tree)) × (x .entry .node ≡ file z cs)
     × HandleOf (blocksAt (x .dir .1)) (lastOf cwd p) z cs (o .handle)
@@ -71,7 +75,8 @@ open-succeeds K I w cwd p good o c z t cs f =
     (x, y .1, subst (HandleOf (blocksAt (x .dir .1)) (lastOf cwd p) z cs) (sym (value-is (o .answer) (o .handle) _ e)) h)
 
 -- What is written is read through a later open too.
-pub open-then-read : (K : ℕ) (I : List ℕ) (w : WellFormed K I) (cwd p : List ℕ) → badPath cwd p ≡ false → (z t : ℕ) (cs : List Cell)
+pub open-then-read : (K : ℕ) (I : List ℕ) (w : WellFormed K I) (cwd p : List ℕ) → badPath cwd p ≡ false
+    → (z t : ℕ) (cs : List Cell)
     → fileAt maxDepth (wayOf cwd p) (lastOf cwd p) (w .tree) ≡ some (z, t, cs) → (o : OpenOut) → Opens K I cwd p o
     → ReadsBack K I (o .handle) z (contents z cs)
 open-then-read K I w cwd p good z t cs f o c =

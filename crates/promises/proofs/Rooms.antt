@@ -16,7 +16,8 @@ use Rattle.model.specs.Geometry.{Geo, geoAt}
 use Rattle.model.specs.Volume.{WellFormed, maxDepth}
 use Rattle.model.specs.Calls.{freeBlocks}
 use Rattle.model.specs.Steps.{Bytes}
-use Rattle.model.proofs.Replies.{not-accepted, refused-one, given-yes, given-no, and-then-ok, and-then-no, first-refused, reply-suc}
+use Rattle.model.proofs.Replies.{not-accepted, refused-one, given-yes, given-no, and-then-ok, and-then-no, first-refused}
+use Rattle.model.proofs.Replies.{reply-suc}
 use Rattle.check_bitmap.specs.Tally.{markLong}
 use Rattle.dir_entry.specs.declared.Kind.{Kind}
 use Rattle.dir_entry.specs.declared.Kind.the-variants as kind
@@ -83,15 +84,19 @@ module _ (g : Geo) (k : Kind) (cwd p : List ℕ) (good : badPath cwd p ≡ false
       stopped j (inl x) z = omega arith
       stopped j (inr x) z = omega arith
 
-      go : (badName (lastOf cwd p) ≡ true) ⊎ (badName (lastOf cwd p) ≡ false) → (r : Reply Some) → wayTo maxDepth (wayOf cwd p) t ≡ r → Full
+      go : (badName (lastOf cwd p) ≡ true) ⊎ (badName (lastOf cwd p) ≡ false) → (r : Reply Some)
+          → wayTo maxDepth (wayOf cwd p) t ≡ r → Full
       go (inl b) r w =
-          let z : _≡_ {A = ℕ} 8 9 = refused-one {A = Fresh} 8 9 (sym (given-yes 8 (andThen (wayTo maxDepth (wayOf cwd p) t) inDir) (omega arith) b) ∙ e) in
+          let z : _≡_ {A = ℕ} 8 9 = refused-one {A = Fresh} 8 9
+          (sym (given-yes 8 (andThen (wayTo maxDepth (wayOf cwd p) t) inDir) (omega arith) b) ∙ e) in
           absurd (omega arith)
       go (inr b) (refused j) w =
           absurd (stopped j (way-number maxDepth (wayOf cwd p) t j w)
-          (refused-one {A = Fresh} j 9 (sym (given-no 8 (andThen (wayTo maxDepth (wayOf cwd p) t) inDir) b ∙ and-then-no j inDir w) ∙ e)))
+          (refused-one {A = Fresh} j 9 (sym
+          (given-no 8 (andThen (wayTo maxDepth (wayOf cwd p) t) inDir) b ∙ and-then-no j inDir w) ∙ e)))
       go (inr b) (accepted s) w =
-          let n : tests s ≡ 9 = reply-number (tests s) 9 _ (sym (given-no 8 (andThen (wayTo maxDepth (wayOf cwd p) t) inDir) b ∙ and-then-ok s inDir w) ∙ e) in
+          let n : tests s ≡ 9 = reply-number (tests s) 9 _
+          (sym (given-no 8 (andThen (wayTo maxDepth (wayOf cwd p) t) inDir) b ∙ and-then-ok s inDir w) ∙ e) in
           let q = tree-full g (freeBlocks g maxDepth t) k (lastOf cwd p) s .0 n in
           record {
             may = record {
@@ -106,7 +111,8 @@ module _ (g : Geo) (k : Kind) (cwd p : List ℕ) (good : badPath cwd p ≡ false
   full-to f =
       let s : Some = f .may .vacant .dir in
       let n : tests s ≡ 9
-      = tree-full g (freeBlocks g maxDepth t) k (lastOf cwd p) s .1 (deep-not k (s .0) (λ z. omega (arith, f .may .shallow z)), f .may .vacant .free, omega (arith, f .few)) in
+      = tree-full g (freeBlocks g maxDepth t) k (lastOf cwd p) s .1
+      (deep-not k (s .0) (λ z. omega (arith, f .may .shallow z)), f .may .vacant .free, omega (arith, f .few)) in
       given-no 8 _ (f .may .named) ∙ and-then-ok s inDir (found-way maxDepth (wayOf cwd p) t s (f .may .vacant .there))
       ∙ ap (λ (j : ℕ). reply j (freshIn g (lastOf cwd p) (freeBlocks g maxDepth t) s)) n ∙ reply-suc 9 _ (omega arith)
 

@@ -22,7 +22,8 @@ use Rattle.dir.proofs.Laws.{name-some}
 use Rattle.thm_path.specs.Shown.{wayTo}
 use Rattle.thm_path.proofs.Finds.{lookup-or}
 use Rattle.thm_path.proofs.Holding.{hold-resolve}
-use Rattle.thm_path.proofs.Resolves.{lookup-name, absent-none, Agree, leads, stops, way-agrees, starts, resolve-way, entry-is, entry-missing, entry-stops}
+use Rattle.thm_path.proofs.Resolves.{lookup-name, absent-none, Agree, leads, stops, way-agrees, starts, resolve-way, entry-is}
+use Rattle.thm_path.proofs.Resolves.{entry-missing, entry-stops}
 use Rattle.promises.specs.Refusals.{Spot, entryIn, entryAt}
 
 -- ---- the way, and the tree's path
@@ -57,8 +58,10 @@ name-five [] r e = refl
 name-five (c ∷ n) r e = e
 
 module _ (g : Geo) (I : List ℕ) (t : Tree maxDepth) (u : ℕ) (l : Laid g I maxDepth t u) where
-  -- The holding directory that a create or a delete finds is the way's, and a way that stops stops there too, with the same number.
-  pub hold-stops : (p : List Name) (k : ℕ) → wayTo maxDepth p t ≡ refused k → holdFrom (blockSize g) (dataAt g) (g .n) I p (rootHold (dataAt g)) ≡ refused k
+  -- The holding directory that a create or a delete finds is the way's, and a way that stops stops there too, with the same
+  -- number.
+  pub hold-stops : (p : List Name) (k : ℕ) → wayTo maxDepth p t ≡ refused k
+      → holdFrom (blockSize g) (dataAt g) (g .n) I p (rootHold (dataAt g)) ≡ refused k
   hold-stops p k e =
       first-refused (holdFrom (blockSize g) (dataAt g) (g .n) I p (rootHold (dataAt g))) (λ h. h .dir) k
       (hold-resolve (blockSize g) (dataAt g) (g .n) I p (rootHold (dataAt g)) ∙ resolve-way g I maxDepth t u p l
@@ -72,9 +75,11 @@ module _ (g : Geo) (I : List ℕ) (t : Tree maxDepth) (u : ℕ) (l : Laid g I ma
     last = lastName q
 
     -- a name that is in a directory of the tree is not empty
-    pub name-there : (s : Some) → find maxDepth way t ≡ some s → (e : Entry (Below (s .0))) → lookup last (s .1) ≡ some e → length last ≡ 0 → ⊥
+    pub name-there : (s : Some) → find maxDepth way t ≡ some s → (e : Entry (Below (s .0))) → lookup last (s .1) ≡ some e
+        → length last ≡ 0 → ⊥
     name-there s f e k z =
-        let m = good-lookup (blockSize g) (GoodBelow (blockSize g) (s .0)) last (s .1) e (good-find (blockSize g) maxDepth way t s (l .good) f) k .good-name .some-bytes in
+        let m = good-lookup (blockSize g) (GoodBelow (blockSize g) (s .0)) last (s .1) e
+        (good-find (blockSize g) maxDepth way t s (l .good) f) k .good-name .some-bytes in
         let j : length last ≡ length (e .name) = ap length (lookup-name last (s .1) e k) in
         omega arith
 
@@ -88,30 +93,37 @@ module _ (g : Geo) (I : List ℕ) (t : Tree maxDepth) (u : ℕ) (l : Laid g I ma
     at-missing s e a =
         name-five last _ (and-then-ok s (λ s. entryIn s (lookup last (s .1))) e ∙ ap (entryIn s) (absent-none last (s .1) a))
 
-    pub at-entry : (s : Some) → wayTo maxDepth way t ≡ accepted s → (e : Entry (Below (s .0))) → lookup last (s .1) ≡ some e → entryAt way last t ≡ accepted (s, e)
+    pub at-entry : (s : Some) → wayTo maxDepth way t ≡ accepted s → (e : Entry (Below (s .0))) → lookup last (s .1) ≡ some e
+        → entryAt way last t ≡ accepted (s, e)
     unfolding entryAt entryIn
     at-entry s w e k =
-        name-some last _ (name-there s (way-found maxDepth way t s w) e k) ∙ and-then-ok s (λ s. entryIn s (lookup last (s .1))) w ∙ ap (entryIn s) k
+        name-some last _ (name-there s (way-found maxDepth way t s w) e k)
+        ∙ and-then-ok s (λ s. entryIn s (lookup last (s .1))) w ∙ ap (entryIn s) k
 
     -- so what a call makes of the entry that it finds in the image is what is made of the tree's.
     pub entry-then : {A : Type 0} (f : Held → Reply A) (h : Spot → Reply A)
-        → ((s : Some) (e : Entry (Below (s .0))) → lookup last (s .1) ≡ some e → f (held (blocksAt (s .1)) (headOf (view (blockSize g) (s .0)) e)) ≡ h (s, e))
+        → ((s : Some) (e : Entry (Below (s .0))) → lookup last (s .1) ≡ some e
+        → f (held (blocksAt (s .1)) (headOf (view (blockSize g) (s .0)) e)) ≡ h (s, e))
         → andThen (entryOf (blockSize g) (dataAt g) (g .n) I q) f ≡ andThen (entryAt way last t) h
     entry-then f h same = go (wayTo maxDepth way t) refl
       where
-        by : (s : Some) → wayTo maxDepth way t ≡ accepted s → ((e : Entry (Below (s .0))) × (lookup last (s .1) ≡ some e)) ⊎ Absent last (s .1)
+        by : (s : Some) → wayTo maxDepth way t ≡ accepted s → ((e : Entry (Below (s .0))) × (lookup last (s .1) ≡ some e))
+            ⊎ Absent last (s .1)
             → andThen (entryOf (blockSize g) (dataAt g) (g .n) I q) f ≡ andThen (entryAt way last t) h
         by s w (inl e) =
             and-then-ok _ f (entry-is g I maxDepth t u q l s (e .0) (way-found maxDepth way t s w) (e .1)) ∙ same s (e .0) (e .1)
             ∙ sym (and-then-ok (s, e .0) h (at-entry s w (e .0) (e .1)))
         by s w (inr a) =
-            and-then-no 5 f (entry-missing g I maxDepth t u q l s (way-found maxDepth way t s w) a) ∙ sym (and-then-no 5 h (at-missing s w a))
+            and-then-no 5 f (entry-missing g I maxDepth t u q l s (way-found maxDepth way t s w) a)
+            ∙ sym (and-then-no 5 h (at-missing s w a))
 
-        stopped : (n : Name) (k : ℕ) → entryOf (blockSize g) (dataAt g) (g .n) I q ≡ onName n (refused k) → entryAt way last t ≡ onName n (refused k)
+        stopped : (n : Name) (k : ℕ) → entryOf (blockSize g) (dataAt g) (g .n) I q ≡ onName n (refused k)
+            → entryAt way last t ≡ onName n (refused k)
             → andThen (entryOf (blockSize g) (dataAt g) (g .n) I q) f ≡ andThen (entryAt way last t) h
         stopped [] k a b = and-then-no 5 f a ∙ sym (and-then-no 5 h b)
         stopped (c ∷ n) k a b = and-then-no k f a ∙ sym (and-then-no k h b)
 
-        go : (r : Reply Some) → wayTo maxDepth way t ≡ r → andThen (entryOf (blockSize g) (dataAt g) (g .n) I q) f ≡ andThen (entryAt way last t) h
+        go : (r : Reply Some) → wayTo maxDepth way t ≡ r
+            → andThen (entryOf (blockSize g) (dataAt g) (g .n) I q) f ≡ andThen (entryAt way last t) h
         go (accepted s) w = by s w (lookup-or last (s .1))
         go (refused k) w = stopped last k (entry-stops g I maxDepth t u q l k w) (at-stops k w)

@@ -19,9 +19,16 @@ work-is-done =
       write-leaves = write-leaves;
       open-then-read = open-then-read;
       create-file-leaves = λ K I W cwd p now o J Z c h e clock w v.
-          let r = create-file-leaves K I W cwd p now o J Z c (value-said (o .answer) (o .handle) h e) clock w v in
-          (r .0, r .1, r .2, r .3, subst (HandleOf (r .1) (lastOf cwd p) 0 (emptyCell (geoAt K I) (r .0) ∷ [])) (value-is (o .answer) (o .handle) h e) (r .4));
+          let r = create-file-leaves K I W cwd p now o J Z c (value-said (o .answer) (o .handle) h e) clock w v in (
+            r .0,
+            r .1,
+            r .2,
+            r .3,
+            subst (HandleOf (r .1) (lastOf cwd p) 0 (emptyCell (geoAt K I) (r .0) ∷ []))
+                (value-is (o .answer) (o .handle) h e) (r .4),
+          );
       create-dir-leaves = λ K I W cwd p now r J Z c e. create-dir-leaves K I W cwd p now r J Z c (success-said r e);
-      create-changes = λ K I W cwd p now o J Z c h e clock w. create-changes K I W cwd p now o J Z c w clock (value-said (o .answer) (o .handle) h e);
+      create-changes = λ K I W cwd p now o J Z c h e clock w. create-changes K I W cwd p now o J Z c w clock
+          (value-said (o .answer) (o .handle) h e);
       delete-leaves = λ K I W cwd p now r J Z c e clock w. delete-leaves K I W cwd p now r J Z c w clock (success-said r e);
     }

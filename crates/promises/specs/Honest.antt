@@ -11,8 +11,8 @@ use Rattle.dir_entry.specs.declared.Kind.{Kind}
 use Rattle.dir_entry.specs.declared.Kind.the-variants.{Dir}
 use Rattle.create.specs.Creating.{badName}
 
--- A create of that kind at p, n gets none of 8, 5, 6, 15, 7: the name is one, and the path names nothing in a directory that is there. For a new
--- directory that one has a level left below it, so that it is not at depth 16 (R15);
+-- A create of that kind at p, n gets none of 8, 5, 6, 15, 7: the name is one, and the path names nothing in a directory that is
+-- there. For a new directory that one has a level left below it, so that it is not at depth 16 (R15);
 pub record Creatable (k : Kind) (d : ℕ) (p : List Name) (n : Name) (t : Tree d) : Type 0 where
   pub named : badName n ≡ false
   pub vacant : Vacant d p n t

@@ -1,6 +1,6 @@
--- What each call that looks at the tree answers on a well-formed volume: one function for each, on the path or the handle and the tree t of the
--- image at the call's entry. Its refusals stand in the call's order, the first that holds is given (O1), and where none holds it gives the value
--- that is answered. Definitions alone; `RefusalIsExact` says that the calls give just these.
+-- What each call that looks at the tree answers on a well-formed volume: one function for each, on the path or the handle and the
+-- tree t of the image at the call's entry. Its refusals stand in the call's order, the first that holds is given (O1), and where
+-- none holds it gives the value that is answered. Definitions alone; `RefusalIsExact` says that the calls give just these.
 use mathlib.Core.Path.{_≡_}
 use mathlib.Core.Bool.{Bool, true, false, not, _&&_}
 use mathlib.Core.Logic.{_↔_}
@@ -55,8 +55,8 @@ unfoldable pub entryIn : (s : Some) → Option (Entry (Below (s .0))) → Reply 
 entryIn s none = refused 5
 entryIn s (some e) = accepted (s, e)
 
--- What the names p and the last name n lead to (P3, P4): an empty last name is 5 whatever the way is (R5); on the way each name in its turn
--- gives 5 where it is not there, and 6 where it is and is no directory's (`wayTo`); then the last name is looked up.
+-- What the names p and the last name n lead to (P3, P4): an empty last name is 5 whatever the way is (R5); on the way each name
+-- in its turn gives 5 where it is not there, and 6 where it is and is no directory's (`wayTo`); then the last name is looked up.
 unfoldable pub entryAt : List Name → Name → Tree maxDepth → Reply Spot
 entryAt p n t = onName n (andThen (wayTo maxDepth p t) (λ s. entryIn s (lookup n (s .1))))
 
@@ -64,7 +64,8 @@ entryAt p n t = onName n (andThen (wayTo maxDepth p t) (λ s. entryIn s (lookup 
 
 -- H5: a handle on the file n, z bytes in the blocks cs, in the directory that starts at a
 abbrev pub handleOn : ℕ → Name → ℕ → List Cell → Handle
-handleOn a n z cs = record { dir = record { 0 = a }; name = padded 255 n; len = length n; addr = record { 0 = cellsAt cs }; size = z; position = 0 }
+handleOn a n z cs =
+    record { dir = record { 0 = a }; name = padded 255 n; len = length n; addr = record { 0 = cellsAt cs }; size = z; position = 0 }
 
 -- R6: it is not a file; R10: it is above the limit, which W4 rules out
 unfoldable pub openNode : {X : Type 0} → ℕ → Name → Node X → Reply Handle
@@ -75,7 +76,8 @@ openNode a n (sub x) = refused 6
 -- C4
 unfoldable pub openAnswer : List ℕ → List ℕ → Tree maxDepth → Reply Handle
 openAnswer cwd p t =
-    given (pathRefusal cwd p) (andThen (entryAt (wayOf cwd p) (lastOf cwd p) t) (λ x. openNode (blocksAt (x .0 .1)) (lastOf cwd p) (x .1 .node)))
+    given (pathRefusal cwd p)
+    (andThen (entryAt (wayOf cwd p) (lastOf cwd p) t) (λ x. openNode (blocksAt (x .0 .1)) (lastOf cwd p) (x .1 .node)))
 
 -- ---- info (O5: 4, 5 and 6)
 
@@ -87,7 +89,9 @@ aboutSpot B x = accepted (about (kindIs (x .1 .node)) (sizeOf (view B (x .0 .0))
 unfoldable pub infoAnswer : ℕ → List ℕ → List ℕ → Tree maxDepth → Reply About
 infoAnswer B cwd p t =
     given (pathRefusal cwd p)
-    (pick (same p (slash ∷ [])) (accepted (about Dir (sum t) 0 [])) (andThen (entryAt (wayOf cwd p) (lastOf cwd p) t) (aboutSpot B)))
+    (pick (same p (slash ∷ []))
+    (accepted (about Dir (sum t) 0 []))
+    (andThen (entryAt (wayOf cwd p) (lastOf cwd p) t) (aboutSpot B)))
 
 -- ---- list (O5: 4, 5 and 6)
 
@@ -95,11 +99,13 @@ infoAnswer B cwd p t =
 unfoldable pub dirAnswer : List ℕ → List ℕ → Tree maxDepth → Reply Some
 dirAnswer cwd p t = given (pathRefusal cwd p) (wayTo maxDepth (allOf cwd p) t)
 
--- C6: the entries from number i on that go into a buffer of cap bytes, by their bytes and the number after them;
+-- C6: the bytes of these records, which are shown from entry number i on, and the number after them
+abbrev pub countsFrom : {X : Type 0} → ℕ → List (Entry X) → Counts
+countsFrom i es = record { bytes = recordsLong es; next = i + length es }
+
+-- The entries from number i on that go into a buffer of cap bytes: how many bytes,
 unfoldable pub listAnswer : List ℕ → List ℕ → ℕ → ℕ → Tree maxDepth → Reply Counts
-listAnswer cwd p i cap t =
-    andThen (dirAnswer cwd p t) (λ s.
-    accepted (record { bytes = recordsLong (listedFrom i cap (entriesOf (s .1))); next = i + length (listedFrom i cap (entriesOf (s .1))) }))
+listAnswer cwd p i cap t = andThen (dirAnswer cwd p t) (λ s. accepted (countsFrom i (listedFrom i cap (entriesOf (s .1)))))
 
 -- and their records, none where the call is refused.
 abbrev pub recordsIn : ℕ → ℕ → ℕ → Reply Some → List ℕ
@@ -131,7 +137,8 @@ hasEntry (suc d) (sub x) = ltb 0 (length (entriesOf x))
 
 unfoldable pub deleteAnswer : List ℕ → List ℕ → Tree maxDepth → Reply (Unit {0})
 deleteAnswer cwd p t =
-    given (pathRefusal cwd p) (andThen (entryAt (wayOf cwd p) (lastOf cwd p) t) (λ x. reply (when 14 (hasEntry (x .0 .0) (x .1 .node))) tt))
+    given (pathRefusal cwd p)
+    (andThen (entryAt (wayOf cwd p) (lastOf cwd p) t) (λ x. reply (when 14 (hasEntry (x .0 .0) (x .1 .node))) tt))
 
 -- ---- handles
 
@@ -164,14 +171,17 @@ writeNumber g h len t =
 
 -- ---- D2: what the calls say
 
--- On a well-formed volume each call answers just that: refused by k exactly where its function gives k, and accepted exactly where it gives a
--- value, with that value. Changing calls have a work buffer that is long enough (R16) and an image of bytes, as every image is.
+-- On a well-formed volume each call answers just that: refused by k exactly where its function gives k, and accepted exactly
+-- where it gives a value, with that value. Changing calls have a work buffer that is long enough (R16) and an image of bytes, as
+-- every image is.
 pub record RefusalIsExact : Type 0 where
-  pub opens : (K : ℕ) (I : List ℕ) (w : WellFormed K I) (cwd p : List ℕ) (o : OpenOut) → Opens K I cwd p o → openSays o ≡ openAnswer cwd p (w .tree)
+  pub opens : (K : ℕ) (I : List ℕ) (w : WellFormed K I) (cwd p : List ℕ) (o : OpenOut) → Opens K I cwd p o
+      → openSays o ≡ openAnswer cwd p (w .tree)
   pub informs : (K : ℕ) (I : List ℕ) (w : WellFormed K I) (cwd p : List ℕ) (o : InfoOut) → Informs K I cwd p o
       → infoSays o ≡ infoAnswer (blockSize (geoAt K I)) cwd p (w .tree)
   -- the buffer is buf before and out after
-  pub lists : (K : ℕ) (I : List ℕ) (w : WellFormed K I) (cwd p : List ℕ) (i : ℕ) (buf out : List ℕ) (q : Listing) → Lists K I cwd p i buf q out
+  pub lists : (K : ℕ) (I : List ℕ) (w : WellFormed K I) (cwd p : List ℕ) (i : ℕ) (buf out : List ℕ) (q : Listing)
+      → Lists K I cwd p i buf q out
       → (listSays q ≡ listAnswer cwd p i (length buf) (w .tree))
       × (out ≡ splice buf 0 (recordsIn (blockSize (geoAt K I)) i (length buf) (dirAnswer cwd p (w .tree))))
   pub creates-file : (K : ℕ) (I W : List ℕ) → Bytes I → (w : WellFormed K I) → markLong (geoAt K I) ≤ length W
@@ -181,19 +191,22 @@ pub record RefusalIsExact : Type 0 where
       → (cwd p : List ℕ) (now : ℕ) (r : Answer) (J Z : List ℕ) → CreatesDir K I W cwd p now r J Z
       → says r ≡ plainly (createAnswer (geoAt K I) Dir cwd p (w .tree))
   pub deletes : (K : ℕ) (I W : List ℕ) → Bytes I → (w : WellFormed K I) → markLong (geoAt K I) ≤ length W
-      → (cwd p : List ℕ) (now : ℕ) (r : Answer) (J Z : List ℕ) → Deletes K I W cwd p now r J Z → says r ≡ deleteAnswer cwd p (w .tree)
+      → (cwd p : List ℕ) (now : ℕ) (r : Answer) (J Z : List ℕ) → Deletes K I W cwd p now r J Z
+      → says r ≡ deleteAnswer cwd p (w .tree)
   pub writes : (K : ℕ) (I W : List ℕ) → Bytes I → (w : WellFormed K I) → markLong (geoAt K I) ≤ length W
       → (h : Handle) (buf : List ℕ) (now : ℕ) (o : WriteOut) (J Z : List ℕ) → Writes K I W h buf now o J Z
       → countedSays (o .answer) ≡ reply (writeNumber (geoAt K I) h (length buf) (w .tree)) (length buf)
-  -- Of a handle whose directory is one of the tree, as every handle is that a call has answered: read does not ask that (H4), and a made-up
-  -- handle can make it walk any blocks. (A handle's name is an array of 255 bytes.)
-  pub reads : (K : ℕ) (I : List ℕ) (w : WellFormed K I) (h : Handle) (q : List Name) → DirAt maxDepth (h .dir .0) q (w .tree) → length (h .name) ≡ 255
+  -- Of a handle whose directory is one of the tree, as it is of a handle that a call answered while that directory stands. Read
+  -- does not ask for it (H4), and through a made-up handle it walks any blocks. (A handle's name is an array of 255 bytes.)
+  pub reads : (K : ℕ) (I : List ℕ) (w : WellFormed K I) (h : Handle) (q : List Name) → DirAt maxDepth (h .dir .0) q (w .tree)
+      → length (h .name) ≡ 255
       → (buf out : List ℕ) (o : ReadOut) → Reads K I h buf out o
       → (countedSays (o .answer) ≡ reply (readNumber h (w .tree)) (toRead h (length buf)))
       × (o .handle ≡ settle (readNumber h (w .tree)) (moved h (h .position + toRead h (length buf))) h)
       × (out ≡ settle (readNumber h (w .tree)) (splice buf 0 (bytesFrom (h .position) (length buf) (fileBy h (w .tree)))) buf)
 
--- R9, both ways: 9 is given exactly where none of the refusals before it holds and fewer blocks are free in reach than the call would take.
+-- R9, both ways: 9 is given exactly where none of the refusals before it holds and fewer blocks are free in reach than the call
+-- would take.
 pub record RoomIsExact : Type 0 where
   pub write-full : (K : ℕ) (I W : List ℕ) → Bytes I → (w : WellFormed K I) → markLong (geoAt K I) ≤ length W
       → (h : Handle) (buf : List ℕ) (now : ℕ) (o : WriteOut) (J Z : List ℕ) → Writes K I W h buf now o J Z
