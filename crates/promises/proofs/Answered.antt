@@ -29,6 +29,10 @@ pub value-said : {A : Type 0} (r : Answer) (a b : A) → onAnswer r a ≡ accept
 value-said answer.Success a b e = refl
 value-said (answer.Refused x) a b e = absurd (not-accepted (refusalNumber x) b e)
 
+pub value-is : {A : Type 0} (r : Answer) (a b : A) → onAnswer r a ≡ accepted b → a ≡ b
+value-is answer.Success a b e = accepted-one a b e
+value-is (answer.Refused x) a b e = absurd (not-accepted (refusalNumber x) b e)
+
 pub success-said : (r : Answer) → says r ≡ accepted tt → r ≡ answer.Success
 success-said answer.Success e = refl
 success-said (answer.Refused x) e = absurd (not-accepted (refusalNumber x) tt e)

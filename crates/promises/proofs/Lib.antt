@@ -1,3 +1,5 @@
+pub mod Spots
+pub mod Looks
 pub mod Answered
 pub mod Called
 pub mod Checks
@@ -7,12 +9,16 @@ pub mod Files
 pub mod Once
 pub mod Path
 pub mod Counter
-pub mod Honest
-pub mod Exact
+pub mod Deletes
+pub mod Creates
+pub mod Handles
+pub mod Rooms
+pub mod Refusals
 pub mod Well
 pub mod Reopened
 pub mod Done
 pub mod Made
 pub mod Gone
 pub mod Kept
+pub mod Work
 pub mod Promises
