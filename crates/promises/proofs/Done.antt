@@ -2,7 +2,8 @@
 use mathlib.Core.Path.{_≡_, refl, sym, ap, _∙_, subst}
 use mathlib.Core.Option.{some}
 use mathlib.Core.List.{List, _++_}
-use Prim.Native.Nat.{ℕ, _+_, _^_, _<_}
+use Prim.Native.Nat.{ℕ, _+_, _^_, _≤_, _<_}
+use native.Mathlib.Omega.{arith}
 use lib.ListN.{length, take}
 use Rattle.model.specs.Answers.{accepted}
 use Rattle.model.specs.Tree.{Name, Cell, Tree, Entry}
@@ -87,7 +88,8 @@ module _ (K : ℕ) (I W : List ℕ) (h : Handle) (buf : List ℕ) (now : ℕ) (o
     unfolding file-before
     write-then-read name = (
       file-before,
-      λ i inside s a rbuf out r b.
+      λ i low s a rbuf out r b.
+          let inside : i ≤ h .position + length buf = omega (arith, low) in
           let y = write-seek K I W h buf now o J Z c k counts clock name w (done .0) (done .1) (done .2) i inside s a in
           let v = write-read K I W h buf now o J Z c k counts clock name w (done .0) (done .1) (done .2) i inside rbuf out r
           (subst (λ (g : Handle). Reads K J g rbuf out r) (y .1) b) in

@@ -1,4 +1,5 @@
 -- D2 is kept: the calls answer just what the tree says.
+use native.Mathlib.Omega.{arith}
 use Rattle.promises.specs.Refusals.{RefusalIsExact, RoomIsExact}
 use Rattle.promises.proofs.Looks.{opens, informs, lists}
 use Rattle.promises.proofs.Creates.{creates-file, creates-dir}
@@ -14,7 +15,7 @@ refusal-is-exact =
       lists = lists;
       creates-file = creates-file;
       creates-dir = creates-dir;
-      deletes = deletes;
+      deletes = λ K I W b w long. deletes K I W b w (omega (arith, long));
       writes = writes;
       reads = reads;
     }

@@ -46,7 +46,8 @@ module _ (K : ℕ) (I : List ℕ) (w : WellFormed K I) (q : List Name) (n : Name
 
   handle-reads : ReadsBack K I h z (contents z cs)
   unfolding readCall
-  handle-reads i inside s m rbuf out r b =
+  handle-reads i low s m rbuf out r b =
+      let inside : i ≤ z = omega (arith, low) in
       let y = seek-inside h i s handle-whole (omega (arith, a .size, inside)) m in
       let at : HandleOf (blocksAt (o .dir .1)) n z cs (moved h i)
       = record { dir = a .dir; name = a .name; letters = a .letters; addr = a .addr; size = a .size; position = inside } in

@@ -102,7 +102,7 @@ module _ (g : Geo) (k : Kind) (cwd p : List ℕ) (good : badPath cwd p ≡ false
             may = record {
               named = b;
               vacant = record { dir = s; there = way-found maxDepth (wayOf cwd p) t s w; free = q .1 };
-              shallow = not-deep k (s .0) (q .0);
+              shallow = λ z. omega (arith, not-deep k (s .0) (q .0) z);
             };
             few = omega (arith, q .2);
           }

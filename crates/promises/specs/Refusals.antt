@@ -65,7 +65,14 @@ entryAt p n t = onName n (andThen (wayTo maxDepth p t) (λ s. entryIn s (lookup 
 -- H5: a handle on the file n, z bytes in the blocks cs, in the directory that starts at a
 abbrev pub handleOn : ℕ → Name → ℕ → List Cell → Handle
 handleOn a n z cs =
-    record { dir = record { 0 = a }; name = padded 255 n; len = length n; addr = record { 0 = cellsAt cs }; size = z; position = 0 }
+    record {
+      dir = record { 0 = a };
+      name = padded 255 n;
+      len = length n;
+      addr = record { 0 = cellsAt cs };
+      size = z;
+      position = 0;
+    }
 
 -- R6: it is not a file; R10: it is above the limit, which W4 rules out
 unfoldable pub openNode : {X : Type 0} → ℕ → Name → Node X → Reply Handle
