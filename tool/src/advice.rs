@@ -43,9 +43,12 @@ pub fn no_mark(k: Option<u32>, elsewhere: Option<u32>, name: &str) -> Failure {
             format!("no MFS mark at block {k}, nor at another"),
             "is this an MFS card? 'mfs format' makes it one, and drops what it holds",
         ),
-        (None, _) => {
-            refused(name, 2, "no MFS mark in any block".to_string(), "is this an MFS card? 'mfs format' makes it one, and drops what it holds")
-        }
+        (None, _) => refused(
+            name,
+            2,
+            "no MFS mark in any block".to_string(),
+            "is this an MFS card? 'mfs format' makes it one, and drops what it holds",
+        ),
     }
 }
 
@@ -98,7 +101,10 @@ pub fn failure(refusal: Refusal, image: &[u8], k: u32, name: &str, path: &[u8]) 
             None => refused(name, refusal.number, refusal.reason, ""),
         },
         9 => no_room(image, k, &subject, needs_to_create(image, k, path)),
-        number => refused(&subject, number, refusal.reason, &advise(number, name, path)),
+        number => {
+            let dir = human::name(nearest(image, k, path));
+            refused(&subject, number, refusal.reason, &advise(number, name, &dir))
+        }
     }
 }
 
@@ -115,7 +121,8 @@ pub fn subject(name: &str, path: &[u8]) -> String {
 pub fn no_room(image: &[u8], k: u32, subject: &str, needs: u64) -> Failure {
     let geometry = Geometry::of(image, k);
     let (in_reach, reach) = geometry.map_or((0, 0), |g| (g.free_in_reach(image), g.reach()));
-    let reason = format!("needs {}, {in_reach} {} in reach", human::count(needs, "block"), if in_reach == 1 { "is" } else { "are" });
+    let reason =
+        format!("needs {}, {in_reach} {} in reach", human::count(needs, "block"), if in_reach == 1 { "is" } else { "are" });
     let advice = if reach == 0 {
         "on a volume of fewer than 4096 blocks nothing can be created: make a larger one"
     } else {
@@ -136,13 +143,19 @@ pub fn needs_to_create(image: &[u8], k: u32, path: &[u8]) -> u64 {
     1 + u64::from(grows)
 }
 
-/// What to do about a refusal.
-fn advise(number: u32, name: &str, path: &[u8]) -> String {
-    let parent = path.iter().rposition(|&byte| byte == b'/').map_or(&path[..0], |at| &path[..at.max(1)]);
+/// The longest way along a path, short of its end, that leads to a directory.
+fn nearest<'a>(image: &[u8], k: u32, path: &'a [u8]) -> &'a [u8] {
+    let ends = (1..path.len()).rev().filter(|&end| path[end] == b'/');
+    let is_dir = |end: &usize| Geometry::of(image, k).is_some_and(|g| layout::find_dir(image, g, &path[..*end]).is_some());
+    ends.into_iter().find(is_dir).map_or(b"/", |end| &path[..end])
+}
+
+/// What to do about a refusal; `dir` is a directory near by.
+fn advise(number: u32, name: &str, dir: &str) -> String {
     match number {
         4 => "give it another name on the card".to_string(),
-        5 => format!("'mfs ls {name} {}' shows what is there", human::name(parent)),
-        6 => format!("'mfs ls -l {name} {}' shows what is what", human::name(parent)),
+        5 => format!("'mfs ls {name} {dir}' shows what is there"),
+        6 => format!("'mfs ls -l {name} {dir}' shows what is what"),
         7 => "remove it first, or choose another name".to_string(),
         8 => "choose a name of 1 to 255 bytes".to_string(),
         10 => "split the file".to_string(),

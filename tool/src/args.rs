@@ -9,6 +9,8 @@ use std::path::Path;
 /// Where the superblock is.
 #[derive(Clone, Copy, Debug, PartialEq, Eq)]
 pub enum Place {
+    /// Where the mark is found, and no word of it where that is the usual block.
+    Usual,
     /// Where the mark is found.
     Auto,
     Block(u32),
@@ -76,7 +78,7 @@ pub fn wants_json(words: &[OsString]) -> bool {
 pub fn parse(words: Vec<OsString>) -> Result<Call, Failure> {
     let mut parser = Parser {
         command: None,
-        options: Options { place: Place::Auto, json: false, quiet: false, progress: true },
+        options: Options { place: Place::Usual, json: false, quiet: false, progress: true },
         flags: Flags::default(),
         words: Vec::new(),
     };

@@ -37,7 +37,10 @@ impl<'a> Change<'a> {
         }
         self.out.done(|| {
             let object = Object::new().text("did", verb).bytes("path", path);
-            bytes.map_or(Object::new().text("did", verb).bytes("path", path), |bytes| object.number("bytes", bytes))
+            match bytes {
+                Some(bytes) => object.number("bytes", bytes),
+                None => object,
+            }
         })
     }
 
@@ -67,7 +70,15 @@ pub fn mkdir(call: &Call) -> Result<(), Failure> {
 
 pub fn make(change: &mut Change, path: &[u8]) -> Result<(), Failure> {
     let made = change.image.volume().create_dir(path);
-    made.map_err(|refusal| change.image.refused(refusal, path))?;
+    made.map_err(|refusal| match change.image.refused(refusal, path) {
+        Failure::Refused { subject, number: 5, .. } => Failure::Refused {
+            subject,
+            number: 5,
+            reason: "a directory on the way is not there".to_string(),
+            advice: "use -p to make those, too".to_string(),
+        },
+        other => other,
+    })?;
     change.did("mkdir", path, None)
 }
 

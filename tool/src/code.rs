@@ -5,7 +5,9 @@ use crate::failure::Failure;
 pub fn accept(word: &str) -> Result<(), Failure> {
     let reason = match word {
         "0" | "auto" => return Ok(()),
-        "1" => "--code 1 (blocks of 1024 bytes) is not supported yet: this version knows --code 0 (blocks of 512 bytes)".to_string(),
+        "1" => {
+            "--code 1 (blocks of 1024 bytes) is not supported yet: this version knows --code 0 (blocks of 512 bytes)".to_string()
+        }
         other => format!("--code takes 0, 1 or auto, not '{other}'"),
     };
     Err(Failure::Usage { reason, command: None })

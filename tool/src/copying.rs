@@ -317,7 +317,8 @@ impl Get<'_> {
                 (Kind::Device, _) => self.out.note(&human::name(&inner), "a device is left out"),
                 (_, Some(name)) => self.any(&inner, &to.join(name)),
                 (_, None) => {
-                    let failure = host_name(&inner).err().unwrap_or_else(|| Failure::host(human::name(&inner), "a name with a slash"));
+                    let failure =
+                        host_name(&inner).err().unwrap_or_else(|| Failure::host(human::name(&inner), "a name with a slash"));
                     self.count(Err(failure));
                 }
             }

@@ -75,7 +75,9 @@ fn dump_block(call: &Call, image: &Reading, addr: u32, out: &mut Output) -> Resu
     let block = layout::block_at(image.bytes(), addr);
     let block = block.ok_or_else(|| call.usage(format!("there is no block {addr}: the image has {blocks}")))?;
     if out.json {
-        return out.object(&Object::new().number("block", addr).number("next", layout::next(image.bytes(), addr)).text("hex", &hex(block)));
+        return out.object(
+            &Object::new().number("block", addr).number("next", layout::next(image.bytes(), addr)).text("hex", &hex(block)),
+        );
     }
     let part = part_of(image, addr);
     out.line(&format!("block {addr}: {part}"))?;

@@ -4,7 +4,7 @@ use crate::failure::Failure;
 use crate::human;
 use crate::image::Changing;
 use crate::json::Object;
-use crate::layout::{block, Geometry, Superblock, BLOCK, SMALLEST_USEFUL};
+use crate::layout::{block, Geometry, Superblock, BLOCK, SMALLEST_USEFUL, USUAL_K};
 use crate::library::{self, Refusal};
 use crate::mapping::Private;
 use crate::output::Output;
@@ -14,14 +14,11 @@ use std::io;
 use std::os::unix::fs::FileExt;
 use std::path::{Path, PathBuf};
 
-/// Where the superblock goes unless -k says otherwise.
-const USUAL_K: u32 = 8;
-
 pub fn format(call: &Call) -> Result<(), Failure> {
     let mut out = Output::new(&call.options);
     let k = match call.options.place {
         Place::Block(k) => k,
-        Place::Auto => USUAL_K,
+        Place::Auto | Place::Usual => USUAL_K,
     };
     let blocks = match call.image().exists() {
         true => format_there(call, k, &out)?,
@@ -65,7 +62,11 @@ fn format_there(call: &Call, k: u32, out: &Output) -> Result<u32, Failure> {
     let before = Superblock::at(image.bytes(), k).is_some_and(|superblock| superblock.is_marked());
     let blank = is_blank(image.bytes(), k);
     if !call.flags.force && !blank {
-        let what = if before { format!("it holds an MFS volume, at block {k}") } else { format!("block {k} and those after are not blank") };
+        let what = if before {
+            format!("it holds an MFS volume, at block {k}")
+        } else {
+            format!("block {k} and those after are not blank")
+        };
         let advice = "--force drops all that it holds".to_string();
         return Err(Failure::Refused { subject: image.name, number: 7, reason: what, advice });
     }
@@ -95,7 +96,9 @@ fn format_new(call: &Call, k: u32) -> Result<u32, Failure> {
     let made = make(&new, blocks, k, &name);
     let kept = made.and_then(|()| match call.flags.dry_run {
         true => Ok(()),
-        false => fs::rename(&new, call.image()).and_then(|()| undo::sync_folder_of(call.image())).map_err(|e| Failure::host(&name, e)),
+        false => {
+            fs::rename(&new, call.image()).and_then(|()| undo::sync_folder_of(call.image())).map_err(|e| Failure::host(&name, e))
+        }
     });
     if kept.is_err() || call.flags.dry_run {
         // What was begun is not needed; nothing more can be done where that fails too.

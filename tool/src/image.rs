@@ -3,7 +3,7 @@ use crate::advice;
 use crate::args::{Call, Place};
 use crate::failure::Failure;
 use crate::host::{self, Hold};
-use crate::layout::{Geometry, Superblock, BLOCK, VERSION};
+use crate::layout::{Geometry, Superblock, BLOCK, USUAL_K, VERSION};
 use crate::library::{Refusal, View, Volume};
 use crate::mapping::{Private, ReadOnly};
 use crate::output::Output;
@@ -220,11 +220,13 @@ fn find_superblock(file: &File, len: u64, call: &Call, name: &str, out: &Output)
     match place {
         Place::Block(k) if is_marked(file, k) => Ok(k),
         Place::Block(k) => Err(advice::no_mark(Some(k), found()?.fits, name)),
-        Place::Auto => {
+        Place::Auto | Place::Usual => {
             let found = found()?;
             // A mark whose fields do not fit is taken if there is no other: the library's refusal says what is wrong with it.
             let k = found.fits.or(found.marked).ok_or_else(|| advice::no_mark(None, None, name))?;
-            out.note(name, &format!("superblock found at block {k}"));
+            if place == Place::Auto || k != USUAL_K {
+                out.note(name, &format!("superblock found at block {k}"));
+            }
             Ok(k)
         }
     }

@@ -14,6 +14,8 @@ const BITS: u32 = 8 * BLOCK as u32;
 pub const IMAGE_BLOCKS: u64 = 8_388_608;
 /// Below so many blocks nothing is in reach of allocation.
 pub const SMALLEST_USEFUL: u32 = BITS;
+/// Where a format puts the superblock unless it is told otherwise.
+pub const USUAL_K: u32 = 8;
 pub const SIGNATURE: &[u8; 8] = b"MOROS FS";
 pub const VERSION: u8 = 2;
 
@@ -126,11 +128,6 @@ impl Geometry {
     /// Free blocks that can be allocated.
     pub fn free_in_reach(self, image: &[u8]) -> u32 {
         self.clear(image, self.reach())
-    }
-
-    /// Free blocks of the whole data area.
-    pub fn free(self, image: &[u8]) -> u32 {
-        self.clear(image, self.data_blocks())
     }
 }
 
@@ -253,7 +250,7 @@ mod tests {
         let mut image = vec![0; 30 * BLOCK];
         image[2 * BLOCK] = 0b101;
         image[2 * BLOCK + 3] = 0b11;
-        assert_eq!((geometry.data(), geometry.data_blocks(), geometry.free(&image)), (3, 27, 23));
+        assert_eq!((geometry.data(), geometry.data_blocks(), geometry.clear(&image, 27)), (3, 27, 23));
         assert_eq!(geometry.free_in_reach(&image), 0);
     }
 }

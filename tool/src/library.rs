@@ -152,10 +152,6 @@ impl<'a> Volume<'a> {
         Volume { image, k, time, work }
     }
 
-    pub fn view(&self) -> View<'_> {
-        View { image: self.image, k: self.k }
-    }
-
     pub fn create_file(&mut self, path: &[u8]) -> Result<OpenFile, Refusal> {
         Ok(OpenFile(mfs::create_file(self.image, self.k, CWD, path, self.time, &mut self.work)?))
     }

@@ -101,14 +101,19 @@ fn as_text(failure: &Failure) -> Option<String> {
 fn as_object(failure: &Failure) -> Option<String> {
     let object = Object::new();
     let object = match failure {
-        Failure::Refused { subject, number, reason, advice } => {
-            object.text("error", "refused").number("number", *number).text("subject", subject).text("reason", reason).text("advice", advice)
-        }
+        Failure::Refused { subject, number, reason, advice } => object
+            .text("error", "refused")
+            .number("number", *number)
+            .text("subject", subject)
+            .text("reason", reason)
+            .text("advice", advice),
         Failure::Usage { reason, .. } => object.text("error", "usage").text("reason", reason),
         Failure::Host { subject, reason, advice } => {
             object.text("error", "host").text("subject", subject).text("reason", reason).text("advice", advice)
         }
-        Failure::Part { done, failed } => object.text("error", "part").number("done", *done as u64).number("failed", *failed as u64),
+        Failure::Part { done, failed } => {
+            object.text("error", "part").number("done", *done as u64).number("failed", *failed as u64)
+        }
         Failure::Bug { reason } => object.text("error", "bug").text("reason", reason),
         Failure::Told(_) => return None,
     };

@@ -22,9 +22,7 @@ pub fn picture(card: &Card) -> String {
     );
     let title = format!("{}: {}, {} a cell", card.name, human::count(u64::from(card.blocks), "block"), size);
     let _ = writeln!(svg, "<text x=\"{MARGIN}\" y=\"{MARGIN}\">{}</text>", escaped(&title));
-    for (first, part) in card.cells(size) {
-        push_cell(&mut svg, card, first, size, part);
-    }
+    push_cells(&mut svg, card, size);
     for (line, part) in Part::ALL.into_iter().enumerate() {
         let y = rows * CELL + 2 * MARGIN + line as u32 * LINE;
         let _ = writeln!(
@@ -41,16 +39,30 @@ pub fn picture(card: &Card) -> String {
     svg
 }
 
-/// A cell, with what it is in a title, which viewers show where the pointer rests.
-fn push_cell(svg: &mut String, card: &Card, first: u32, size: u32, part: Part) {
+/// Neighbours in a row that are alike are one box.
+fn push_cells(svg: &mut String, card: &Card, size: u32) {
+    let cells: Vec<(u32, Part)> = card.cells(size).collect();
+    let owner = |first| if size == 1 { card.path(first) } else { None };
+    for row in cells.chunks(COLUMNS as usize) {
+        for alike in row.chunk_by(|a, b| a.1 == b.1 && owner(a.0) == owner(b.0)) {
+            let (first, part) = alike[0];
+            push_box(svg, card, [first, first + size * alike.len() as u32 - 1], size, part);
+        }
+    }
+}
+
+/// A box, with what it is in a title, which viewers show where the pointer rests.
+fn push_box(svg: &mut String, card: &Card, [first, last]: [u32; 2], size: u32, part: Part) {
     let place = first / size;
     let (x, y) = (MARGIN + place % COLUMNS * CELL, MARGIN + LINE / 2 + place / COLUMNS * CELL);
-    let blocks = if size == 1 { format!("block {first}") } else { format!("blocks {first} to {}", first + size - 1) };
+    let width = (last + 1 - first) / size * CELL;
+    let last = last.min(card.blocks - 1);
+    let blocks = if first == last { format!("block {first}") } else { format!("blocks {first} to {last}") };
     let path = if size == 1 { card.path(first) } else { None };
     let path = path.map_or(String::new(), |path| format!(" {}", human::name(&path)));
     let _ = writeln!(
         svg,
-        "<rect x=\"{x}\" y=\"{y}\" width=\"{CELL}\" height=\"{CELL}\" fill=\"{}\" stroke=\"#ccc\" stroke-width=\"0.5\">\
+        "<rect x=\"{x}\" y=\"{y}\" width=\"{width}\" height=\"{CELL}\" fill=\"{}\" stroke=\"#ccc\" stroke-width=\"0.5\">\
          <title>{}</title></rect>",
         part.fill(),
         escaped(&format!("{blocks}: {}{path}", part.words()))

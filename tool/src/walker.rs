@@ -56,15 +56,8 @@ pub struct Walk<'a> {
 
 /// Walks a volume whose superblock the library has taken.
 pub fn walk(image: &[u8], geometry: Geometry) -> Walk<'_> {
-    let root = Node {
-        parent: 0,
-        name: Vec::new(),
-        kind: Kind::Dir,
-        depth: 0,
-        addr: geometry.data(),
-        size: 0,
-        stands_in: geometry.k,
-    };
+    let root =
+        Node { parent: 0, name: Vec::new(), kind: Kind::Dir, depth: 0, addr: geometry.data(), size: 0, stands_in: geometry.k };
     let owners = vec![NOBODY; geometry.data_blocks() as usize];
     let mut walk = Walk { image, geometry, nodes: vec![root], owners, findings: Vec::new() };
     walk.look_at_superblock();
