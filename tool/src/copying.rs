@@ -265,8 +265,8 @@ pub fn get(call: &Call) -> Result<(), Failure> {
     tally.answer()
 }
 
-/// The last name of a path, as a name of the host. A card may hold names that the host takes for something else: `..` would lead out
-/// of the folder, and a damaged card may have a slash in a name.
+/// The last name of a path, as a name of the host. A card may hold names that the host takes for something else: `..` would lead
+/// out of the folder, and a damaged card may have a slash in a name.
 fn host_name(path: &[u8]) -> Result<OsString, Failure> {
     let name = path.rsplit(|&byte| byte == b'/').next().unwrap_or(path);
     host_name_of(name).ok_or_else(|| Failure::Host {

@@ -86,8 +86,8 @@ pub const COMMANDS: [Command; 15] = [
         name: "put",
         synopsis: "put [-r] [--time SECONDS] [--dry-run] IMAGE SOURCE... [PATH]",
         about: "copy files to the card",
-        details: "  SOURCE is a file of the host, or - for the standard input. PATH is a file or directory on the card, the root if\n  \
-                  it is left out. A file that is there is replaced.\n  \
+        details: "  SOURCE is a file of the host, or - for the standard input. PATH is a file or directory on the\n  \
+                  card, the root if it is left out. A file that is there is replaced.\n  \
                   -r         folders with all in them\n  \
                   --time     seconds since 1970 for the entries, now if it is left out\n  \
                   --dry-run  do everything but store it",

@@ -54,8 +54,8 @@ pub fn lock(file: &File, hold: Hold, wait: bool) -> io::Result<bool> {
     }
 }
 
-/// Where the next bytes stand that the host has stored, at or after `offset`: holes of a sparse file are passed over. None after the
-/// last of them. A host that knows no holes answers `offset` itself.
+/// Where the next bytes stand that the host has stored, at or after `offset`: holes of a sparse file are passed over. None after
+/// the last of them. A host that knows no holes answers `offset` itself.
 pub fn next_data(file: &File, offset: u64) -> Option<u64> {
     // SAFETY: the descriptor is open as long as the file is borrowed.
     let found = unsafe { lseek(file.as_raw_fd(), offset as i64, SEEK_DATA) };

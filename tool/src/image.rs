@@ -146,8 +146,8 @@ impl Changing {
         Ok(changed.len() as u64)
     }
 
-    /// Stores what the library's calls have changed. By its contracts that is the superblock, the bitmap, and blocks that are marked as
-    /// used before or after, so that the rest of a large card need not be read.
+    /// Stores what the library's calls have changed. By its contracts that is the superblock, the bitmap, and blocks that are
+    /// marked as used before or after, so that the rest of a large card need not be read.
     pub fn store_changes(self) -> Result<u64, Failure> {
         let Some(geometry) = Geometry::of(&self.map, self.k) else {
             return Ok(0);

@@ -1,5 +1,5 @@
-//! Where the parts of a volume lie and what stands in them, read plainly. The tool uses this to find a volume, to explain and to draw;
-//! what a card holds is for the proved library to say.
+//! Where the parts of a volume lie and what stands in them, read plainly. The tool uses this to find a volume, to explain and to
+//! draw; what a card holds is for the proved library to say.
 
 pub const BLOCK: usize = 512;
 /// Bytes of a linked block after the address of the next.

@@ -1,7 +1,7 @@
 //! The one door to the proved library: every answer on what a card holds comes through here.
 //!
-//! Calls that only read take a shared slice, so that a read-only mapping is enough; calls that change take a [`Volume`] over a private
-//! mapping. Refusals pass as numbers and words, so that new ones need no change here.
+//! Calls that only read take a shared slice, so that a read-only mapping is enough; calls that change take a [`Volume`] over a
+//! private mapping. Refusals pass as numbers and words, so that new ones need no change here.
 use mfs::{Handle, SeekFrom};
 
 /// Paths of the command line are full paths, with or without the first slash.

@@ -17,8 +17,8 @@ pub fn join(dir: &[u8], name: &[u8]) -> Vec<u8> {
     [dir, slash, name].concat()
 }
 
-/// What a walk through directories may still meet. On a damaged volume directories can hold each other, and a walk would have no end:
-/// no sound volume has more entries than blocks, nor directories deeper than 16.
+/// What a walk through directories may still meet. On a damaged volume directories can hold each other, and a walk would have no
+/// end: no sound volume has more entries than blocks, nor directories deeper than 16.
 pub struct Budget(u64);
 
 impl Budget {

@@ -1,8 +1,9 @@
-//! Nothing lost: before the first byte of an image is stored over, the old bytes stand in a log beside it, on the disk. A run that finds
-//! a log puts them back. So an image is the old one or the new one, wherever a change was interrupted.
+//! Nothing lost: before the first byte of an image is stored over, the old bytes stand in a log beside it, on the disk. A run
+//! that finds a log puts them back. So an image is the old one or the new one, wherever a change was interrupted.
 //!
-//! The steps: write the log, sync it, sync the folder; store the changed blocks, sync the image; remove the log, sync the folder. The
-//! change has happened when the log is gone. A log that was not written to its end was never followed by a store, so it is just removed.
+//! The steps: write the log, sync it, sync the folder; store the changed blocks, sync the image; remove the log, sync the folder.
+//! The change has happened when the log is gone. A log that was not written to its end was never followed by a store, so it is
+//! just removed.
 use crate::failure::Failure;
 use crate::human;
 use crate::layout::BLOCK;

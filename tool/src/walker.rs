@@ -1,8 +1,8 @@
-//! Why a volume is damaged: a plain walk through all of it, rule by rule, that names every breach it meets. It says nothing on its own:
-//! `check` asks the proved library first, and a disagreement is reported as a fault of this walk.
+//! Why a volume is damaged: a plain walk through all of it, rule by rule, that names every breach it meets. It says nothing on
+//! its own: `check` asks the proved library first, and a disagreement is reported as a fault of this walk.
 //!
-//! The rules, in short: W1 the superblock; W2 chains stay in the data area, end, and share no block; W3 names, addresses and zeros
-//! behind a block's last entry; W4 sizes, empty directory blocks and depth; W5 the bitmap and the used count.
+//! The rules, in short: W1 the superblock; W2 chains stay in the data area, end, and share no block; W3 names, addresses and
+//! zeros behind a block's last entry; W4 sizes, empty directory blocks and depth; W5 the bitmap and the used count.
 use crate::layout::{self, Geometry, Slot, Superblock, HEADER};
 use std::collections::HashSet;
 
@@ -72,7 +72,8 @@ pub fn walk(image: &[u8], geometry: Geometry) -> Walk<'_> {
 }
 
 impl Walk<'_> {
-    /// What has a block, by a number that stands for nothing but itself; none for a block outside the data area, or that nothing has.
+    /// What has a block, by a number that stands for nothing but itself; none for a block outside the data area, or that nothing
+    /// has.
     pub fn owner_id(&self, addr: u32) -> Option<u32> {
         let owner = *self.owners.get(addr.checked_sub(self.geometry.data())? as usize)?;
         (owner != NOBODY).then_some(owner)
@@ -146,8 +147,8 @@ impl Walk<'_> {
         }
     }
 
-    /// W2 and, for an entry's own address, W3: walks a chain, and takes each block that nobody has yet. Answers the blocks taken, and
-    /// whether that is the whole chain.
+    /// W2 and, for an entry's own address, W3: walks a chain, and takes each block that nobody has yet. Answers the blocks taken,
+    /// and whether that is the whole chain.
     fn claim(&mut self, id: u32) -> (Vec<u32>, bool) {
         let Node { addr: first, stands_in, .. } = self.nodes[id as usize];
         if !self.geometry.holds(first) {

@@ -50,7 +50,10 @@ fn format_drops_nothing_unasked() {
 fn format_says_which_counts_cannot_be() {
     let bench = Bench::new();
     let no_area = |blocks| {
-        format!("mfs: card.img: refused 3: {blocks} blocks with the superblock in block 8 leave no data area that can be: take one block more or less")
+        format!(
+            "mfs: card.img: refused 3: {blocks} blocks with the superblock in block 8 leave no data area that can be: \
+                 take one block more or less"
+        )
     };
     for blocks in ["11", "4108"] {
         bench.fails(&["format", "--blocks", blocks, "card.img"], 1, &no_area(blocks));
@@ -58,7 +61,8 @@ fn format_says_which_counts_cannot_be() {
     }
     let run = bench.run(&["format", "--blocks", "100", "small.img"]);
     assert_eq!((run.code, run.err.as_str()), (0, "mfs: small.img: with fewer than 4096 blocks nothing can be created on it\n"));
-    let line = "mfs: small.img:/d: refused 9: needs 1 block, 0 are in reach: on a volume of fewer than 4096 blocks nothing can be created: make a larger one";
+    let line = "mfs: small.img:/d: refused 9: needs 1 block, 0 are in reach: \
+                on a volume of fewer than 4096 blocks nothing can be created: make a larger one";
     bench.fails(&["mkdir", "small.img", "/d"], 1, line);
 }
 

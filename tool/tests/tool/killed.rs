@@ -1,5 +1,5 @@
-//! Nothing lost: the real binary is killed at every system call of a put, of a recursive put and of a removal. Whatever it was about to do,
-//! the next run finds the old image or the new one.
+//! Nothing lost: the real binary is killed at every system call of a put, of a recursive put and of a removal. Whatever it was
+//! about to do, the next run finds the old image or the new one.
 use crate::support::Bench;
 use std::ffi::{c_int, c_long, c_void};
 use std::fs;
@@ -22,7 +22,8 @@ const SIGTRAP: c_int = 5;
 const SIGKILL: c_int = 9;
 const WALL: c_int = 0x4000_0000;
 
-/// Runs a command, and kills it when it enters its n-th system call, which is then not made. False where the command ended before.
+/// Runs a command, and kills it when it enters its n-th system call, which is then not made. False where the command ended
+/// before.
 fn killed_at(mut command: Command, n: u32) -> bool {
     // SAFETY: the call between fork and exec is one that may be made there.
     unsafe {
@@ -90,7 +91,7 @@ fn kill_everywhere(bench: &Bench, words: &[&str]) -> Seen {
     assert!(old != new, "the command changes nothing");
     let mut seen = Seen::default();
     for n in 1.. {
-        fs::write(bench.path("card.img"), &old).expect("the card");
+        bench.file("card.img", &old);
         if !killed_at(bench.command(words), n) {
             assert!(bench.read("card.img") == new, "a traced run makes another image");
             assert!(n > 40, "a run of {n} system calls");
@@ -178,7 +179,7 @@ fn a_roll_back_can_be_killed_too() {
     let words = ["put", "--time", "9", "card.img", "new", "/street/new"];
     // The first kill that leaves an image between old and new.
     let interrupted = (1..).find(|&n| {
-        fs::write(bench.path("card.img"), &old).expect("the card");
+        bench.file("card.img", &old);
         let _ = fs::remove_file(bench.path("card.img.mfs-undo"));
         assert!(killed_at(bench.command(&words), n), "no kill left an image between");
         bench.has("card.img.mfs-undo") && bench.read("card.img") != old

@@ -33,12 +33,16 @@ fn refusal_2_says_where_the_mark_is_or_what_the_card_is() {
     bench.fails(&["-k", "9", "df", "card.img"], 1, "mfs: card.img: refused 2: no MFS mark at block 9; found at 8: use -k 8");
     bench.file("zero.img", &[0; 51_200]);
     let no_mark = |place: &str| {
-        format!("mfs: zero.img: refused 2: no MFS mark {place}: is this an MFS card? 'mfs format' makes it one, and drops what it holds")
+        format!(
+            "mfs: zero.img: refused 2: no MFS mark {place}: \
+                 is this an MFS card? 'mfs format' makes it one, and drops what it holds"
+        )
     };
     bench.fails(&["ls", "zero.img"], 1, &no_mark("in any block"));
     bench.fails(&["-k", "8", "ls", "zero.img"], 1, &no_mark("at block 8, nor at another"));
     bench.patch("card.img", 8 * 512 + 8, &[1]);
-    let version = "mfs: card.img: refused 2: the superblock at block 8 has version 1; this tool knows version 2: an older or newer tool may read it";
+    let version = "mfs: card.img: refused 2: the superblock at block 8 has version 1; this tool knows version 2: \
+                   an older or newer tool may read it";
     for words in [&["ls", "card.img"][..], &["check", "card.img"], &["mkdir", "card.img", "/d"], &["map", "card.img"]] {
         bench.fails(words, 1, version);
     }
@@ -70,7 +74,8 @@ fn refusals_of_paths() {
     let not_found = "nothing has that name, or the name is empty: 'mfs ls card.img /street' shows what is there";
     bench.fails(&["cat", "card.img", "/street/x"], 1, &format!("mfs: card.img:/street/x: refused 5: {not_found}"));
     bench.fails(&["rm", "card.img", "/street/x/y"], 1, &format!("mfs: card.img:/street/x/y: refused 5: {not_found}"));
-    let kind = "a part of the path is no directory, or what it leads to is of the wrong kind: 'mfs ls -l card.img /street' shows what is what";
+    let kind = "a part of the path is no directory, or what it leads to is of the wrong kind: \
+                'mfs ls -l card.img /street' shows what is what";
     bench.fails(&["cat", "card.img", "/street/old"], 1, &format!("mfs: card.img:/street/old: refused 6: {kind}"));
     bench.fails(&["put", "card.img", "f", "/street/water/x"], 1, &format!("mfs: card.img:/street/water/x: refused 6: {kind}"));
     let exists = "mfs: card.img:/street: refused 7: the name exists already: remove it first, or choose another name";
@@ -152,7 +157,8 @@ fn refusal_10_comes_before_the_file_is_read() {
 fn refusal_17_leaves_with_a_number_of_its_own() {
     let bench = Bench::with_street();
     bench.patch("card.img", 8 * 512 + 14, &[0, 0, 0, 1]);
-    let line = "mfs: card.img: refused 17: the volume is damaged: 'mfs check --explain card.img' says where; 'mfs get' may still save files";
+    let line = "mfs: card.img: refused 17: the volume is damaged: \
+                'mfs check --explain card.img' says where; 'mfs get' may still save files";
     bench.fails(&["mkdir", "card.img", "/d"], 4, line);
     let run = bench.run(&["check", "card.img"]);
     assert_eq!((run.code, run.out.as_str(), run.err.trim_end()), (4, "card.img: damaged\n", line));

@@ -55,6 +55,8 @@ impl Bench {
     pub fn file(&self, name: &str, bytes: &[u8]) {
         let path = self.path(name);
         fs::create_dir_all(path.parent().expect("a folder")).expect("folders");
+        // A new file: some hosts write one that is cut and filled again to the disk at once, which takes long.
+        let _ = fs::remove_file(&path);
         fs::write(path, bytes).expect("a file");
     }
 
