@@ -12,6 +12,7 @@ extern "C" {
 }
 
 /// KiB of memory that a run needed at most.
+#[allow(clippy::zombie_processes)] // wait4 waits for it
 fn memory(bench: &Bench, words: &[&str]) -> i64 {
     let child = bench.command(words).stdin(Stdio::null()).stdout(Stdio::null()).spawn().expect("the tool runs");
     let (mut status, mut usage) = (0, [0; 18]);

@@ -24,6 +24,7 @@ const WALL: c_int = 0x4000_0000;
 
 /// Runs a command, and kills it when it enters its n-th system call, which is then not made. False where the command ended
 /// before.
+#[allow(clippy::zombie_processes)] // `wait` below waits for it, as its tracer
 fn killed_at(mut command: Command, n: u32) -> bool {
     // SAFETY: the call between fork and exec is one that may be made there.
     unsafe {
