@@ -4,6 +4,9 @@ use std::fs::File;
 use std::io;
 use std::os::fd::AsRawFd;
 
+#[cfg(not(all(target_os = "linux", target_pointer_width = "64")))]
+compile_error!("the numbers and widths below are those of 64-bit Linux");
+
 extern "C" {
     fn flock(fd: c_int, operation: c_int) -> c_int;
     fn signal(number: c_int, handler: usize) -> usize;

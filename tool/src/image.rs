@@ -141,7 +141,11 @@ impl Changing {
         let changed: Vec<u32> = blocks.filter(differs).collect();
         if !self.dry_run && !changed.is_empty() {
             let store = Store { image: &self.file, path: &self.path, old: &old, new: &self.map, blocks: &changed };
-            store.run().map_err(|(path, error)| Failure::host(path.display().to_string(), error))?;
+            store.run().map_err(|(path, error)| Failure::Host {
+                subject: path.display().to_string(),
+                reason: error.to_string(),
+                advice: "the change is not made: where some of it was stored, the next run of mfs rolls it back".to_string(),
+            })?;
         }
         Ok(changed.len() as u64)
     }

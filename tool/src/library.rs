@@ -17,6 +17,7 @@ pub struct Refusal {
 }
 
 impl From<mfs::Refusal> for Refusal {
+    #[allow(clippy::useless_conversion)] // whatever width the bindings give the number
     fn from(refusal: mfs::Refusal) -> Refusal {
         Refusal { number: u32::from(refusal.number()), reason: refusal.to_string() }
     }

@@ -48,7 +48,11 @@ impl Store<'_> {
     pub fn run(&self) -> Result<(), (PathBuf, io::Error)> {
         let log = log_of(self.path);
         let of_log = |error| (log.clone(), error);
-        self.write_log(&log).map_err(of_log)?;
+        self.write_log(&log).map_err(|error| {
+            // Nothing was stored yet, so a log that was begun is not needed.
+            let _ = fs::remove_file(&log);
+            of_log(error)
+        })?;
         self.write_blocks().map_err(|error| (self.path.to_owned(), error))?;
         fs::remove_file(&log).map_err(of_log)?;
         sync_folder_of(&log).map_err(of_log)

@@ -295,7 +295,31 @@ enum Wrong {
     SetPastTheData,
 }
 
-/// W3: the place of the first byte that no name may have. An entry's name is never empty.
+/// Whether the library takes names with accents: well-formed UTF-8 in place of plain ASCII.
+const ACCENTS: bool = false;
+
+/// W3: the place of the first byte that no name may have: a slash, a control byte, or one that is no text. An entry's name is
+/// never empty.
 fn bad_byte(name: &[u8]) -> Option<usize> {
-    name.iter().position(|&byte| !(0x20..=0x7e).contains(&byte) || byte == b'/')
+    let is_control = |byte: u8| byte < 0x20 || byte == 0x7f;
+    let text = if ACCENTS { well_formed(name) } else { name.iter().take_while(|byte| byte.is_ascii()).count() };
+    let end = (text < name.len()).then_some(text);
+    name[..text].iter().position(|&byte| is_control(byte) || byte == b'/').or(end)
+}
+
+/// How many bytes from the start on are well-formed UTF-8.
+fn well_formed(name: &[u8]) -> usize {
+    std::str::from_utf8(name).map_or_else(|error| error.valid_up_to(), str::len)
+}
+
+#[cfg(test)]
+mod tests {
+    use super::*;
+
+    #[test]
+    fn bad_bytes_are_found_where_they_stand() {
+        let found = [&b"m1"[..], b"a b~", b"a/b", b"\x1f", b"ab\x7f", b"a\xff/"].map(bad_byte);
+        assert_eq!(found, [None, None, Some(1), Some(0), Some(2), Some(1)]);
+        assert_eq!([&b"\xc3\xa9"[..], b"a\xc3", b"\xed\xa0\x80"].map(well_formed), [2, 1, 0]);
+    }
 }

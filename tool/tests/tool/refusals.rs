@@ -168,14 +168,43 @@ fn refusal_17_leaves_with_a_number_of_its_own() {
 
 #[test]
 fn a_file_that_breaks_off_is_saved_in_part() {
-    let bench = Bench::with_card();
-    bench.file("long", &vec![b'x'; 17 << 16]);
+    let bench = Bench::new();
+    bench.ok(&["format", "--blocks", "45100", "card.img"]);
+    bench.file("long", &vec![b'x'; 18 << 20]);
     bench.ok(&["put", "card.img", "long"]);
-    // The second block of the chain leads nowhere: a read of the first chunk meets it.
-    bench.patch("card.img", 14 * 512, &[0, 0, 0, 0]);
+    // The chain ends early, within the second chunk of 16 MiB that is read.
+    bench.patch("card.img", (23 + 35_000) * 512, &[0, 0, 0, 0]);
     let run = bench.run(&["get", "card.img", "/long", "saved"]);
-    assert!(run.code == 4 && run.err.starts_with("mfs: card.img:/long: refused 17: "), "{run:?}");
-    assert!(!bench.has("saved"));
+    let line = "mfs: card.img:/long: refused 17: the volume is damaged: its first 16777216 bytes are in saved.mfs-part\n";
+    assert_eq!((run.code, run.err.as_str()), (4, line));
+    assert!(!bench.has("saved") && bench.read("saved.mfs-part") == [b'x'; 16 << 20]);
+}
+
+#[test]
+fn directories_that_hold_each_other_end_a_walk() {
+    let bench = Bench::with_card();
+    bench.ok(&["mkdir", "-p", "card.img", "/a/b"]);
+    // The entry of b, the first of the block of a, leads back to a.
+    let blocks = bench.ok(&["--json", "dump", "card.img", "block", "13"]);
+    assert!(blocks.contains("\"hex\":\"00000000000000000e"), "{blocks}");
+    bench.patch("card.img", 13 * 512 + 5, &[0, 0, 0, 13]);
+    for words in [&["ls", "-R", "card.img"][..], &["tree", "card.img"], &["get", "-r", "card.img", "/a", "out"]] {
+        let run = bench.run(words);
+        let meant = "refused 17: the directories hold each other, or are too deep: ";
+        assert!(run.err.contains(meant) && [4, 5].contains(&run.code), "{words:?}: {run:?}");
+    }
+}
+
+#[test]
+fn a_log_that_cannot_be_written_changes_nothing() {
+    let bench = Bench::with_card();
+    let before = bench.read("card.img");
+    // Something stands where the log would go, and is no log.
+    std::fs::create_dir(bench.path("card.img.mfs-undo")).expect("a folder");
+    let run = bench.run(&["mkdir", "card.img", "/d"]);
+    assert_eq!((run.code, run.out.as_str()), (3, ""), "{run:?}");
+    assert!(run.err.contains("card.img.mfs-undo: Is a directory"), "{run:?}");
+    assert!(bench.read("card.img") == before);
 }
 
 #[test]
