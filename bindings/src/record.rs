@@ -1,5 +1,5 @@
 //! The records of a listing.
-use std::iter::FusedIterator;
+use core::iter::FusedIterator;
 
 /// What an entry is.
 #[derive(Clone, Copy, Debug, PartialEq, Eq, Hash)]
@@ -33,7 +33,7 @@ pub struct Record<'a> {
     pub size: u32,
     /// The time of the last change, as the caller gave it.
     pub time: u64,
-    /// 1 to 255 bytes, printable and without `/` on a well-formed volume.
+    /// 1 to 255 bytes; on a well-formed volume those of a path, and no `/`.
     pub name: &'a [u8],
 }
 
@@ -55,6 +55,7 @@ impl<'a> Record<'a> {
 
 /// The records in the bytes that a listing put into its buffer, one after the other.
 #[derive(Clone, Debug)]
+#[must_use = "the records are read as it is walked"]
 pub struct Records<'a> {
     rest: &'a [u8],
 }
