@@ -3,7 +3,7 @@
 #   mfs-VERSION-x86_64-linux.tar.gz   what install.sh installs, with README.md and NOTICE; it may be unpacked anywhere
 #   mfs-VERSION.tar.gz                the repository's files as last committed, for Rust programs and those who prove it themselves
 #   SHA256SUMS                        of both; the first has one of its own files too
-# The same files give the same bytes: times are those of the last commit. What install.sh looks at is looked at here.
+# Times are those of the last commit, so that the same files give the same bytes. What install.sh looks at is looked at here.
 set -eu
 root=$(cd "$(dirname "$0")" && pwd)
 cd "$root"
@@ -24,10 +24,12 @@ rm -rf "$dist"
 mkdir -p "$dist"
 DESTDIR='' ./install.sh "$made/$name"
 # Unpacked anywhere, the files are found from where mfs.pc is.
+# shellcheck disable=SC2016 # a variable of pkg-config
 sed 's|^prefix=.*|prefix=${pcfiledir}/../..|' "$made/$name/lib/pkgconfig/mfs.pc" >"$made/mfs.pc"
 cat "$made/mfs.pc" >"$made/$name/lib/pkgconfig/mfs.pc"
 cp README.md NOTICE "$made/$name"
-(cd "$made/$name" && find . -type f ! -name SHA256SUMS | LC_ALL=C sort | xargs sha256sum >SHA256SUMS)
+(cd "$made/$name" && find . -type f | LC_ALL=C sort | xargs sha256sum) >"$made/sums"
+mv "$made/sums" "$made/$name/SHA256SUMS"
 pack "$name"
 
 if git -C "$root" rev-parse HEAD >/dev/null 2>&1; then

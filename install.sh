@@ -14,7 +14,7 @@ die() {
     exit 1
 }
 
-[ $# -eq 1 ] && [ -n "$1" ] || die 'usage: install.sh PREFIX'
+if [ $# -ne 1 ] || [ -z "$1" ]; then die 'usage: install.sh PREFIX'; fi
 case $1 in
 /*) prefix=$1 ;;
 *) prefix=$PWD/$1 ;;
@@ -25,7 +25,7 @@ archives=${MFS_LIB_DIR:-$root/target/staticlib}
 archives=$(cd "$archives" && pwd)
 version=$(sed -n 's/^version = "\(.*\)"$/\1/p' "$root/Cargo.toml")
 exports=$(sed -n 's/^#define MFS_C_VERSION //p' "$root/include/mfs_c.h")
-[ -n "$version" ] && [ -n "$exports" ] || die 'Cargo.toml or include/mfs_c.h says no version'
+if [ -z "$version" ] || [ -z "$exports" ]; then die 'Cargo.toml or include/mfs_c.h says no version'; fi
 to=${DESTDIR:-}$prefix
 made=$(mktemp -d)
 trap 'rm -rf "$made"' EXIT
