@@ -48,7 +48,8 @@ impl<'a> Record<'a> {
         if name.is_empty() {
             return None;
         }
-        let record = Record { kind: Kind::from_byte(kind)?, size: u32::from_be_bytes(size), time: u64::from_be_bytes(time), name };
+        let record =
+            Record { kind: Kind::from_byte(kind)?, size: u32::from_be_bytes(size), time: u64::from_be_bytes(time), name };
         Some((record, rest))
     }
 }

@@ -129,7 +129,8 @@ fn as_c(parameter: &str) -> String {
 #[test]
 fn the_library_has_these_exports() {
     let library = include_str!("../../crates/mfs_c/src/lib.rt");
-    let in_library: Vec<&str> = library.split("pub extern \"C\" fn ").skip(1).map(|rest| rest.split('(').next().unwrap()).collect();
+    let in_library: Vec<&str> =
+        library.split("pub extern \"C\" fn ").skip(1).map(|rest| rest.split('(').next().unwrap()).collect();
     let in_raw: Vec<&str> = RAW.split("pub fn ").skip(1).map(|rest| rest.split('(').next().unwrap()).collect();
     assert_eq!(in_library, in_raw);
 }
