@@ -179,7 +179,8 @@ impl<'a> Volume<'a> {
     }
 
     /// Makes these bytes, and no others, what the file at a path holds. A file that is not there is created; one that is there is written
-    /// from its start, all or nothing. Where a file was created and the bytes do not fit, it is deleted again.
+    /// from its start, all or nothing. Where a file was created and the bytes do not fit, it is deleted again; the holding directory keeps
+    /// the time then.
     ///
     /// No bytes make a new file of 0 bytes. Over a file that holds some they are refused, as any write of none is: delete it first.
     ///
