@@ -58,7 +58,10 @@ elif ! command -v cargo >/dev/null; then
     say 'there is no cargo, so the tool is not built and not installed'
 else
     (cd "$root" && MFS_LIB_DIR=$archives cargo build --release --quiet -p mfs-tool --target-dir "$root/target/rust")
-    put 755 "$root/target/rust/release/mfs" bin/mfs
+    cp "$root/target/rust/release/mfs" "$made/mfs"
+    # What is for debuggers names the folder that it was built in.
+    if command -v strip >/dev/null; then strip "$made/mfs"; fi
+    put 755 "$made/mfs" bin/mfs
     put 644 "$root/tool/man/mfs.1" share/man/man1/mfs.1
     put 644 "$root/tool/completions/mfs.bash" share/bash-completion/completions/mfs
 fi
