@@ -30,10 +30,10 @@ fn volume_of_others() -> Vec<u8> {
 }
 
 /// The answers of the check, one for each set of the changed blocks that could be stored; all other files are read from each.
-fn after_each_cut(call: impl FnOnce(&mut Volume<'_>)) -> Vec<Result<(), Refusal>> {
+fn after_each_cut<T>(call: impl FnOnce(&mut Volume<'_>) -> Result<T, Refusal>) -> Vec<Result<(), Refusal>> {
     let old = volume_of_others();
     let mut new = old.clone();
-    call(&mut Volume::new(&mut new, K));
+    assert!(call(&mut Volume::new(&mut new, K)).is_ok());
     let changed: Vec<usize> = (0..ROOMY).filter(|&block| of(&old, block) != of(&new, block)).collect();
     assert!((1..=10).contains(&changed.len()), "{} blocks are changed", changed.len());
     let others = others();
@@ -66,23 +66,23 @@ fn assert_may_be_damaged(answers: &[Result<(), Refusal>]) {
 
 #[test]
 fn a_create_and_a_delete_may_be_cut_into_damage() {
-    assert_may_be_damaged(&after_each_cut(|volume| drop(volume.create_file("/d/new", 9).unwrap())));
-    assert_may_be_damaged(&after_each_cut(|volume| volume.create_dir("/d/e/new", 9).unwrap()));
-    assert_may_be_damaged(&after_each_cut(|volume| volume.delete("/d/f", 9).unwrap()));
+    assert_may_be_damaged(&after_each_cut(|volume| volume.create_file("/d/new", 9)));
+    assert_may_be_damaged(&after_each_cut(|volume| volume.create_dir("/d/e/new", 9)));
+    assert_may_be_damaged(&after_each_cut(|volume| volume.delete("/d/f", 9)));
     // A name that wants a block of its own.
-    assert_may_be_damaged(&after_each_cut(|volume| drop(volume.create_file(format!("/d/{:x>255}", ""), 9).unwrap())));
+    assert_may_be_damaged(&after_each_cut(|volume| volume.create_file(format!("/d/{:x>255}", ""), 9)));
 }
 
 #[test]
 fn a_write_that_adds_or_frees_blocks_may_be_cut_into_damage() {
-    assert_may_be_damaged(&after_each_cut(|volume| volume.write_file("/d/f", &[b'g'; 2000], 9).unwrap()));
-    assert_may_be_damaged(&after_each_cut(|volume| volume.write_file("/d/f", b"short", 9).unwrap()));
+    assert_may_be_damaged(&after_each_cut(|volume| volume.write_file("/d/f", &[b'g'; 2000], 9)));
+    assert_may_be_damaged(&after_each_cut(|volume| volume.write_file("/d/f", b"short", 9)));
 }
 
 #[test]
 fn a_write_in_the_blocks_that_are_there_is_never_cut_into_damage() {
     for bytes in [[b'g'; 1200].as_slice(), &[b'g'; 1100], &[b'g'; 1524]] {
-        let answers = after_each_cut(|volume| volume.write_file("/d/f", bytes, 9).unwrap());
+        let answers = after_each_cut(|volume| volume.write_file("/d/f", bytes, 9));
         assert!(answers.iter().all(|answer| *answer == Ok(())));
     }
 }
