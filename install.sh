@@ -1,12 +1,13 @@
 #!/bin/sh
 # Installs the library and the tool: `./install.sh PREFIX`, after `rt staticlib mfs_c`. Under PREFIX come
 #   lib/libmfs_c.a                    the archive
-#   lib/libmfs_c.so.N, libmfs_c.so    the shared library, for those who load it at run time; N is the exports' version and its soname's
+#   lib/libmfs_c.so.N, libmfs_c.so    the shared library, for those who load it at run time; N is the version of the
+#                                     exports, and libmfs_c.so.N the soname
 #   lib/pkgconfig/mfs.pc              for `pkg-config --cflags --libs mfs`
 #   include/mfs.h, include/mfs_c.h    the headers
 #   bin/mfs, share/man/man1/mfs.1     the tool and its page; share/bash-completion/completions/mfs
-# DESTDIR is put before PREFIX where files are copied to, and not in what they say. MFS_LIB_DIR names another folder of the archive, CC
-# another compiler. Wants cc, and cargo for the tool.
+# DESTDIR is put before PREFIX where files are copied to, and not in what they say. MFS_LIB_DIR names another folder of
+# the archive, CC another compiler. Wants cc, and cargo for the tool.
 set -eu
 say() { printf 'install.sh: %s\n' "$*"; }
 die() {
@@ -21,7 +22,8 @@ case $1 in
 esac
 root=$(cd "$(dirname "$0")" && pwd)
 archives=${MFS_LIB_DIR:-$root/target/staticlib}
-[ -f "$archives/libmfs_c.a" ] || die "no libmfs_c.a in $archives: run \`rt staticlib mfs_c\` first, or give its folder as MFS_LIB_DIR"
+[ -f "$archives/libmfs_c.a" ] ||
+    die "no libmfs_c.a in $archives: run \`rt staticlib mfs_c\` first, or give its folder as MFS_LIB_DIR"
 archives=$(cd "$archives" && pwd)
 version=$(sed -n 's/^version = "\(.*\)"$/\1/p' "$root/Cargo.toml")
 exports=$(sed -n 's/^#define MFS_C_VERSION //p' "$root/include/mfs_c.h")

@@ -1,9 +1,10 @@
 //! The calls: one safe function over each export.
 //!
-//! Why each `unsafe` block is sound, in the terms of [`raw`](crate::raw): a pointer with a length is that of a slice with that length,
-//! and any other pointer that of a reference to the type that the export names. So none is null, also where a slice is empty, and what an
-//! export writes is borrowed mutably and overlaps nothing. An export keeps no pointer, never unwinds, and takes any values. That the library
-//! has exports of these parameters at all is what [`same_version`] asks first.
+//! Why each `unsafe` block is sound, in the terms of [`raw`](crate::raw): a pointer with a length is that of a slice
+//! with that length, and any other pointer that of a reference to the type that the export names. So none is null, also
+//! where a slice is empty, and what an export writes is borrowed mutably and overlaps nothing. An export keeps no
+//! pointer, never unwinds, and takes any values. That the library has exports of these parameters at all is what
+//! [`same_version`] asks first.
 use crate::version::same_version;
 use crate::{raw, Handle, Kind, Record, Refusal, SeekFrom, BLOCK_SIZE, NAME_LEN};
 use alloc::vec::Vec;
@@ -148,11 +149,13 @@ pub fn info(image: &[u8], k: u32, cwd: &[u8], path: &[u8]) -> Result<Info, Refus
 
 /// Lists the directory at a path from entry number `from` on, counted from 0.
 ///
-/// Records are put into the buffer as long as all of them together are shorter than it; the rest of it stays. [`records`](crate::records)
-/// walks them. A record is kind (1 byte), size (4), time (8), name length (1) and name, with numbers big-endian.
+/// Records are put into the buffer as long as all of them together are shorter than it; the rest of it stays.
+/// [`records`](crate::records) walks them. A record is kind (1 byte), size (4), time (8), name length (1) and name,
+/// with numbers big-endian.
 ///
-/// With no entry left, the answer has 0 bytes and `from`. A buffer that is too short for the next record gets that same answer: with fewer
-/// than [`LIST_LEN_MIN`](crate::LIST_LEN_MIN) bytes, 0 bytes are the end or a longer name. With as many or more, any record fits, and 0 bytes are the end.
+/// With no entry left, the answer has 0 bytes and `from`. A buffer that is too short for the next record gets that same
+/// answer: with fewer than [`LIST_LEN_MIN`](crate::LIST_LEN_MIN) bytes, 0 bytes are the end or a longer name. With as
+/// many or more, any record fits, and 0 bytes are the end.
 ///
 #[doc = errors!(list)]
 pub fn list(image: &[u8], k: u32, cwd: &[u8], path: &[u8], from: u32, buf: &mut [u8]) -> Result<Listed, Refusal> {
@@ -178,8 +181,8 @@ pub fn list(image: &[u8], k: u32, cwd: &[u8], path: &[u8], from: u32, buf: &mut 
     answer(number, l)
 }
 
-/// Reads from the handle's position on, as many bytes as the buffer has room for and the file has; the rest of the buffer stays. The
-/// answer counts the bytes, and is 0 at the file's end.
+/// Reads from the handle's position on, as many bytes as the buffer has room for and the file has; the rest of the
+/// buffer stays. The answer counts the bytes, and is 0 at the file's end.
 ///
 #[doc = errors!(read)]
 pub fn read(image: &[u8], k: u32, handle: &mut Handle, buf: &mut [u8]) -> Result<usize, Refusal> {
@@ -269,7 +272,8 @@ pub fn create_dir(image: &mut [u8], k: u32, cwd: &[u8], path: &[u8], time: u64, 
     answer(number, ())
 }
 
-/// Deletes the file, the device or the empty directory at a path. The holding directory's own entry gets its new size and the time.
+/// Deletes the file, the device or the empty directory at a path. The holding directory's own entry gets its new size
+/// and the time.
 ///
 #[doc = errors!(delete)]
 pub fn delete(image: &mut [u8], k: u32, cwd: &[u8], path: &[u8], time: u64, work: &mut [u8]) -> Result<(), Refusal> {
@@ -292,8 +296,9 @@ pub fn delete(image: &mut [u8], k: u32, cwd: &[u8], path: &[u8], time: u64, work
     answer(number, ())
 }
 
-/// Writes all of the buffer at the handle's position, or nothing. The file ends behind it: bytes that followed are gone. The answer
-/// counts the bytes. Other handles on the file are stale from then on if its size has changed; if it has not, they stay current.
+/// Writes all of the buffer at the handle's position, or nothing. The file ends behind it: bytes that followed are
+/// gone. The answer counts the bytes. Other handles on the file are stale from then on if its size has changed; if it
+/// has not, they stay current.
 ///
 #[doc = errors!(write)]
 pub fn write(image: &mut [u8], k: u32, handle: &mut Handle, buf: &[u8], time: u64, work: &mut [u8]) -> Result<usize, Refusal> {

@@ -74,9 +74,9 @@ pub struct Walked {
     pub info: Info,
 }
 
-/// All that stands below a directory: its entries in their order, and right behind each directory what it holds. It ends after the
-/// first refusal. On a damaged volume whose directories lead in a circle that is [`Refusal::Damaged`], where it is deeper than directories
-/// go, or has entered more of them than the image has blocks.
+/// All that stands below a directory: its entries in their order, and right behind each directory what it holds. It
+/// ends after the first refusal. On a damaged volume whose directories lead in a circle that is [`Refusal::Damaged`],
+/// where it is deeper than directories go, or has entered more of them than the image has blocks.
 ///
 /// [`VolumeRef::walk`] makes it.
 #[must_use = "the directories below are read as it is walked"]

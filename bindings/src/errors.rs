@@ -1,4 +1,5 @@
-//! The refusals of each call, as `# Errors` lists them: each list stands here, once, for the function and the methods of its name.
+//! The refusals of each call, as `# Errors` lists them: each list stands here, once, for the function and the methods
+//! of its name.
 
 /// Links to refusals, with commas between them.
 macro_rules! refusals {

@@ -5,8 +5,10 @@ use std::io::{self, Read, Seek, Write};
 /// An open file together with its volume: `Read` and `Seek`, and `Write` where the volume may change.
 ///
 /// - [`VolumeRef::file`] and [`Volume::file`] make one to read, [`Volume::file_mut`] one to write.
-/// - A write is the library's: it goes to the position, all of it or nothing, and **the file ends behind it**. To append, seek to the end.
-/// - Each write checks the whole volume first. Write a file's bytes at once, or through a `BufWriter` with a buffer of many blocks.
+/// - A write is the library's: it goes to the position, all of it or nothing, and **the file ends behind it**. To
+///   append, seek to the end.
+/// - Each write checks the whole volume first. Write a file's bytes at once, or through a `BufWriter` with a buffer of
+///   many blocks.
 /// - A seek goes to 0 up to the file's size; another target is an error, and the position stays.
 /// - An error's `get_ref` is the [`Refusal`].
 ///

@@ -3,10 +3,10 @@ use crate::{Refusal, NAME_LEN};
 
 /// An open file. It keeps no borrow of the image and holds nothing open: it may be copied, kept for long and dropped.
 ///
-/// A call looks for the handle's file anew: in the handle's directory, a file of the handle's name, first address and size. Where there
-/// is none the call is refused ([`Refusal::Stale`]): the file was deleted, or another handle's write gave it another size. Where there is
-/// one the handle is current. So it stays current when another handle rewrites the file's bytes and leaves its size, and it becomes current
-/// again when name, first address and size have all come back.
+/// A call looks for the handle's file anew: in the handle's directory, a file of the handle's name, first address and
+/// size. Where there is none the call is refused ([`Refusal::Stale`]): the file was deleted, or another handle's write
+/// gave it another size. Where there is one the handle is current. So it stays current when another handle rewrites the
+/// file's bytes and leaves its size, and it becomes current again when name, first address and size have all come back.
 #[derive(Clone, Debug, PartialEq, Eq)]
 pub struct Handle {
     /// Directory's first address, file's first address, size, position.

@@ -1,13 +1,13 @@
-//! The exports of the proved library, as include/mfs_c.h declares and documents them. The safe functions of this crate call them; a program
-//! has no need to.
+//! The exports of the proved library, as include/mfs_c.h declares and documents them. The safe functions of this crate
+//! call them; a program has no need to.
 //!
 //! # Safety
 //!
-//! A slice passes as a pointer and its length, and every other pointer is to one value of its type. No pointer may be null, also where
-//! a length is 0. What an export may write (an image that is `*mut`, a work buffer, a read buffer, a handle's numbers, an out parameter) must
-//! overlap no other buffer of the call. All values are allowed. Each export but `mfs_c_version` answers 0, or the number of its refusal,
-//! which leaves every out parameter as it was. That the library has these exports is certain where `mfs_c_version` answers
-//! [`EXPORTS_VERSION`](crate::EXPORTS_VERSION).
+//! A slice passes as a pointer and its length, and every other pointer is to one value of its type. No pointer may be
+//! null, also where a length is 0. What an export may write (an image that is `*mut`, a work buffer, a read buffer, a
+//! handle's numbers, an out parameter) must overlap no other buffer of the call. All values are allowed. Each export
+//! but `mfs_c_version` answers 0, or the number of its refusal, which leaves every out parameter as it was. That the
+//! library has these exports is certain where `mfs_c_version` answers [`EXPORTS_VERSION`](crate::EXPORTS_VERSION).
 #![allow(missing_docs)] // include/mfs_c.h has them
 
 use crate::NAME_LEN;

@@ -61,8 +61,8 @@ pub struct Records<'a> {
     rest: &'a [u8],
 }
 
-/// Walks the records that [`list`](crate::list) put into a buffer: give it the first [`bytes`](crate::Listed::bytes) of that buffer.
-/// On bytes that no listing made, it ends where no record stands.
+/// Walks the records that [`list`](crate::list) put into a buffer: give it the first [`bytes`](crate::Listed::bytes) of
+/// that buffer. On bytes that no listing made, it ends where no record stands.
 pub fn records(bytes: &[u8]) -> Records<'_> {
     Records { rest: bytes }
 }

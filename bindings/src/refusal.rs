@@ -15,8 +15,8 @@ pub enum Refusal {
     NotMfs,
     /// 3: the volume's block count n is above the image's, or N = n - K - 2 is below 2 or 1 modulo 4097.
     BadCount,
-    /// 4: the full path's length, a byte of it that no path may have (the words of this refusal say which), or a working directory that
-    /// is needed and does not start with `/`.
+    /// 4: the full path's length, a byte of it that no path may have (the words of this refusal say which), or a
+    /// working directory that is needed and does not start with `/`.
     BadPath,
     /// 5: nothing has that name, or (not for a create) the last name is empty.
     NotFound,
@@ -30,7 +30,8 @@ pub enum Refusal {
     NoRoom,
     /// 10: the file would pass its limit; open: it does.
     TooLarge,
-    /// 11: the handle is stale: its own fields are out of range, or its directory has no file of its name, first address and size.
+    /// 11: the handle is stale: its own fields are out of range, or its directory has no file of its name, first
+    /// address and size.
     Stale,
     /// 12: the seek's target is outside the file.
     BadSeek,

@@ -4,8 +4,9 @@ use alloc::vec;
 use alloc::vec::Vec;
 use core::fmt;
 
-/// A volume in an image that is only read: a slice of a mapped file, of a flash, of a buffer. It is a few words long, is copied at will, and
-/// has every call that changes nothing. Paths are strings or bytes; those that do not start with `/` are taken from its working directory.
+/// A volume in an image that is only read: a slice of a mapped file, of a flash, of a buffer. It is a few words long,
+/// is copied at will, and has every call that changes nothing. Paths are strings or bytes; those that do not start with
+/// `/` are taken from its working directory.
 ///
 /// ```
 /// # fn main() -> Result<(), mfs::Refusal> {
@@ -25,8 +26,8 @@ pub struct VolumeRef<'a> {
 }
 
 impl<'a> VolumeRef<'a> {
-    /// The volume in an image whose superblock is in block `k`, with the working directory `/`. The image is not looked at: each call does
-    /// that, and [`check`](VolumeRef::check) looks at all of it.
+    /// The volume in an image whose superblock is in block `k`, with the working directory `/`. The image is not looked
+    /// at: each call does that, and [`check`](VolumeRef::check) looks at all of it.
     #[must_use]
     pub fn new(image: &'a [u8], k: u32) -> VolumeRef<'a> {
         VolumeRef { image, k, cwd: "/" }
@@ -88,7 +89,8 @@ impl<'a> VolumeRef<'a> {
     ///
     /// # Errors
     ///
-    /// Those of [`info`](crate::info), but for [`NotFound`](Refusal::NotFound) and [`WrongKind`](Refusal::WrongKind), which are the answer `false`.
+    /// Those of [`info`](crate::info), but for [`NotFound`](Refusal::NotFound) and [`WrongKind`](Refusal::WrongKind),
+    /// which are the answer `false`.
     pub fn exists(&self, path: impl AsRef<[u8]>) -> Result<bool, Refusal> {
         match self.info(path) {
             Ok(_) => Ok(true),
@@ -104,8 +106,8 @@ impl<'a> VolumeRef<'a> {
         self.entries(path)?.collect()
     }
 
-    /// The entries of the directory at a path, in their order, page by page. The first page is read at once, so a path that leads to no
-    /// directory is refused here; damage behind it is an item.
+    /// The entries of the directory at a path, in their order, page by page. The first page is read at once, so a path
+    /// that leads to no directory is refused here; damage behind it is an item.
     ///
     #[doc = errors!(list)]
     pub fn entries(&self, path: impl AsRef<[u8]>) -> Result<Entries<'a>, Refusal> {

@@ -6,8 +6,9 @@ use alloc::vec;
 use alloc::vec::Vec;
 use core::fmt;
 
-/// A volume in a borrowed image that may change. It makes its own work buffer, takes paths as strings or bytes, and remembers a working
-/// directory for those that do not start with `/`. A method that a function of the crate has the name of makes that call.
+/// A volume in a borrowed image that may change. It makes its own work buffer, takes paths as strings or bytes, and
+/// remembers a working directory for those that do not start with `/`. A method that a function of the crate has the
+/// name of makes that call.
 pub struct Volume<'a> {
     image: &'a mut [u8],
     k: u32,
@@ -164,7 +165,8 @@ impl<'a> Volume<'a> {
         crate::create_dir(self.image, self.k, self.cwd.as_bytes(), path.as_ref(), time, &mut self.work)
     }
 
-    /// Deletes the file, the device or the empty directory at a path. The holding directory's own entry gets its new size and the time.
+    /// Deletes the file, the device or the empty directory at a path. The holding directory's own entry gets its new
+    /// size and the time.
     ///
     #[doc = errors!(delete)]
     pub fn delete(&mut self, path: impl AsRef<[u8]>, time: u64) -> Result<(), Refusal> {
@@ -178,16 +180,17 @@ impl<'a> Volume<'a> {
         crate::write(self.image, self.k, handle, buf, time, &mut self.work)
     }
 
-    /// Makes these bytes, and no others, what the file at a path holds. A file that is not there is created; one that is there is written
-    /// from its start, all or nothing. Where a file was created and the bytes do not fit, it is deleted again; the holding directory keeps
-    /// the time then.
+    /// Makes these bytes, and no others, what the file at a path holds. A file that is not there is created; one that
+    /// is there is written from its start, all or nothing. Where a file was created and the bytes do not fit, it is
+    /// deleted again; the holding directory keeps the time then.
     ///
-    /// No bytes make a new file of 0 bytes. Over a file that holds some they are refused, as any write of none is: delete it first.
+    /// No bytes make a new file of 0 bytes. Over a file that holds some they are refused, as any write of none is:
+    /// delete it first.
     ///
     /// # Errors
     ///
-    /// Those of [`open`](crate::open) but for a file that is not there, then those of [`create_file`](crate::create_file), then those of
-    /// [`write`](crate::write).
+    /// Those of [`open`](crate::open) but for a file that is not there, then those of
+    /// [`create_file`](crate::create_file), then those of [`write`](crate::write).
     pub fn write_file(&mut self, path: impl AsRef<[u8]>, bytes: &[u8], time: u64) -> Result<(), Refusal> {
         let path = path.as_ref();
         match self.open(path) {

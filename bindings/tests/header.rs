@@ -1,5 +1,5 @@
-//! The headers in include/ and this crate say the same: refusals with their numbers and words, limits, the version of the exports, and the
-//! exports with their parameters.
+//! The headers in include/ and this crate say the same: refusals with their numbers and words, limits, the version of
+//! the exports, and the exports with their parameters.
 use mfs::Refusal;
 use std::collections::BTreeMap;
 

@@ -1,4 +1,5 @@
-//! A library with other exports than these bindings call: a program is built with such a one, whose every export but the version ends it.
+//! A library with other exports than these bindings call: a program is built with such a one, whose every export but
+//! the version ends it.
 use std::fs;
 use std::path::Path;
 use std::process::Command;

@@ -1,5 +1,5 @@
-//! What a cut in the middle of storing a call's changed blocks leaves, as the documentation of the crate says it: each set of the changed
-//! blocks is stored and the others are not, a block whole or not at all.
+//! What a cut in the middle of storing a call's changed blocks leaves, as the documentation of the crate says it: each
+//! set of the changed blocks is stored and the others are not, a block whole or not at all.
 mod common;
 
 use common::*;
