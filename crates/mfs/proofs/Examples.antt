@@ -85,17 +85,24 @@ bad-4108 = refl
 -- ---- `/a//b`
 
 lists-a : refusalIn (listReply 8 volumeA [] pathA 0 0) ≡ 0
-unfolding listReply listOn pathCall openRefusal firstOf when pick badImage badMark badCount countAt be dataAt superBytes padded bytes headBytes same realPath badPath pathBytes startsSlash endsSlash given andThen steps split unled resolve findIn chainFrom entriesFrom onSlot shown slotAt entryAt kindAt next skip listFrom
+unfolding listReply listOn pathCall openRefusal firstOf when pick badImage badMark badCount countAt be dataAt superBytes
+    padded bytes headBytes same realPath badPath pathBytes startsSlash endsSlash given andThen steps split unled resolve
+    findIn chainFrom entriesFrom onSlot shown slotAt entryAt kindAt next skip listFrom
 lists-a = refl
 
 opens-b : refusalIn (openReply 8 volumeA [] pathB) ≡ 5
-unfolding openReply openOn openEntry entryOf pathCall openRefusal firstOf when pick badImage badMark badCount countAt be dataAt superBytes padded bytes headBytes same realPath badPath pathBytes startsSlash endsSlash given andThen dirPart lastName trimmed untrailed beforeName steps split unled resolve findIn chainFrom entriesFrom onSlot shown slotAt entryAt kindAt next
+unfolding openReply openOn openEntry entryOf pathCall openRefusal firstOf when pick badImage badMark badCount countAt be
+    dataAt superBytes padded bytes headBytes same realPath badPath pathBytes startsSlash endsSlash given andThen dirPart
+    lastName trimmed untrailed beforeName steps split unled resolve findIn chainFrom entriesFrom onSlot shown slotAt entryAt
+    kindAt next
 opens-b = refl
 
 -- ---- the table
 
 pub marked-examples : AsSaid markedExamples
-unfolding markedExamples dataAt reach formatRefusal badImage badCount when firstOf pick withBit withDigit digit blocksFor seekRefusal staleFields target settle dirPart lastName trimmed untrailed beforeName same toCreate hasRoom any onFirst used weight fileEntry insert
+unfolding markedExamples dataAt reach formatRefusal badImage badCount when firstOf pick withBit withDigit digit blocksFor
+    seekRefusal staleFields target settle dirPart lastName trimmed untrailed beforeName same toCreate hasRoom any onFirst used
+    weight fileEntry insert
 marked-examples =
     let first = ap (λ (k : ℕ). 3 ∷ (k ∷ [])) (open-bad 11 (omega arith) (omega arith) bad-11) in
     let fourth = ap (λ (k : ℕ). 3 ∷ (k ∷ [])) (open-bad 4108 (omega arith) (omega arith) bad-4108) in

@@ -116,8 +116,8 @@ markedExamples =
     -- E11: on a volume where a listing of `/a` is accepted, so that it is a directory, open of `/a//b` gives 5
     ∷ (row 11 (partsOf pathB ++ (refusalIn (listReply 8 volumeA [] pathA 0 0) ∷ (refusalIn (openReply 8 volumeA [] pathB) ∷ [])))
     (47 ∷ (97 ∷ (47 ∷ (0 ∷ (98 ∷ (0 ∷ (5 ∷ [])))))))
-    -- E12: the name of 235 goes into the block, whose entries end at 507 then; that of 236 leaves the block as it was, its entries
-    -- ending at 254
+    -- E12: the name of 235 goes into the block, whose entries end at 507 then; that of 236 leaves the block as it was, its
+    -- entries ending at 254
     ∷ (row 12 (createAfter 235 ++ createAfter 236) (1 ∷ (507 ∷ (2 ∷ (254 ∷ []))))
     ∷ [])))))))))))
 

@@ -52,26 +52,28 @@ module _ (K : ℕ) (I W : List ℕ) (h : Handle) (buf : List ℕ) (now : ℕ) (o
       go (inr e) = write-kept K I W h buf now o J Z c (e .0) (e .1)
 
   -- Where the volume is well formed, the work buffer long enough and there are bytes to write, a stale handle gets 11.
-  pub stale-answer : Bytes I → markLong (geoAt K I) ≤ length W → 1 ≤ length buf → (w : WellFormed K I) → Stale maxDepth (w .tree) h
+  pub stale-answer : Bytes I → markLong (geoAt K I) ≤ length W → 1 ≤ length buf → (w : WellFormed K I)
+      → Stale maxDepth (w .tree) h
       → countedSays (o .answer) ≡ refused 11
   unfolding writeReply countOf andThen
   stale-answer all long b w s =
       let z : checkRefusal K I (length W) ≡ 0 = long-passes K I W w long all in
       let t : targetOf (geoAt K I) I h (length buf) ≡ refused 11
       = stale-is (geoAt K I) I (w .tree) (volume-at K I w) h (length buf) b .1 s in
-      let r : given (checkRefusal K I (length W)) (targetOf (geoAt K I) I h (length buf)) ≡ refused 11 = sym (given-none _ _ z) ∙ t in
+      let r : given (checkRefusal K I (length W)) (targetOf (geoAt K I) I h (length buf)) ≡ refused 11
+      = sym (given-none _ _ z) ∙ t in
       c .answer ∙ ap (countOf (length buf)) r
 
--- A handle that is whole by its own fields, and whose directory has now a file entry with its name, address and size, is not stale,
--- whatever happened between.
+-- A handle that is whole by its own fields, and whose directory has now a file entry with its name, address and size, is not
+-- stale, whatever happened between.
 pub current-again : (K : ℕ) (I : List ℕ) (w : WellFormed K I) (h : Handle) → staleFields h ≡ false → OnFile maxDepth (w .tree) h
     → Stale maxDepth (w .tree) h → ⊥
 current-again K I w h f q (inl s) = not-both s f
 current-again K I w h f q (inr (inl n)) = path-none maxDepth (h .dir .0) (w .tree) n (q .path) (q .there)
 current-again K I w h f q (inr (inr n)) =
     let e : n .0 ≡ q .path
-    = laid-path (geoAt K I) I maxDepth (w .tree) _ (n .0) (q .path) (n .1 .dir) (q .there .dir) (volume-at K I w .laid) (n .1 .there)
-    (q .there .there) (n .1 .starts ∙ sym (q .there .starts)) in
+    = laid-path (geoAt K I) I maxDepth (w .tree) _ (n .0) (q .path) (n .1 .dir) (q .there .dir) (volume-at K I w .laid)
+    (n .1 .there) (q .there .there) (n .1 .starts ∙ sym (q .there .starts)) in
     let a : some (q .there .dir) ≡ some (n .1 .dir)
     = sym (q .there .there) ∙ ap (λ (p : List Name). find maxDepth p (w .tree)) (sym e) ∙ n .1 .there in
     let d : q .there .dir ≡ n .1 .dir = cc in

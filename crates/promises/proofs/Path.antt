@@ -39,11 +39,19 @@ use Rattle.promises.specs.Sequence.{Leads, HandleAt, Call, creates, open
 
 module _ (d a : ℕ) (p : List Name) (t : Tree d) (s : DirAt d a p t) where
   edit-there : (g : ℕ → ℕ) (f : Edit) → blocksAt (f (s .dir .0) (s .dir .1)) ≡ blocksAt (s .dir .1) → DirAt d a p (edit d p g f t)
-  edit-there g f e = record { dir = (s .dir .0, f (s .dir .0) (s .dir .1)); there = find-edit d p g f t (s .dir) (s .there); starts = e ∙ s .starts }
+  edit-there g f e =
+      record {
+        dir = (s .dir .0, f (s .dir .0) (s .dir .1));
+        there = find-edit d p g f t (s .dir) (s .there);
+        starts = e ∙ s .starts;
+      }
 
-  pub created-there : (cap : ℕ) (n : Name) (now w z : ℕ) (cs : List Cell) → Packed (s .dir .1) → DirAt d a p (created d cap p n now w z cs t)
+  pub created-there : (cap : ℕ) (n : Name) (now w z : ℕ) (cs : List Cell) → Packed (s .dir .1)
+      → DirAt d a p (created d cap p n now w z cs t)
   unfolding created
-  created-there cap n now w z cs k = edit-there (λ _. now) (λ e bs. insert cap w (fileEntry n now z cs) bs) (insert-at cap w (fileEntry n now z cs) (s .dir .1) k)
+  created-there cap n now w z cs k =
+      edit-there (λ _. now) (λ e bs. insert cap w (fileEntry n now z cs) bs)
+      (insert-at cap w (fileEntry n now z cs) (s .dir .1) k)
 
   deleted-there : (n : Name) (now : ℕ) → DirAt d a p (deleted d p n now t)
   unfolding deleted
@@ -57,8 +65,8 @@ module _ (d a : ℕ) (p : List Name) (t : Tree d) (s : DirAt d a p t) where
 
 -- ---- each call is a step
 
--- What a call at the path leaves: a well-formed image by the same numbers, the holding directory at the same address, a step of the
--- model, and bytes where there were bytes.
+-- What a call at the path leaves: a well-formed image by the same numbers, the holding directory at the same address, a step
+-- of the model, and bytes where there were bytes.
 record Next (K a : ℕ) (p : List Name) (n : Name) (I : List ℕ) (w : WellFormed K I) (J : List ℕ) : Type 0 where
   well : WellFormed K J
   numbers : geoAt K J ≡ geoAt K I
@@ -69,14 +77,20 @@ record Next (K a : ℕ) (p : List Name) (n : Name) (I : List ℕ) (w : WellForme
 module _ (K a : ℕ) (p : List Name) (n : Name) (I J : List ℕ) (w : WellFormed K I) (s : DirAt maxDepth a p (w .tree)) where
   -- a call that changes nothing
   stays : J ≡ I → Next K a p n I w J
-  stays e = subst (Next K a p n I w) (sym e) (record { well = w; numbers = refl; there = s; step = quiet refl refl; bytes = λ b. b })
+  stays e =
+      subst (Next K a p n I w) (sym e) (record { well = w; numbers = refl; there = s; step = quiet refl refl; bytes = λ b. b })
 
   -- an accepted change, to the tree u
   made : (u : Tree maxDepth) (left : List Piece) → Makes (geoAt K I) maxDepth u left I J → DirAt maxDepth a p u
       → Step (geoAt K I) maxDepth p n I (w .tree) J u → (Bytes I → Bytes J) → Next K a p n I w J
   made u left m d c b =
       let v : WellFormed K J
-      = record { numbers = geoAt K I; here = ap (λ (g : Geo). g .K) (sym (well-formed-geo K I w)) ∙ w .here; tree = u; volume = m .volume } in
+      = record {
+        numbers = geoAt K I;
+        here = ap (λ (g : Geo). g .K) (sym (well-formed-geo K I w)) ∙ w .here;
+        tree = u;
+        volume = m .volume;
+      } in
       record { well = v; numbers = sym (well-formed-geo K J v); there = d; step = c; bytes = b }
 
   packed : Packed (s .dir .1)
@@ -127,7 +141,9 @@ module _ (K a : ℕ) (p : List Name) (n : Name) (I J : List ℕ) (w : WellFormed
 
   -- a directory's first address has one path
   path-of : (b : ℕ) (q : List Name) → b ≡ a → DirAt maxDepth b q (w .tree) → q ≡ p
-  path-of b q e d = laid-path (geoAt K I) I maxDepth (w .tree) _ q p (d .dir) (s .dir) (volume-at K I w .laid) (d .there) (s .there) (d .starts ∙ e ∙ sym (s .starts))
+  path-of b q e d =
+      laid-path (geoAt K I) I maxDepth (w .tree) _ q p (d .dir) (s .dir) (volume-at K I w .laid) (d .there) (s .there)
+      (d .starts ∙ e ∙ sym (s .starts))
 
   writes-next : (h : Handle) (buf W Z : List ℕ) (now : ℕ) (o : WriteOut) → HandleAt a n h → Bytes buf → now < 2 ^ 64
       → Writes K I W h buf now o J Z → Next K a p n I w J
@@ -177,7 +193,8 @@ module _ (K : ℕ) (p : List Name) (n : Name) (I J : List ℕ) (w : WellFormed K
   calls-bytes = runs K (blocksAt (v .dir .1)) p n c w holding .2
 
   -- D3.
-  pub calls-restore : Bytes I → (u : WellFormed K J) → Vacant maxDepth p n (u .tree) → Restored (geoAt K I) maxDepth p I (w .tree) J
+  pub calls-restore : Bytes I → (u : WellFormed K J) → Vacant maxDepth p n (u .tree)
+      → Restored (geoAt K I) maxDepth p I (w .tree) J
   calls-restore b u e =
       let r = runs K (blocksAt (v .dir .1)) p n c w holding in
       demand3 (geoAt K I) maxDepth p n I J (w .tree) (r .0 .tree) b (calls-bytes b) (volume-at K I w) v (r .1)

@@ -34,7 +34,8 @@ pub format-well : (K : ℕ) (I : List ℕ) (r : Answer) (J : List ℕ) → Forma
 unfolding blank blocksAt
 format-well K I r J f e =
     let w = format-well-formed K I r J f e in
-    let first : dataAt (formatGeo K (length I)) ≡ dataAt (geoAt K J) = sym (ap blocksAt (w .1)) ∙ volume-at K J (w .0) .laid .root in
+    let first : dataAt (formatGeo K (length I)) ≡ dataAt (geoAt K J)
+    = sym (ap blocksAt (w .1)) ∙ volume-at K J (w .0) .laid .root in
     (w .0, w .1 ∙ ap (blank maxDepth) first)
 
 -- A well-formed volume passes the check.

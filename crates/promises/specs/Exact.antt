@@ -22,8 +22,8 @@ use Rattle.mfs.specs.Checking.{checkCall, checkRefusal}
 use Rattle.mfs.specs.Changing.{CreatesFile, CreatesDir, Deletes, Writes}
 use Rattle.thm_calls.specs.Named.{wayOf, lastOf}
 
--- S6: a changing call that is accepted found a well-formed volume, and what it made of the image is the model's call on that volume's
--- tree: the tree edited so, laid out in the image, and every byte around it as it was (C14). A time has 8 bytes.
+-- S6: a changing call that is accepted found a well-formed volume, and what it made of the image is the model's call on that
+-- volume's tree: the tree edited so, laid out in the image, and every byte around it as it was (C14). A time has 8 bytes.
 pub record CallsAreExact : Type 0 where
   -- C9
   pub create-file : (K : ℕ) (I W cwd p : List ℕ) (now : ℕ) (o : OpenOut) (J Z : List ℕ) → CreatesFile K I W cwd p now o J Z
@@ -38,13 +38,14 @@ pub record CallsAreExact : Type 0 where
       → Bytes I → now < 2 ^ 64 → says r ≡ accepted tt
       → (w : WellFormed K I) × TreeDeletes (geoAt K I) maxDepth (wayOf cwd p) (lastOf cwd p) now (w .tree) I J
   -- C12, H4: the handle's directory is the one that the path q leads to, and the file in it is the one that the handle names.
-  pub write : (K : ℕ) (I W : List ℕ) (h : Handle) (buf : List ℕ) (now : ℕ) (o : WriteOut) (J Z : List ℕ) → Writes K I W h buf now o J Z
+  pub write : (K : ℕ) (I W : List ℕ) (h : Handle) (buf : List ℕ) (now : ℕ) (o : WriteOut) (J Z : List ℕ)
+      → Writes K I W h buf now o J Z
       → Bytes I → now < 2 ^ 64 → (k : ℕ) → countedSays (o .answer) ≡ accepted k
       → (w : WellFormed K I) × (q : List Name) × DirAt maxDepth (h .dir .0) q (w .tree)
       × TreeWrites (geoAt K I) maxDepth q (nameOf h) now (h .position) buf (w .tree) I J
 
--- S7: what the check part of a changing call (`checkRefusal`, with a work buffer of len bytes) gives for a list of bytes I. `checkCall` is
--- 1, 2, 3 or 16, or 0 where none of them is given.
+-- S7: what the check part of a changing call (`checkRefusal`, with a work buffer of len bytes) gives for a list of bytes I.
+-- `checkCall` is 1, 2, 3 or 16, or 0 where none of them is given.
 pub record CheckIsExact : Type 0 where
   -- It gives one of those where there is one,
   pub earlier : (K : ℕ) (I : List ℕ) (len : ℕ) → 1 ≤ checkCall K I len → checkRefusal K I len ≡ checkCall K I len

@@ -30,8 +30,8 @@ use Rattle.promises.specs.Counter.{Untouched, Another, StaleAtEntry}
 
 -- ---- D2: `RefusalIsExact` and `RoomIsExact` stand in Refusals, and what accepted calls have done (S5) in Work
 
--- S1: an accepted format makes a well-formed volume, its root empty; each accepted changing call leaves one; and every one passes the
--- check, given a work buffer that is long enough.
+-- S1: an accepted format makes a well-formed volume, its root empty; each accepted changing call leaves one; and every one
+-- passes the check, given a work buffer that is long enough.
 pub record StaysWell : Type 0 where
   pub format : (K : ℕ) (I : List ℕ) (r : Answer) (J : List ℕ) → Formats K I r J → says r ≡ accepted tt
       → (w : WellFormed K J) × (w .tree ≡ blank maxDepth (dataAt (geoAt K J)))
@@ -41,7 +41,8 @@ pub record StaysWell : Type 0 where
       → CreatesDir K I W cwd p now r J Z → says r ≡ accepted tt → WellFormed K J
   pub delete : (K : ℕ) (I W : List ℕ) (now : ℕ) (J Z : List ℕ) → Bytes I → now < 2 ^ 64 → (cwd p : List ℕ) (r : Answer)
       → Deletes K I W cwd p now r J Z → says r ≡ accepted tt → WellFormed K J
-  pub write : (K : ℕ) (I W : List ℕ) (now : ℕ) (J Z : List ℕ) → Bytes I → now < 2 ^ 64 → (h : Handle) (buf : List ℕ) (o : WriteOut)
+  pub write : (K : ℕ) (I W : List ℕ) (now : ℕ) (J Z : List ℕ) → Bytes I → now < 2 ^ 64
+      → (h : Handle) (buf : List ℕ) (o : WriteOut)
       → (k : ℕ) → Writes K I W h buf now o J Z → countedSays (o .answer) ≡ accepted k → WellFormed K J
   pub check : (K : ℕ) (I W Z : List ℕ) (r : Answer) → Checks K I W r Z → WellFormed K I → markLong (geoAt K I) ≤ length W
       → says r ≡ accepted tt
@@ -59,13 +60,14 @@ pub record UsedIsTrue : Type 0 where
       → CreatesDir K I W cwd p now r J Z → says r ≡ accepted tt → UsedTrue K J
   pub delete : (K : ℕ) (I W : List ℕ) (now : ℕ) (J Z : List ℕ) → Bytes I → now < 2 ^ 64 → (cwd p : List ℕ) (r : Answer)
       → Deletes K I W cwd p now r J Z → says r ≡ accepted tt → UsedTrue K J
-  pub write : (K : ℕ) (I W : List ℕ) (now : ℕ) (J Z : List ℕ) → Bytes I → now < 2 ^ 64 → (h : Handle) (buf : List ℕ) (o : WriteOut)
+  pub write : (K : ℕ) (I W : List ℕ) (now : ℕ) (J Z : List ℕ) → Bytes I → now < 2 ^ 64
+      → (h : Handle) (buf : List ℕ) (o : WriteOut)
       → (k : ℕ) → Writes K I W h buf now o J Z → countedSays (o .answer) ≡ accepted k → UsedTrue K J
 
 -- ---- D3
 
--- From a well-formed volume and a path that names nothing in a directory that is there: whatever calls are made at that path, the image
--- stays well formed, and if nothing is there at the end, what D3 names is restored.
+-- From a well-formed volume and a path that names nothing in a directory that is there: whatever calls are made at that path,
+-- the image stays well formed, and if nothing is there at the end, what D3 names is restored.
 pub record PathIsRestored : Type 0 where
   pub well : (K : ℕ) (p : List Name) (n : Name) (I J : List ℕ) (w : WellFormed K I) (v : Vacant maxDepth p n (w .tree))
       → Calls K (blocksAt (v .dir .1)) p n I J → WellFormed K J
@@ -75,15 +77,17 @@ pub record PathIsRestored : Type 0 where
 
 -- ---- what a call leaves alone
 
--- S3: an accepted write through a handle changes no byte of another file or device; nor does an accepted create or delete, at a path that
--- is not the call's own.
+-- S3: an accepted write through a handle changes no byte of another file or device; nor does an accepted create or delete, at
+-- a path that is not the call's own.
 pub record OthersKept : Type 0 where
-  pub write : (K : ℕ) (I W : List ℕ) (h : Handle) (buf : List ℕ) (now : ℕ) (o : WriteOut) (J Z : List ℕ) → Writes K I W h buf now o J Z
+  pub write : (K : ℕ) (I W : List ℕ) (h : Handle) (buf : List ℕ) (now : ℕ) (o : WriteOut) (J Z : List ℕ)
+      → Writes K I W h buf now o J Z
       → (k : ℕ) → countedSays (o .answer) ≡ accepted k → now < 2 ^ 64 → (w : WellFormed K I) (v : WellFormed K J)
       → (q : List Name) (m : Name) → Another maxDepth (w .tree) h q m
       → Untouched (blockSize (geoAt K I)) maxDepth (w .tree) (v .tree) I J q m
   pub create-file : (K : ℕ) (I W cwd p : List ℕ) (now : ℕ) (o : OpenOut) (J Z : List ℕ) → CreatesFile K I W cwd p now o J Z
-      → (a : Handle) → openSays o ≡ accepted a → now < 2 ^ 64 → (w : WellFormed K I) (v : WellFormed K J) (q : List Name) (m : Name)
+      → (a : Handle) → openSays o ≡ accepted a → now < 2 ^ 64
+      → (w : WellFormed K I) (v : WellFormed K J) (q : List Name) (m : Name)
       → (Leads q m cwd p → ⊥) → Untouched (blockSize (geoAt K I)) maxDepth (w .tree) (v .tree) I J q m
   pub create-dir : (K : ℕ) (I W cwd p : List ℕ) (now : ℕ) (r : Answer) (J Z : List ℕ) → CreatesDir K I W cwd p now r J Z
       → says r ≡ accepted tt → now < 2 ^ 64 → (w : WellFormed K I) (v : WellFormed K J) (q : List Name) (m : Name)

@@ -17,19 +17,20 @@ use Rattle.mfs.specs.Reading.{Opens, Reads}
 use Rattle.mfs.specs.Changing.{CreatesFile, Deletes, Writes}
 use Rattle.thm_calls.specs.Named.{wayOf, lastOf}
 
--- D3, any working directory and spelling that lead to the path: what is given has the directory names p and the last name n (P3, P4).
+-- D3, any working directory and spelling that lead to the path: what is given has the directory names p and the last name n
+-- (P3, P4).
 pub record Leads (p : List Name) (n : Name) (cwd path : List ℕ) : Type 0 where
   pub way : wayOf cwd path ≡ p
   pub last : lastOf cwd path ≡ n
 
--- H7, a handle at the path, whose holding directory begins at a. Nothing is asked of its other fields, so that stale and made-up ones
--- are among them.
+-- H7, a handle at the path, whose holding directory begins at a. Nothing is asked of its other fields, so that stale and
+-- made-up ones are among them.
 pub record HandleAt (a : ℕ) (n : Name) (h : Handle) : Type 0 where
   pub dir : h .dir .0 ≡ a
   pub name : nameOf h ≡ n
 
--- D3, one call at the path, from the image I to J, accepted or refused, with any time (of 8 bytes), buffer (of bytes) and work buffer.
--- A create is create_file. Open, read and seek cannot write the image: J is I.
+-- D3, one call at the path, from the image I to J, accepted or refused, with any time (of 8 bytes), buffer (of bytes) and work
+-- buffer. A create is create_file. Open, read and seek cannot write the image: J is I.
 pub data Call (K a : ℕ) (p : List Name) (n : Name) (I J : List ℕ) : Type 0 where
   creates : (cwd path W Z : List ℕ) (time : ℕ) (o : OpenOut) → Leads p n cwd path → time < 2 ^ 64
       → CreatesFile K I W cwd path time o J Z → Call K a p n I J

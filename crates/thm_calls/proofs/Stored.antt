@@ -82,7 +82,8 @@ bytes-splice l at vs b c =
 bytes-number : (n v : ℕ) → Bytes (bytes n v)
 unfolding bytes
 bytes-number zero v = bytes-nil
-bytes-number (suc n) v = bytes-append (bytes n (v / 256)) ((v % 256) ∷ []) (bytes-number n (v / 256)) (bytes-more (v % 256) [] (omega arith) bytes-nil)
+bytes-number (suc n) v =
+    bytes-append (bytes n (v / 256)) ((v % 256) ∷ []) (bytes-number n (v / 256)) (bytes-more (v % 256) [] (omega arith) bytes-nil)
 
 bytes-pick : (t : Bool) (I J : List ℕ) → Bytes I → Bytes J → Bytes (pick t I J)
 unfolding pick
@@ -138,7 +139,8 @@ module _ (g : Geo) where
   -- ---- an entry
 
   bytes-sized : (I : List ℕ) → Bytes I → (p q z k : ℕ) → Bytes (splice (splice I p (bytes 4 z)) q (bytes 8 k))
-  bytes-sized I b p q z k = bytes-splice (splice I p (bytes 4 z)) q (bytes 8 k) (bytes-splice I p (bytes 4 z) b (bytes-number 4 z)) (bytes-number 8 k)
+  bytes-sized I b p q z k =
+      bytes-splice (splice I p (bytes 4 z)) q (bytes 8 k) (bytes-splice I p (bytes 4 z) b (bytes-number 4 z)) (bytes-number 8 k)
 
   bytes-renewed : (I : List ℕ) → Bytes I → (dir : ℕ) (o : Own) (time : ℕ) → Bytes (sumRenewed g I dir o time)
   unfolding sumRenewed
@@ -177,7 +179,8 @@ module _ (g : Geo) where
       kind-small File = omega arith
       kind-small Device = omega arith
 
-  bytes-entered : (I : List ℕ) → Bytes I → (p : Place) (k : Kind) (n : Name) → GoodName n → (time : ℕ) → Bytes (entered g I p k n time)
+  bytes-entered : (I : List ℕ) → Bytes I → (p : Place) (k : Kind) (n : Name) → GoodName n → (time : ℕ)
+      → Bytes (entered g I p k n time)
   unfolding entered
   bytes-entered I b p k n good time =
       let e : DirEntry = newHead k (fresh g I) time (length n) in
@@ -199,7 +202,8 @@ module _ (g : Geo) where
       let B : ℕ = blockSize g in
       let moved : List ℕ = take (after B o w) (drop (placeAt B a o + w) I) in
       bytes-splice (splice I (placeAt B a o) moved) (placeAt B a o + after B o w) (zeros w)
-      (bytes-splice I (placeAt B a o) moved b (bytes-take (after B o w) (drop (placeAt B a o + w) I) (bytes-drop (placeAt B a o + w) I b)))
+      (bytes-splice I (placeAt B a o) moved b
+      (bytes-take (after B o w) (drop (placeAt B a o + w) I) (bytes-drop (placeAt B a o + w) I b)))
       (bytes-zeros w)
 
   bytes-released : (I : List ℕ) → Bytes I → (a : ℕ) → Bytes (released g I a)
@@ -222,7 +226,8 @@ module _ (g : Geo) where
       (bytes-pick (zeroFrom I (B * a + 4) (B - 4)) (released g J a) I
       (bytes-released J (bytes-linked I b (beforeFrom B (g .n) I (g .n - dataAt g) dir a) (next B I a)) a) b)
 
-  pub bytes-removed : (I : List ℕ) → Bytes I → (dir : ℕ) (e : DirEntry) (p : Place) (o : Own) (time : ℕ) → Bytes (removed g I dir e p o time)
+  pub bytes-removed : (I : List ℕ) → Bytes I → (dir : ℕ) (e : DirEntry) (p : Place) (o : Own) (time : ℕ)
+      → Bytes (removed g I dir e p o time)
   unfolding removed entryGone
   bytes-removed I b dir e p o time =
       let J : List ℕ = cutOut (blockSize g) I (p .block .0) (p .offset) (header + e .len) in
@@ -245,14 +250,16 @@ module _ (g : Geo) where
   bytes-dropped : (k : ℕ) (I : List ℕ) → Bytes I → (a : ℕ) → Bytes (dropped g I a k)
   unfolding dropped
   bytes-dropped zero I b a = b
-  bytes-dropped (suc k) I b a = bytes-dropped k (freed g I (a - dataAt g)) (bytes-freed I b (a - dataAt g)) (next (blockSize g) I a)
+  bytes-dropped (suc k) I b a =
+      bytes-dropped k (freed g I (a - dataAt g)) (bytes-freed I b (a - dataAt g)) (next (blockSize g) I a)
 
   bytes-resized : (I : List ℕ) → Bytes I → (a old new : ℕ) → Bytes (resized g I a old new)
   unfolding resized cutAfter
   bytes-resized I b a old new =
       let B : ℕ = blockSize g in
       let last : ℕ = hop B I (new - 1) a in
-      bytes-pick (ltb old new) (extended g I (hop B I (old - 1) a) (new - old)) (linked B (dropped g I (next B I last) (old - new)) last 0)
+      bytes-pick (ltb old new) (extended g I (hop B I (old - 1) a) (new - old))
+      (linked B (dropped g I (next B I last) (old - new)) last 0)
       (bytes-extended (new - old) I b (hop B I (old - 1) a))
       (bytes-linked (dropped g I (next B I last) (old - new)) (bytes-dropped (old - new) I b (next B I last)) last 0)
 
@@ -265,7 +272,8 @@ module _ (g : Geo) where
       (bytes-splice I (placeAt B a o) (take (B - 4 - o) vs) b (bytes-take (B - 4 - o) vs c)) (next B I a) 0 (drop (B - 4 - o) vs)
       (bytes-drop (B - 4 - o) vs c)
 
-  pub bytes-wrote : (I : List ℕ) → Bytes I → (e : DirEntry) (p : Place) (c : ℕ) (vs : List ℕ) → Bytes vs → (time : ℕ) → Bytes (wrote g I e p c vs time)
+  pub bytes-wrote : (I : List ℕ) → Bytes I → (e : DirEntry) (p : Place) (c : ℕ) (vs : List ℕ) → Bytes vs → (time : ℕ)
+      → Bytes (wrote g I e p c vs time)
   unfolding wrote filed spread
   bytes-wrote I b e p c vs d time =
       let B : ℕ = blockSize g in
