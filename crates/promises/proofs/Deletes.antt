@@ -17,15 +17,14 @@ use Rattle.model.specs.Geometry.{blockSize, dataAt, geoAt}
 use Rattle.model.specs.Volume.{WellFormed, maxDepth}
 use Rattle.model.specs.Calls.{Vacant, Occupied}
 use Rattle.model.specs.Steps.{Bytes}
-use Rattle.model.proofs.Lists.{not-some}
 use Rattle.model.proofs.Opens.{when-true, when-false, first-of-one, first-of-tail}
-use Rattle.model.proofs.Replies.{given-yes, given-no, and-then-ok, and-then-no, reply-none, reply-suc}
+use Rattle.model.proofs.Replies.{and-then-ok, and-then-no, reply-none, reply-suc}
 use Rattle.check_bitmap.specs.Tally.{markLong}
 use Rattle.read_dir.specs.declared.Found.{Found}
 use Rattle.read_dir.specs.declared.Found.the-variants as found
 use Rattle.read_dir.specs.Walk.{walk}
 use Rattle.read_dir.specs.Finds.{findIn}
-use Rattle.path.specs.Path.{realPath, badPath, pathRefusal}
+use Rattle.path.specs.Path.{realPath, pathRefusal}
 use Rattle.dir.specs.Resolve.{onName}
 use Rattle.dir.specs.Hold.{Hold}
 use Rattle.thm_path.specs.Held.{HeldAt}
@@ -109,7 +108,8 @@ module _ (K : ℕ) (I W : List ℕ) (b : Bytes I) (w : WellFormed K I) (long : m
       go (x ∷ n) a c = and-then-no k (λ x. accepted tt) a ∙ sym (and-then-no k onSpot c)
 
   -- a name that is not there
-  nothing-in : (h : Hold) → findIn (lastOf cwd p) (walk (blockSize (geoAt K I)) (dataAt (geoAt K I)) (geoAt K I .n) I (h .dir)) ≡ found.Missing
+  nothing-in : (h : Hold)
+      → findIn (lastOf cwd p) (walk (blockSize (geoAt K I)) (dataAt (geoAt K I)) (geoAt K I .n) I (h .dir)) ≡ found.Missing
       → doomedIn (geoAt K I) I (lastOf cwd p) h ≡ refused 5
   unfolding doomedIn
   nothing-in h e = rw e

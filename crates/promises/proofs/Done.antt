@@ -1,5 +1,5 @@
 -- S5: an accepted write has done its work, so that a version that answers success and does nothing breaks the contract.
-use mathlib.Core.Path.{_≡_, refl, sym, ap, _∙_, subst}
+use mathlib.Core.Path.{_≡_, ap, _∙_, subst}
 use mathlib.Core.Option.{some}
 use mathlib.Core.List.{List, _++_}
 use Prim.Native.Nat.{ℕ, _+_, _^_, _≤_, _<_}
@@ -29,7 +29,7 @@ use Rattle.promises.proofs.Answered.{count-said}
 use Rattle.promises.proofs.Files.{file-at}
 
 -- the file that a write is on
-pub file-of : (g : Geo) (p : List Name) (n : Name) (now c : ℕ) (buf : List ℕ) (t : Tree maxDepth) (I J : List ℕ)
+file-of : (g : Geo) (p : List Name) (n : Name) (now c : ℕ) (buf : List ℕ) (t : Tree maxDepth) (I J : List ℕ)
     (m : TreeWrites g maxDepth p n now c buf t I J)
     → fileAt maxDepth p n t ≡ some (m .size, m .time, m .cells)
 unfolding fileEntry fileOf

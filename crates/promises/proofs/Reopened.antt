@@ -5,7 +5,7 @@ use mathlib.Core.Option.{some}
 use mathlib.Core.List.{List}
 use Prim.Native.Nat.{ℕ, _-_, _≤_, min}
 use native.Mathlib.Omega.{arith}
-use lib.ListN.{length, take, drop}
+use lib.ListN.{length}
 use Rattle.wire.specs.Be.{splice}
 use Rattle.model.specs.Answers.{accepted}
 use Rattle.model.specs.Tree.{Name, Cell, file}
@@ -15,13 +15,7 @@ use Rattle.model.specs.Calls.{Occupied, fileAt, contents}
 use Rattle.model.proofs.Opens.{when-none, first-of-zero, first-of-one}
 use Rattle.path.specs.Path.{badPath}
 use Rattle.file.specs.declared.Handle.{Handle}
-use Rattle.file.specs.declared.SeekFrom.the-variants.{Start}
-use Rattle.file.specs.declared.Outcome.the-variants as outcome
-use Rattle.file.specs.declared.Sought.{Sought}
-use Rattle.file.specs.declared.Counted.the-variants as counted
-use Rattle.file.specs.declared.ReadOut.{ReadOut}
 use Rattle.file.specs.File.{staleFields, moved, readRefusal}
-use Rattle.file.specs.Post.{SoughtIs}
 use Rattle.file.specs.Written.{countedSays}
 use Rattle.mfs.specs.declared.OpenOut.{OpenOut}
 use Rattle.mfs.specs.Says.{soughtSays}

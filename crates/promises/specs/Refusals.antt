@@ -2,7 +2,7 @@
 -- tree t of the image at the call's entry. Its refusals stand in the call's order, the first that holds is given (O1), and where
 -- none holds it gives the value that is answered. Definitions alone; `RefusalIsExact` says that the calls give just these.
 use mathlib.Core.Path.{_≡_}
-use mathlib.Core.Bool.{Bool, true, false, not, _&&_}
+use mathlib.Core.Bool.{Bool, false, not, _&&_}
 use mathlib.Core.Logic.{_↔_}
 use mathlib.Core.Option.{Option, none, some}
 use mathlib.Core.List.{List, [], _∷_}
