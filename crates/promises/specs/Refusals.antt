@@ -206,8 +206,7 @@ pub record RefusalIsExact : Type 0 where
   -- Of a handle whose directory is one of the tree, as it is of a handle that a call answered while that directory stands. Read
   -- does not ask for it (H4), and through a made-up handle it walks any blocks. (A handle's name is an array of 255 bytes.)
   pub reads : (K : ℕ) (I : List ℕ) (w : WellFormed K I) (h : Handle) (q : List Name) → DirAt maxDepth (h .dir .0) q (w .tree)
-      → length (h .name) ≡ 255
-      → (buf out : List ℕ) (o : ReadOut) → Reads K I h buf out o
+      → length (h .name) ≡ 255 → (buf out : List ℕ) (o : ReadOut) → Reads K I h buf out o
       → (countedSays (o .answer) ≡ reply (readNumber h (w .tree)) (toRead h (length buf)))
       × (o .handle ≡ settle (readNumber h (w .tree)) (moved h (h .position + toRead h (length buf))) h)
       × (out ≡ settle (readNumber h (w .tree)) (splice buf 0 (bytesFrom (h .position) (length buf) (fileBy h (w .tree)))) buf)
