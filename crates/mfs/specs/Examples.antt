@@ -1,89 +1,126 @@
--- 01's marked examples (K = 8), as one table: what the definitions give, and what the paper says. Later calls add their rows.
+-- The marked examples E1 to E12 (K = 8), as one table: what the definitions give, and what the rules say. Definitions alone.
 use mathlib.Core.Path.{_≡_}
 use mathlib.Core.List.{List, [], _∷_, _++_}
 use Prim.Native.Nat.{ℕ, _+_, _-_, _*_}
-use lib.Dec.{eqb}
 use lib.IntN.{negsuc}
-use lib.ListN.{length, replicate}
-use Rattle.wire.specs.Be.{zeros}
+use lib.ListN.{replicate}
+use Rattle.wire.specs.Be.{zeros, splice}
 use Rattle.bits.specs.Bit.{withBit}
 use Rattle.block.specs.Block.{blockBytes}
-use Rattle.model.specs.Geometry.{geo, dataAt, reach, formatRefusal}
-use Rattle.model.specs.Answers.{when, settle}
-use Rattle.model.specs.Tree.{Tree}
+use Rattle.model.specs.Answers.{Reply, accepted, refused, settle}
+use Rattle.model.specs.Geometry.{geo, dataAt, reach, superBytes, openRefusal, formatRefusal}
+use Rattle.model.specs.Tree.{Block, Tree, used, insert}
 use Rattle.model.specs.Render.{padded}
 use Rattle.model.specs.Volume.{All, blocksFor}
 use Rattle.model.specs.Calls.{entryRoom, toCreate, fileEntry}
-use Rattle.path.specs.Path.{dirPart, lastName, steps}
+use Rattle.dir_entry.specs.declared.Kind.the-variants.{Dir}
+use Rattle.dir_entry.specs.declared.DirEntry.{DirEntry}
+use Rattle.dir_entry.specs.Entry.{headBytes}
+use Rattle.path.specs.Path.{dirPart, lastName}
 use Rattle.file.specs.declared.Handle.{Handle}
 use Rattle.file.specs.declared.SeekFrom.{SeekFrom}
 use Rattle.file.specs.declared.SeekFrom.the-variants.{Start, Current}
 use Rattle.file.specs.File.{target, placeIn, seekRefusal}
+use Rattle.mfs.specs.Reading.{openReply, listReply}
 
 pub record Example : Type 0 where
   pub number : ℕ
   pub given : List ℕ
   pub said : List ℕ
 
--- an example, by its number, what the definitions give and what 01 says
+-- an example, by its number, what the definitions give and what the rules say
 abbrev pub row : ℕ → List ℕ → List ℕ → Example
 row k g s = record { number = k; given = g; said = s }
 
--- the refusal of a volume of n blocks on an image of as many; D and the reach of one
-abbrev pub refusalOf : ℕ → List ℕ
-refusalOf n = formatRefusal 8 (blockBytes * n) ∷ []
+-- an image of n blocks whose superblock says n; the refusal of formatting one, and of opening it; D and the reach of a volume of
+-- n blocks
+abbrev pub imageOf : ℕ → List ℕ
+imageOf n = splice (zeros (blockBytes * n)) (blockBytes * 8) (superBytes (geo 8 n) (dataAt (geo 8 n)))
+
+abbrev pub refusalsOf : ℕ → List ℕ
+refusalsOf n = formatRefusal 8 (blockBytes * n) ∷ (openRefusal 8 (imageOf n) ∷ [])
 
 abbrev pub areasOf : ℕ → List ℕ
 areasOf n = dataAt (geo 8 n) ∷ (reach (geo 8 n) ∷ [])
 
 -- a handle on a file of 10 bytes, at position 4; the refusal of a seek, 0 where it is accepted, and then its place
 abbrev pub atFour : Handle
-atFour = record { dir = record { 0 = 11 }; name = padded 255 (97 ∷ []); len = 1; addr = record { 0 = 12 }; size = 10; position = 4 }
+atFour =
+    record { dir = record { 0 = 11 }; name = padded 255 (97 ∷ []); len = 1; addr = record { 0 = 12 }; size = 10; position = 4 }
 
 abbrev pub seekTo : SeekFrom → List ℕ
 seekTo f = seekRefusal atFour f ∷ (settle (seekRefusal atFour f) (placeIn (target atFour f)) 4 ∷ [])
 
--- the directory part and the last name of a path, a 0 between them; and for each name on the way 5 where it is empty, else 0
+-- the directory part and the last name of a path, a 0 between them
 abbrev pub partsOf : List ℕ → List ℕ
 partsOf l = dirPart l ++ (0 ∷ lastName l)
 
-abbrev pub emptyNames : List (List ℕ) → List ℕ
-emptyNames [] = []
-emptyNames (x ∷ xs) = when 5 (eqb (length x) 0) ∷ emptyNames xs
+-- a volume of 13 blocks with one entry, the empty directory `a`: superblock, block K+1, bitmap, the root's block and the
+-- directory's
+abbrev pub entryA : DirEntry
+entryA = record { kind = Dir; addr = record { 0 = 12 }; size = 0; time = 0; len = 1 }
 
--- a block with one entry whose name has 236 bytes
+abbrev pub volumeA : List ℕ
+volumeA =
+    zeros (blockBytes * 8) ++ (superBytes (geo 8 13) 13 ++ (zeros blockBytes
+    ++ (padded blockBytes (3 ∷ []) ++ (padded blockBytes (zeros 4 ++ (headBytes entryA ++ (97 ∷ []))) ++ zeros blockBytes))))
+
+-- the number of an answer's refusal, 0 where it is accepted
+abbrev pub refusalIn : {A : Type 0} → Reply A → ℕ
+refusalIn (accepted a) = 0
+refusalIn (refused k) = k
+
+-- `/a` and `/a//b`
+abbrev pub pathA : List ℕ
+pathA = 47 ∷ (97 ∷ [])
+
+abbrev pub pathB : List ℕ
+pathB = 47 ∷ (97 ∷ (47 ∷ (47 ∷ (98 ∷ []))))
+
+-- a block with one entry whose name has 236 bytes; where the entries of a directory's first block end
 abbrev pub after236 : Tree 0
 after236 = record { at = 11; entries = fileEntry (replicate 236 97) 0 0 [] ∷ [] } ∷ []
 
+abbrev pub endIn : {X : Type 0} → List (Block X) → ℕ
+endIn [] = 0
+endIn (b ∷ bs) = used (b .entries)
+
+-- of a create there with a name of k bytes: how many blocks it adds, and where the first block's entries end then
+abbrev pub createAfter : ℕ → List ℕ
+createAfter k =
+    toCreate (entryRoom (geo 8 12)) (replicate k 98) after236
+    ∷ (endIn (insert (entryRoom (geo 8 12)) 12 (fileEntry (replicate k 98) 0 0 []) after236) ∷ [])
+
 unfoldable pub markedExamples : List Example
 markedExamples =
-    -- "n 11: 3"
-    row 1 (refusalOf 11) (3 ∷ [])
-    -- "n 12: D 11, reach 0"
+    -- E1: of format and of open
+    row 1 (refusalsOf 11) (3 ∷ (3 ∷ []))
+    -- E2
     ∷ (row 2 (areasOf 12) (11 ∷ (0 ∷ []))
-    -- "n 4107: D 11, reach 4096"
+    -- E3
     ∷ (row 3 (areasOf 4107) (11 ∷ (4096 ∷ []))
-    -- "n 4108: 3"
-    ∷ (row 4 (refusalOf 4108) (3 ∷ [])
-    -- "n 4109: D 12, reach 4096"
+    -- E4: of format and of open
+    ∷ (row 4 (refusalsOf 4108) (3 ∷ (3 ∷ []))
+    -- E5
     ∷ (row 5 (areasOf 4109) (12 ∷ (4096 ∷ []))
-    -- "Address 24 at D 11: byte 1, mask 0x20": its bit set in four clear bytes
+    -- E6: the bit set in four clear bytes
     ∷ (row 6 (withBit (zeros 4) 0 (24 - 11) 1) (0 ∷ (32 ∷ (0 ∷ (0 ∷ []))))
-    -- "Sizes 0, 508, 509, 1016: 1, 1, 2, 2 blocks"
+    -- E7
     ∷ (row 7 (blocksFor 512 0 ∷ (blocksFor 512 508 ∷ (blocksFor 512 509 ∷ (blocksFor 512 1016 ∷ [])))) (1 ∷ (1 ∷ (2 ∷ (2 ∷ []))))
-    -- "Size 10, position 4: current -4 gives 0, -5 gives 12"
+    -- E8
     ∷ (row 8 (seekTo (Current (negsuc 3)) ++ seekTo (Current (negsuc 4))) (0 ∷ (0 ∷ (12 ∷ (4 ∷ []))))
-    -- "Start 10 accepted, 11 and 2147483648 refused 12"
+    -- E9
     ∷ (row 9 (seekTo (Start 10) ++ (seekTo (Start 11) ++ seekTo (Start 2147483648))) (0 ∷ (10 ∷ (12 ∷ (4 ∷ (12 ∷ (4 ∷ []))))))
-    -- "`//a`: `/` and `a`"
+    -- E10
     ∷ (row 10 (partsOf (47 ∷ (47 ∷ (97 ∷ [])))) (47 ∷ (0 ∷ (97 ∷ [])))
-    -- "`/a//b`: `/a/` and `b`, so 5 if `/a` is a directory": the second name on the way is empty
-    ∷ (row 11 (partsOf (47 ∷ (97 ∷ (47 ∷ (47 ∷ (98 ∷ []))))) ++ emptyNames (steps (dirPart (47 ∷ (97 ∷ (47 ∷ (47 ∷ (98 ∷ []))))))))
+    -- E11: on a volume where a listing of `/a` is accepted, so that it is a directory, open of `/a//b` gives 5
+    ∷ (row 11 (partsOf pathB ++ (refusalIn (listReply 8 volumeA [] pathA 0 0) ∷ (refusalIn (openReply 8 volumeA [] pathB) ∷ [])))
     (47 ∷ (97 ∷ (47 ∷ (0 ∷ (98 ∷ (0 ∷ (5 ∷ [])))))))
-    -- "After a 236-byte name, one of 235 ends at 507 and fits; one of 236 goes on to another block": how many blocks a create adds
-    ∷ (row 12 (toCreate (entryRoom (geo 8 12)) (replicate 235 98) after236 ∷ (toCreate (entryRoom (geo 8 12)) (replicate 236 98) after236 ∷ [])) (1 ∷ (2 ∷ []))
+    -- E12: the name of 235 goes into the block, whose entries end at 507 then; that of 236 leaves the block as it was, its
+    -- entries ending at 254
+    ∷ (row 12 (createAfter 235 ++ createAfter 236) (1 ∷ (507 ∷ (2 ∷ (254 ∷ []))))
     ∷ [])))))))))))
 
--- The one statement: in every row the definitions give what the paper says.
+-- The one statement: in every row the definitions give what the rules say.
 abbrev pub AsSaid : List Example → Type 0
 AsSaid es = All (λ e. e .given ≡ e .said) es

@@ -2,6 +2,8 @@
 use Prim.Native.Nat.{ℕ}
 use Rattle.model.specs.Answers.{Reply, accepted, refused}
 use Rattle.limits.specs.Refusals.{refusalNumber}
+use Rattle.file.specs.declared.Outcome.{Outcome}
+use Rattle.file.specs.declared.Outcome.the-variants as outcome
 use Rattle.mfs.specs.declared.Answer.{Answer}
 use Rattle.mfs.specs.declared.Answer.the-variants as answer
 use Rattle.mfs.specs.declared.Space.{Space}
@@ -11,6 +13,11 @@ use Rattle.mfs.specs.declared.Space.the-variants as space
 abbrev pub says : Answer → Reply (Unit {0})
 says answer.Success = accepted tt
 says (answer.Refused r) = refused (refusalNumber r)
+
+-- C8, seek: plain success, and the handle beside it
+abbrev pub soughtSays : Outcome → Reply (Unit {0})
+soughtSays outcome.Success = accepted tt
+soughtSays (outcome.Refused r) = refused (refusalNumber r)
 
 -- an answer with a value beside it, which counts where the answer is success
 abbrev pub onAnswer : {A : Type 0} → Answer → A → Reply A

@@ -15,8 +15,8 @@ use Rattle.file.specs.Writing.{Target, handleAfter, countOf}
 use Rattle.file.specs.Written.{countedSays}
 use Rattle.mfs.specs.declared.Answer.{Answer}
 use Rattle.mfs.specs.declared.Answer.the-variants as answer
-use Rattle.mfs.specs.Says.{onAnswer}
-use Rattle.mfs_c.specs.Exports.{outOf, handleOf, numbersOf, soughtSays, HandleOut, OpensC, ReadsC, SeeksC, CreatesFileC, WritesC}
+use Rattle.mfs.specs.Says.{onAnswer, soughtSays}
+use Rattle.mfs_c.specs.Exports.{outOf, handleOf, numbersOf, HandleOut, OpensC, ReadsC, SeeksC, CreatesFileC, WritesC}
 
 -- a handle is its four numbers, its name and the name's length
 back : (h : Handle) → handleOf (numbersOf h) (h .name) (h .len) ≡ h

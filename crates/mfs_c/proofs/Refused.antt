@@ -23,11 +23,11 @@ use Rattle.mfs.specs.declared.Space.{Space}
 use Rattle.mfs.specs.declared.Space.the-variants as space
 use Rattle.mfs.specs.declared.Listing.{Listing}
 use Rattle.mfs.specs.declared.Listing.the-variants as listing
-use Rattle.mfs.specs.Says.{says, onAnswer, Sizes, spaceSays}
+use Rattle.mfs.specs.Says.{says, onAnswer, Sizes, spaceSays, soughtSays}
 use Rattle.mfs.specs.Format.{Formats}
 use Rattle.mfs.specs.Reading.{About, Counts, infoSays, listSays, ListIs}
 use Rattle.thm_calls.proofs.Changing.{create-file-kept, create-dir-kept, delete-kept, write-kept}
-use Rattle.mfs_c.specs.Exports.{told, outOf, numbersOf, soughtSays, FormatsC, UsesC, HandleOut, OpensC, InformsC, ListsC, CountOut, ReadsC, SeeksC, CreatesFileC, CreatesDirC, DeletesC, WritesC}
+use Rattle.mfs_c.specs.Exports.{told, outOf, numbersOf, FormatsC, UsesC, HandleOut, OpensC, InformsC, ListsC, CountOut, ReadsC, SeeksC, CreatesFileC, CreatesDirC, DeletesC, WritesC}
 
 -- ---- a number that is not 0 tells a refusal, and 0 tells none
 

@@ -5,12 +5,9 @@ use mathlib.Core.List.{List, [], _∷_}
 use Prim.Native.Nat.{ℕ}
 use lib.ListN.{getD}
 use Rattle.model.specs.Answers.{Reply, accepted, refused}
-use Rattle.limits.specs.Refusals.{refusalNumber}
 use Rattle.dir_entry.specs.Entry.{kindByte}
 use Rattle.file.specs.declared.Handle.{Handle}
 use Rattle.file.specs.declared.SeekFrom.{SeekFrom}
-use Rattle.file.specs.declared.Outcome.{Outcome}
-use Rattle.file.specs.declared.Outcome.the-variants as outcome
 use Rattle.file.specs.declared.Sought.{Sought}
 use Rattle.file.specs.declared.ReadOut.{ReadOut}
 use Rattle.file.specs.declared.WriteOut.{WriteOut}
@@ -21,7 +18,7 @@ use Rattle.mfs.specs.declared.Space.{Space}
 use Rattle.mfs.specs.declared.OpenOut.{OpenOut}
 use Rattle.mfs.specs.declared.InfoOut.{InfoOut}
 use Rattle.mfs.specs.declared.Listing.{Listing}
-use Rattle.mfs.specs.Says.{says, Sizes, spaceSays}
+use Rattle.mfs.specs.Says.{says, soughtSays, Sizes, spaceSays}
 use Rattle.mfs.specs.Format.{Formats, Uses}
 use Rattle.mfs.specs.Reading.{About, Counts, openSays, Opens, infoSays, Informs, listSays, Lists, Reads}
 use Rattle.mfs.specs.Checking.{Checks}
@@ -47,10 +44,6 @@ handleOf ns x len =
 
 abbrev pub numbersOf : Handle → List ℕ
 numbersOf h = h .dir .0 ∷ (h .addr .0 ∷ (h .size ∷ (h .position ∷ [])))
-
-abbrev pub soughtSays : Outcome → Reply (Unit {0})
-soughtSays outcome.Success = accepted tt
-soughtSays (outcome.Refused r) = refused (refusalNumber r)
 
 -- ---- the exports: c is the number answered, J the image afterwards, Z the work buffer; an out parameter x is x' afterwards
 

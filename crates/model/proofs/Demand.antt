@@ -110,6 +110,17 @@ module _ (g : Geo) (d : ℕ) (p : List Name) (n : Name) (t₀ : Tree d) (v : Vac
   volume-after done s = s
   volume-after (call {I} {J} {L} {t} {u} {v = w} c r) s = volume-after r (shown-after I J t u c s)
 
+  -- every call leaves as many bytes as there were
+  long-after : {I I′ : List ℕ} {t t′ : Tree d} → Run g d p n I t I′ t′ → length I′ ≡ length I
+  long-after done = refl
+  long-after (call {I} {J} {L} {t} {u} {v = w} c r) = long-after r ∙ long I J t u c
+    where
+      long : (I J : List ℕ) (t u : Tree d) → Step g d p n I t J u → length J ≡ length I
+      long I J t u (quiet i e) = ap length i
+      long I J t u (create now w z cs q e x) = x .frame .size
+      long I J t u (write now z cs o e x) = x .frame .size
+      long I J t u (remove now o e x) = x .frame .size
+
 -- The tree at the end is the first but for a time.
 pub tree-restored : (g : Geo) (d : ℕ) (p : List Name) (n : Name) (I I′ : List ℕ) (t t′ : Tree d) → Volume g I d t → Vacant d p n t → Run g d p n I t I′ t′ → Vacant d p n t′
     → (f : ℕ → ℕ) × (t′ ≡ edit d p f (λ e bs. bs) t)
@@ -172,7 +183,17 @@ demand3 g d p n I I′ t t′ b b′ w v r u =
     let a : Alike P B (render B d t) (render B d (edit d p (z .0) (λ e bs. bs) t)) = alike-edit P B d p (z .0) t (λ j q. q) in
     let e : blocks B d t ≡ blocks B d (edit d p (z .0) (λ e bs. bs) t) = alike-ats P B _ _ a in
     record {
-      top = λ i h. volume-laid g I′ d _ w′ .top i (rw (whole-super g) h) ∙ ap (λ (l : List ℕ). getD (superBytes g (dataAt g + length l)) i 0) (sym e) ∙ sym (volume-laid g I d t w .top i (rw (whole-super g) h));
-      bitmap = λ i h. byte-same I I′ (B * mapAt g) i b b′ (λ k q. w′ .marked (8 * i + k) (omega arith) ∙ ap (count (dataAt g + (8 * i + k))) (sym e) ∙ sym (w .marked (8 * i + k) (omega arith)));
-      reached = λ c i m h x. shown-near P B I I′ (render B d t) (render B d (edit d p (z .0) (λ e bs. bs) t)) a (whole-tree B (omega (arith, size-large g)) d t (w .laid .good)) (w .laid .shown) (w′ .laid .shown) c i m h x;
+      long = long-after g d p n t v (good-find B d p t (v .dir) (w .laid .good) (v .there) .packed) r;
+      top = λ i h.
+          volume-laid g I′ d _ w′ .top i (omega (arith, h, whole-super g (dataAt g + length (blocks B d (edit d p (z .0) (λ e bs. bs) t)))))
+          ∙ ap (λ (l : List ℕ). getD (superBytes g (dataAt g + length l)) i 0) (sym e)
+          ∙ sym (volume-laid g I d t w .top i (omega (arith, h, whole-super g (dataAt g + length (blocks B d t)))));
+      bitmap = λ i h.
+          byte-same I I′ (B * mapAt g) i b b′ (λ k q.
+          w′ .marked (8 * i + k) (omega arith)
+          ∙ ap (count (dataAt g + (8 * i + k))) (sym e)
+          ∙ sym (w .marked (8 * i + k) (omega arith)));
+      reached = λ c i m h x.
+          shown-near P B I I′ (render B d t) (render B d (edit d p (z .0) (λ e bs. bs) t)) a
+          (whole-tree B (omega (arith, size-large g)) d t (w .laid .good)) (w .laid .shown) (w′ .laid .shown) c i m h x;
     }

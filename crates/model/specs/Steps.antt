@@ -1,34 +1,46 @@
--- 6. The calls at one path as steps of image and tree, and what demand 3 says of any number of them. Definitions alone.
--- A step says less than Calls do (size, blocks and addresses are free), so that demand 3 holds of every call that is one.
+-- 6. The calls at one path as steps of image and tree, and what comes back after any number of them (D3). Definitions alone.
+-- A step says less than Calls do (size, blocks and addresses are free), so that D3 holds of every call that is one.
 use mathlib.Core.Path.{_≡_}
 use mathlib.Core.List.{List, []}
 use Prim.Native.Nat.{ℕ, _+_, _-_, _*_, _≤_, _<_}
-use lib.ListN.{getD}
+use lib.ListN.{length, getD}
 use Rattle.model.specs.Tree.{Name, Cell, Tree}
 use Rattle.model.specs.Render.{Piece, blocks, count, ownTime, InTime}
 use Rattle.model.specs.Geometry.{Geo, blockSize, mapAt, dataAt}
 use Rattle.model.specs.Calls.{Vacant, Occupied, created, rewritten, deleted, entryRoom, leftover, Makes}
 
--- One call at the path p, n: from the image I with the tree t to J with u. A refused call, an open, a read and a seek change nothing.
-pub data Step (g : Geo) (d : ℕ) (p : List Name) (n : Name) (I : List ℕ) (t : Tree d) (J : List ℕ) (u : Tree d) : Type 0 where
-  quiet : J ≡ I → u ≡ t → Step g d p n I t J u
-  create : (now w s : ℕ) (cs : List Cell) → Vacant d p n t → u ≡ created d (entryRoom g) p n now w s cs t → Makes g d u [] I J → Step g d p n I t J u
-  write : (now s : ℕ) (cs : List Cell) → Occupied d p n t → u ≡ rewritten d p n now s cs t → Makes g d u [] I J → Step g d p n I t J u
-  remove : (now : ℕ) (o : Occupied d p n t) → u ≡ deleted d p n now t → Makes g d u (leftover (blockSize g) n (o .dir .1)) I J → Step g d p n I t J u
+-- An image: its bytes, block after block.
+abbrev pub Image : Type 0
+Image = List ℕ
 
--- Any number of them.
-pub data Run (g : Geo) (d : ℕ) (p : List Name) (n : Name) : List ℕ → Tree d → List ℕ → Tree d → Type 0 where
-  done : {I : List ℕ} {t : Tree d} → Run g d p n I t I t
-  call : {I J L : List ℕ} {t u v : Tree d} → Step g d p n I t J u → Run g d p n J u L v → Run g d p n I t L v
-
--- "superblock, bitmap, every directory block and every other file's or device's blocks as they were, but for the time field in the
--- holding directory's own entry": J against the first image I and its tree t.
-pub record Restored (g : Geo) (d : ℕ) (p : List Name) (I : List ℕ) (t : Tree d) (J : List ℕ) : Type 0 where
-  pub top : (i : ℕ) → i < blockSize g → getD J (blockSize g * g .K + i) 0 ≡ getD I (blockSize g * g .K + i) 0
-  pub bitmap : (i : ℕ) → i < blockSize g * (dataAt g - mapAt g) → getD J (blockSize g * mapAt g + i) 0 ≡ getD I (blockSize g * mapAt g + i) 0
-  pub reached : (b i : ℕ) → 1 ≤ count b (blocks (blockSize g) d t) → i < blockSize g
-      → (InTime (ownTime (blockSize g) d p t) (blockSize g * b + i) → ⊥) → getD J (blockSize g * b + i) 0 ≡ getD I (blockSize g * b + i) 0
-
--- a list of bytes, as every image of a call is
+-- a list of bytes, as every image and every buffer of a call is
 abbrev pub Bytes : List ℕ → Type 0
 Bytes l = (i : ℕ) → getD l i 0 < 256
+
+-- One call at the path p, n: from the image I with the tree t to J with u. A refused call, an open, a read and a seek change
+-- nothing.
+pub data Step (g : Geo) (d : ℕ) (p : List Name) (n : Name) (I : Image) (t : Tree d) (J : Image) (u : Tree d) : Type 0 where
+  quiet : J ≡ I → u ≡ t → Step g d p n I t J u
+  create : (now w s : ℕ) (cs : List Cell) → Vacant d p n t → u ≡ created d (entryRoom g) p n now w s cs t
+      → Makes g d u [] I J → Step g d p n I t J u
+  write : (now s : ℕ) (cs : List Cell) → Occupied d p n t → u ≡ rewritten d p n now s cs t
+      → Makes g d u [] I J → Step g d p n I t J u
+  remove : (now : ℕ) (o : Occupied d p n t) → u ≡ deleted d p n now t
+      → Makes g d u (leftover (blockSize g) n (o .dir .1)) I J → Step g d p n I t J u
+
+-- Any number of them.
+pub data Run (g : Geo) (d : ℕ) (p : List Name) (n : Name) : Image → Tree d → Image → Tree d → Type 0 where
+  done : {I : Image} {t : Tree d} → Run g d p n I t I t
+  call : {I J L : Image} {t u v : Tree d} → Step g d p n I t J u → Run g d p n J u L v → Run g d p n I t L v
+
+-- D3, what of the first image I and its tree t is in the image J: as many bytes; the superblock, the bitmap and every block that
+-- t reaches (those of all directories, and of every other file and device), byte for byte. Only the time in the holding
+-- directory's own entry may differ.
+pub record Restored (g : Geo) (d : ℕ) (p : List Name) (I : Image) (t : Tree d) (J : Image) : Type 0 where
+  pub long : length J ≡ length I
+  pub top : (i : ℕ) → i < blockSize g → getD J (blockSize g * g .K + i) 0 ≡ getD I (blockSize g * g .K + i) 0
+  pub bitmap : (i : ℕ) → i < blockSize g * (dataAt g - mapAt g)
+      → getD J (blockSize g * mapAt g + i) 0 ≡ getD I (blockSize g * mapAt g + i) 0
+  pub reached : (b i : ℕ) → 1 ≤ count b (blocks (blockSize g) d t) → i < blockSize g
+      → (InTime (ownTime (blockSize g) d p t) (blockSize g * b + i) → ⊥)
+      → getD J (blockSize g * b + i) 0 ≡ getD I (blockSize g * b + i) 0

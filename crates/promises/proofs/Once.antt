@@ -1,4 +1,4 @@
--- Demand 1: each call has one outcome, and a refusal keeps all.
+-- D1: each call has one outcome, and a refusal keeps all.
 use mathlib.Core.Path.{_≡_, refl, sym, ap, _∙_, subst}
 use mathlib.Core.List.{List}
 use Prim.Native.Nat.{ℕ, zero, suc}
@@ -6,21 +6,20 @@ use native.Mathlib.Omega.{arith}
 use lib.ListN.{length}
 use Rattle.wire.specs.Be.{splice}
 use Rattle.model.specs.Answers.{Reply, refused, reply, settle}
-use Rattle.limits.specs.Refusals.{refusalNumber}
 use Rattle.file.specs.Post.{MovedIs, CountedIs}
 use Rattle.mfs.specs.declared.Answer.{Answer}
-use Rattle.mfs.specs.declared.Answer.the-variants as answer
 use Rattle.mfs.specs.Says.{IfRefused}
-use Rattle.mfs.specs.Reading.{Counts, noHandle, noAbout, aboutOf, onReply, size, area, end, readCall}
-use Rattle.mfs.specs.Reading.{recordsOn}
+use Rattle.mfs.specs.Reading.{Counts, noHandle, noAbout, aboutOf, onReply, size, area, end, recordsOn, readCall}
 use Rattle.file.specs.File.{bytesRead}
 use Rattle.path.specs.Path.{realPath}
-use Rattle.mfs.proofs.Outcomes.{format-one, usage-one, open-one, info-one, list-one, read-one, seek-one, create-file-one, create-dir-one, delete-one, write-one}
+use Rattle.mfs.proofs.Outcomes.{format-one, usage-one, open-one, info-one, list-one, read-one, seek-one, create-file-one}
+use Rattle.mfs.proofs.Outcomes.{create-dir-one, delete-one, write-one}
 use Rattle.mfs.proofs.Checked.{check-one}
 use Rattle.thm_calls.proofs.Changing.{create-file-kept, create-dir-kept, delete-kept, write-kept}
 use Rattle.promises.specs.Once.{OneOutcome, RefusalKeeps}
+use Rattle.promises.proofs.Answered.{value-refused, refusal-said, count-refused, sought-refused}
 
--- DEMAND 1. Each call has one outcome.
+-- D1. Each call has one outcome.
 pub one-outcome : OneOutcome
 one-outcome =
     record {
@@ -44,22 +43,37 @@ unfolding reply settle
 format-kept zero j x y e = let z : _≡_ {A = ℕ} 0 1 = cc in absurd (omega arith)
 format-kept (suc k) j x y e = refl
 
--- DEMAND 1. A refusal keeps all.
+-- D1. A refusal keeps all.
 pub refusal-keeps : RefusalKeeps
 refusal-keeps =
     record {
-      formats = λ K I J x c. c .image ∙ format-kept _ (refusalNumber x) _ I (c .answer);
-      checks = λ K I W Z x c. c .work;
-      opens = λ K I cwd p o x c e. subst (λ (y : Answer). IfRefused y (o .handle ≡ noHandle)) e (c .empty);
-      informs = λ K I cwd p o x c e. subst (λ (y : Answer). IfRefused y (aboutOf o ≡ noAbout)) e (c .empty);
-      lists = λ K I cwd p n buf out x c.
-          c .buffer ∙ ap (λ (r : Reply Counts). onReply r (splice buf 0 (recordsOn (size K I) (area K I) (end K I) I (realPath cwd p) n (length buf))) buf) (sym (c .answer));
-      reads = λ K I h buf out o x c e.
-          let k = subst (CountedIs (readCall K I h (length buf)) h (o .handle) (bytesRead (size K I) (area K I) (end K I) I h (length buf)) buf out) e c in
+      formats = λ K I J r j c e. c .image ∙ format-kept _ j _ I (sym e ∙ c .answer);
+      checks = λ K I W Z r j c e. c .work;
+      opens = λ K I cwd p o j c e.
+          subst (λ (y : Answer). IfRefused y (o .handle ≡ noHandle)) (value-refused (o .answer) (o .handle) j e .1) (c .empty);
+      informs = λ K I cwd p o j c e.
+          subst (λ (y : Answer). IfRefused y (aboutOf o ≡ noAbout)) (value-refused (o .answer) (aboutOf o) j e .1) (c .empty);
+      lists = λ K I cwd p n buf out q j c e.
+          let records : List ℕ = recordsOn (size K I) (area K I) (end K I) I (realPath cwd p) n (length buf) in
+          c .buffer ∙ ap (λ (r : Reply Counts). onReply r (splice buf 0 records) buf) (sym (c .answer) ∙ e);
+      reads = λ K I h buf out o j c e.
+          let vs : List ℕ = bytesRead (size K I) (area K I) (end K I) I h (length buf) in
+          let x = count-refused (o .answer) j e in
+          let k = subst (CountedIs (readCall K I h (length buf)) h (o .handle) vs buf out) (x .1) c in
           (k .handle, k .kept);
-      seeks = λ h from o x c e. subst (MovedIs h from (o .handle)) e c .1;
-      creates-file = λ K I W cwd p time J Z o x c e. let k = create-file-kept K I W cwd p time J Z o c x e in (k .0, k .1, c .work);
-      creates-dir = λ K I W cwd p time J Z x c. (create-dir-kept K I W cwd p time J Z (answer.Refused x) c x refl, c .work);
-      deletes = λ K I W cwd p time J Z x c. (delete-kept K I W cwd p time J Z (answer.Refused x) c x refl, c .work);
-      writes = λ K I W h buf time o J Z x c e. let k = write-kept K I W h buf time o J Z c x e in (k .0, k .1, c .work);
+      seeks = λ h from s j c e. subst (MovedIs h from (s .handle)) (sought-refused (s .answer) j e .1) c .1;
+      creates-file = λ K I W cwd p time J Z o j c e.
+          let x = value-refused (o .answer) (o .handle) j e in
+          let k = create-file-kept K I W cwd p time J Z o c (x .0) (x .1) in
+          (k .0, k .1, c .work);
+      creates-dir = λ K I W cwd p time J Z r j c e.
+          let x = refusal-said r j e in
+          (create-dir-kept K I W cwd p time J Z r c (x .0) (x .1), c .work);
+      deletes = λ K I W cwd p time J Z r j c e.
+          let x = refusal-said r j e in
+          (delete-kept K I W cwd p time J Z r c (x .0) (x .1), c .work);
+      writes = λ K I W h buf time o J Z j c e.
+          let x = count-refused (o .answer) j e in
+          let k = write-kept K I W h buf time o J Z c (x .0) (x .1) in
+          (k .0, k .1, c .work);
     }

@@ -1,4 +1,4 @@
--- The counter's safety: the files and devices that a call may not touch, and a handle that is stale at a call's entry. Definitions alone.
+-- S3, S4: the files and devices that a call may not touch, and a handle that is stale at a call's entry. Definitions alone.
 use mathlib.Core.Path.{_≡_}
 use mathlib.Core.Logic.{_⊎_}
 use mathlib.Core.Option.{Option, none, some}
@@ -22,20 +22,20 @@ deviceOf k (sub x) = none
 unfoldable pub deviceAt : (d : ℕ) → List Name → Name → Tree d → Option (ℕ × ℕ × List Cell)
 deviceAt d p n t = then (find d p t) (λ s. then (lookup n (s .1)) (λ e. deviceOf (e .time) (e .node)))
 
--- "changes no byte of another file", nor of another device: with the tree t of I and u of J, the file or the device at q, m has the same size, time, blocks and bytes
--- before and after, and every byte of its blocks (of B bytes) in the image is as it was; where there was none, there is none.
+-- S3, untouched: with the tree t of I and u of J, the file or the device at q, m has the same size, time, blocks and bytes before
+-- and after, and every byte of its blocks (of B bytes) in the image is as it was; where there was none, there is none.
 pub record Untouched (B d : ℕ) (t u : Tree d) (I J : List ℕ) (q : List Name) (m : Name) : Type 0 where
   pub same-file : fileAt d q m u ≡ fileAt d q m t
   pub same-device : deviceAt d q m u ≡ deviceAt d q m t
   pub same-bytes : (z k : ℕ) (cs : List Cell) → (fileAt d q m t ≡ some (z, k, cs)) ⊎ (deviceAt d q m t ≡ some (z, k, cs))
       → (b i : ℕ) → 1 ≤ count b (places cs) → i < B → getD J (B * b + i) 0 ≡ getD I (B * b + i) 0
 
--- "another file": the path q, m is not the one that the handle names, which is its name in the directory that starts at its address.
+-- S3, another file: the path q, m is not the one that the handle names, which is its name in the directory that starts at its
+-- address.
 abbrev pub Another : (d : ℕ) → Tree d → Handle → List Name → Name → Type 0
 Another d t h q m = DirAt d (h .dir .0) q t → nameOf h ≡ m → ⊥
 
--- "a call whose handle is stale at its entry": stale on the tree of the image at the call's entry, whatever the handle was before and wherever it
--- was opened. A handle can become current again: when the directory has a file entry with its name, address and size once more, it is
--- no longer stale. (An image that is not well formed has no tree; there the check refuses every write.)
+-- S4, stale at a call's entry: on the tree of the image there, whatever the handle was before and wherever it was opened (H3).
+-- An image that is not well formed has no tree; there the check refuses every write.
 abbrev pub StaleAtEntry : ℕ → List ℕ → Handle → Type 0
 StaleAtEntry K I h = (w : WellFormed K I) → Stale maxDepth (w .tree) h

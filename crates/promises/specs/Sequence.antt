@@ -1,8 +1,9 @@
--- Demand 3: any finite sequence of calls at one path, each step the contract of a public call. Definitions alone.
+-- D3: any number of calls at one path, each step the contract of a public call. Definitions alone.
 use mathlib.Core.Path.{_≡_}
 use mathlib.Core.List.{List}
 use Prim.Native.Nat.{ℕ, _^_, _<_}
 use Rattle.model.specs.Tree.{Name}
+use Rattle.model.specs.Steps.{Bytes}
 use Rattle.file.specs.declared.Handle.{Handle}
 use Rattle.file.specs.declared.SeekFrom.{SeekFrom}
 use Rattle.file.specs.declared.Sought.{Sought}
@@ -16,29 +17,32 @@ use Rattle.mfs.specs.Reading.{Opens, Reads}
 use Rattle.mfs.specs.Changing.{CreatesFile, Deletes, Writes}
 use Rattle.thm_calls.specs.Named.{wayOf, lastOf}
 
--- "any working directory and spelling that lead there": the path given has the directory names p and the last name n.
+-- D3, any working directory and spelling that lead to the path: what is given has the directory names p and the last name n
+-- (P3, P4).
 pub record Leads (p : List Name) (n : Name) (cwd path : List ℕ) : Type 0 where
   pub way : wayOf cwd path ≡ p
   pub last : lastOf cwd path ≡ n
 
--- "a handle is at the path when it holds the first address of the path's holding directory and the path's last name, wherever it was
--- opened, also stale and made-up ones": a is that address. Nothing is asked of its other fields.
+-- H7, a handle at the path, whose holding directory begins at a. Nothing is asked of its other fields, so that stale and
+-- made-up ones are among them.
 pub record HandleAt (a : ℕ) (n : Name) (h : Handle) : Type 0 where
   pub dir : h .dir .0 ≡ a
   pub name : nameOf h ≡ n
 
--- "create, open, read, seek, write, delete calls at that path (... create means create_file; refused calls; any times, buffers and work
--- buffers)": one call, from the image I to J, accepted or refused. Open, read and seek cannot write the image: J is I.
--- A time has 8 bytes.
+-- D3, one call at the path, from the image I to J, accepted or refused, with any time (of 8 bytes), buffer (of bytes) and work
+-- buffer. A create is create_file. Open, read and seek cannot write the image: J is I.
 pub data Call (K a : ℕ) (p : List Name) (n : Name) (I J : List ℕ) : Type 0 where
-  creates : (cwd path W Z : List ℕ) (time : ℕ) (o : OpenOut) → Leads p n cwd path → time < 2 ^ 64 → CreatesFile K I W cwd path time o J Z → Call K a p n I J
+  creates : (cwd path W Z : List ℕ) (time : ℕ) (o : OpenOut) → Leads p n cwd path → time < 2 ^ 64
+      → CreatesFile K I W cwd path time o J Z → Call K a p n I J
   opens : (cwd path : List ℕ) (o : OpenOut) → Leads p n cwd path → Opens K I cwd path o → J ≡ I → Call K a p n I J
   reads : (h : Handle) (buf out : List ℕ) (o : ReadOut) → HandleAt a n h → Reads K I h buf out o → J ≡ I → Call K a p n I J
   seeks : (h : Handle) (from : SeekFrom) (s : Sought) → HandleAt a n h → SoughtIs h from s → J ≡ I → Call K a p n I J
-  writes : (h : Handle) (buf W Z : List ℕ) (time : ℕ) (o : WriteOut) → HandleAt a n h → time < 2 ^ 64 → Writes K I W h buf time o J Z → Call K a p n I J
-  deletes : (cwd path W Z : List ℕ) (time : ℕ) (r : Answer) → Leads p n cwd path → time < 2 ^ 64 → Deletes K I W cwd path time r J Z → Call K a p n I J
+  writes : (h : Handle) (buf W Z : List ℕ) (time : ℕ) (o : WriteOut) → HandleAt a n h → Bytes buf → time < 2 ^ 64
+      → Writes K I W h buf time o J Z → Call K a p n I J
+  deletes : (cwd path W Z : List ℕ) (time : ℕ) (r : Answer) → Leads p n cwd path → time < 2 ^ 64
+      → Deletes K I W cwd path time r J Z → Call K a p n I J
 
--- "any finite sequence" of them, each on the image that the one before left.
+-- D3, any number of them, each on the image that the one before left.
 pub data Calls (K a : ℕ) (p : List Name) (n : Name) : List ℕ → List ℕ → Type 0 where
   done : {I : List ℕ} → Calls K a p n I I
   call : {I J L : List ℕ} → Call K a p n I J → Calls K a p n J L → Calls K a p n I L

@@ -11,7 +11,7 @@ use Rattle.limits.specs.declared.Refusal.{Refusal}
 use Rattle.model.specs.Tree.{Name, Tree}
 use Rattle.model.specs.Render.{Piece}
 use Rattle.model.specs.Geometry.{Geo, geoAt}
-use Rattle.model.specs.Volume.{Volume, WellFormed, maxDepth}
+use Rattle.model.specs.Volume.{GoodName, Volume, WellFormed, maxDepth}
 use Rattle.model.specs.Steps.{Bytes}
 use Rattle.model.specs.Calls.{DirAt, Makes}
 use Rattle.model.specs.Calls.{TreeCreatesFile, TreeCreatesDir, TreeDeletes, TreeWrites}
@@ -45,6 +45,7 @@ use Rattle.mfs.specs.Checking.{checkRefusal}
 use Rattle.mfs.specs.Changing.{changeCall, createReply, createImage, freshHandle, CreatesFile, CreatesDir, Deletes, writeReply, Writes}
 use Rattle.mfs.proofs.Checked.{check-passed}
 use Rattle.thm_calls.specs.Named.{wayOf, lastOf}
+use Rattle.thm_calls.proofs.Stored.{bytes-inserted, bytes-removed, bytes-wrote}
 
 -- ---- answers
 
@@ -100,6 +101,14 @@ module _ (K : ℕ) (I W cwd p : List ℕ) (now : ℕ) (J Z : List ℕ) where
       let b = first-refused (siteOf (geoAt K I) I k (realPath cwd p)) _ i h in
       ap (createdAt (geoAt K I) I k (lastName (realPath cwd p)) now) b)
 
+  -- an accepted create stores bytes, where its name is one
+  create-bytes : (k : Kind) (x : Site) → Bytes I → siteOf (geoAt K I) I k (realPath cwd p) ≡ accepted x → GoodName (lastOf cwd p)
+      → Bytes (createdImage (geoAt K I) I k (realPath cwd p) now)
+  unfolding createdImage
+  create-bytes k x b e n =
+      subst (λ (r : Reply Site). Bytes (createdAt (geoAt K I) I k (lastOf cwd p) now r)) (sym e)
+      (bytes-inserted (geoAt K I) I b (x .dir) (x .spot) (x .own) k (lastOf cwd p) n now)
+
   module _ (o : OpenOut) (c : CreatesFile K I W cwd p now o J Z) where
     file-passed : o .answer ≡ answer.Success
         → (changeCall K I (length W) cwd p ≡ 0) × (x : Site) × (siteOf (geoAt K I) I kind.File (realPath cwd p) ≡ accepted x)
@@ -120,9 +129,16 @@ module _ (K : ℕ) (I W cwd p : List ℕ) (now : ℕ) (J Z : List ℕ) where
         subst (λ (X : List ℕ). TreeCreatesFile (geoAt K I) maxDepth (wayOf cwd p) (lastOf cwd p) now (w .tree) I X) (sym (create-image kind.File (a .0) (c .image)))
         (created-file (geoAt K I) I (w .tree) (volume-at K I w) (realPath cwd p) now (real-bytes cwd p (call-none (a .0) .1)) clock (a .1) (a .2))
 
-    -- The image afterwards is well formed.
+    -- The image afterwards is well formed,
     pub create-file-well : Bytes I → now < 2 ^ 64 → o .answer ≡ answer.Success → WellFormed K J
     create-file-well b clock e = let w = create-file-before b e in well-after K I J w _ _ (create-file-tree w clock e .makes)
+
+    -- a list of bytes.
+    pub create-file-bytes : Bytes I → now < 2 ^ 64 → o .answer ≡ answer.Success → Bytes J
+    create-file-bytes b clock e =
+        let a = file-passed e in
+        subst Bytes (sym (create-image kind.File (a .0) (c .image)))
+        (create-bytes kind.File (a .1) b (a .2) (create-file-tree (create-file-before b e) clock e .name))
 
     -- A refused create leaves the image, and answers no handle.
     pub create-file-kept : (x : Refusal) → o .answer ≡ answer.Refused x → (J ≡ I) × (o .handle ≡ noHandle)
@@ -151,6 +167,12 @@ module _ (K : ℕ) (I W cwd p : List ℕ) (now : ℕ) (J Z : List ℕ) where
     pub create-dir-well : Bytes I → now < 2 ^ 64 → r ≡ answer.Success → WellFormed K J
     create-dir-well b clock e = let w = create-dir-before b e in well-after K I J w _ _ (create-dir-tree w clock e .makes)
 
+    pub create-dir-bytes : Bytes I → now < 2 ^ 64 → r ≡ answer.Success → Bytes J
+    create-dir-bytes b clock e =
+        let a = dir-passed e in
+        subst Bytes (sym (create-image kind.Dir (a .0) (c .image)))
+        (create-bytes kind.Dir (a .1) b (a .2) (create-dir-tree (create-dir-before b e) clock e .name))
+
     pub create-dir-kept : (x : Refusal) → r ≡ answer.Refused x → J ≡ I
     create-dir-kept x e =
         let b = first-refused (createReply kind.Dir K I (length W) cwd p) (λ f. tt) (refusalNumber x) (sym (ap says (sym e) ∙ c .answer)) in
@@ -176,6 +198,15 @@ module _ (K : ℕ) (I W cwd p : List ℕ) (now : ℕ) (J Z : List ℕ) where
 
     pub delete-well : Bytes I → now < 2 ^ 64 → r ≡ answer.Success → WellFormed K J
     delete-well b clock e = let w = delete-before b e in well-after K I J w _ _ (delete-tree w clock e .makes)
+
+    pub delete-bytes : Bytes I → r ≡ answer.Success → Bytes J
+    unfolding deletedImage
+    delete-bytes b e =
+        let a = delete-passed e in
+        let d : Doomed = a .1 in
+        subst Bytes (sym (c .image ∙ settle-none _ I (a .0)))
+        (subst (λ (x : Reply Doomed). Bytes (deletedAt (geoAt K I) I now x)) (sym (a .2))
+        (bytes-removed (geoAt K I) I b (d .dir) (d .entry) (d .place) (d .own) now))
 
     pub delete-kept : (x : Refusal) → r ≡ answer.Refused x → J ≡ I
     unfolding deletedOn deletedImage
@@ -216,6 +247,16 @@ module _ (K : ℕ) (I W : List ℕ) (h : Handle) (buf : List ℕ) (now : ℕ) (o
   -- the image afterwards is well formed,
   pub write-well : (k : ℕ) → Bytes I → now < 2 ^ 64 → o .answer ≡ counted.Bytes k → WellFormed K J
   write-well k b clock e = let w = write-before k b e in well-after K I J w _ _ (write-tree k w clock e .2 .makes)
+
+  -- a list of bytes where what is written is one,
+  pub write-bytes : (k : ℕ) → Bytes I → Bytes buf → o .answer ≡ counted.Bytes k → Bytes J
+  unfolding writtenImage
+  write-bytes k b d e =
+      let a = write-passed k e in
+      let t : Target = a .1 in
+      subst Bytes (sym (c .image ∙ settle-none _ I (a .0)))
+      (subst (λ (x : Reply Target). Bytes (writtenAt (geoAt K I) I h buf now x)) (sym (a .2))
+      (bytes-wrote (geoAt K I) I b (t .entry) (t .place) (h .position) buf d now))
 
   -- and the handle stands at the file's new end.
   pub write-handle : (k : ℕ) → o .answer ≡ counted.Bytes k → (k ≡ length buf) × (o .handle ≡ grownHandle h (length buf))

@@ -1,0 +1,115 @@
+-- S7: what the check part of a changing call decides.
+use mathlib.Core.Path.{_≡_, sym, ap, _∙_}
+use mathlib.Core.Bool.{Bool, true, false, not}
+use mathlib.Core.Logic.{_⊎_, inl, inr, _↔_}
+use mathlib.Core.List.{List, [], _∷_}
+use Prim.Native.Nat.{ℕ, _≤_}
+use native.Mathlib.Omega.{arith}
+use native.Mathlib.Decide.{ℕ-discrete}
+use lib.Dec.{ltb}
+use lib.ListN.{length}
+use borrow.Author.Tests.{le-ltb}
+use Rattle.wire.proofs.Picks.{either}
+use Rattle.model.specs.Answers.{when, firstOf}
+use Rattle.model.specs.Geometry.{geoAt, badImage, badMark, badCount, openRefusal}
+use Rattle.model.specs.Volume.{WellFormed}
+use Rattle.model.specs.Steps.{Bytes}
+use Rattle.model.proofs.OneVolume.{well-formed-opens}
+use Rattle.model.proofs.Opens.{when-true, when-false, first-of-none, first-of-head, first-of-tail, first-of-one, refuses, passes}
+use Rattle.check_bitmap.specs.Tally.{markLong}
+use Rattle.check_volume.specs.Whole.{whole}
+use Rattle.check_volume.proofs.Wholes.{whole-complete}
+use Rattle.mfs.specs.Checking.{checkCall, checkRefusal}
+use Rattle.mfs.proofs.Checked.{check-passed}
+use Rattle.promises.specs.Exact.{CheckIsExact}
+
+-- a test in a list gives its number, or what follows it answers
+first-when : (k : ℕ) (b : Bool) (ks : List ℕ) → 1 ≤ k → (firstOf (when k b ∷ ks) ≡ k) ⊎ (firstOf (when k b ∷ ks) ≡ firstOf ks)
+first-when k b ks h = go (either b)
+  where
+    go : (b ≡ true) ⊎ (b ≡ false) → (firstOf (when k b ∷ ks) ≡ k) ⊎ (firstOf (when k b ∷ ks) ≡ firstOf ks)
+    go (inl t) = inl (refuses k ks h t)
+    go (inr f) = inr (passes k ks f)
+
+-- 1, 2 and 3 are no more than 3, and 16 comes after them
+module _ (K : ℕ) (I : List ℕ) where
+  abbrev third : List ℕ
+  third = when 3 (badCount (geoAt K I) (length I)) ∷ []
+
+  abbrev second : List ℕ
+  second = when 2 (badMark K I) ∷ third
+
+  abbrev all : List ℕ
+  all = when 1 (badImage K (length I)) ∷ second
+
+  open-small : openRefusal K I ≤ 3
+  unfolding openRefusal
+  open-small = go (first-when 1 _ second (omega arith)) (first-when 2 _ third (omega arith)) (first-when 3 _ [] (omega arith))
+    where
+      go : (firstOf all ≡ 1) ⊎ (firstOf all ≡ firstOf second) → (firstOf second ≡ 2) ⊎ (firstOf second ≡ firstOf third)
+          → (firstOf third ≡ 3) ⊎ (firstOf third ≡ firstOf []) → firstOf all ≤ 3
+      go (inl a) b c = omega arith
+      go (inr a) (inl b) c = omega arith
+      go (inr a) (inr b) (inl c) = omega arith
+      go (inr a) (inr b) (inr c) = omega (arith, first-of-none)
+
+call-small : (K : ℕ) (I : List ℕ) (len : ℕ) → checkCall K I len ≤ 16
+unfolding checkCall
+call-small K I len = go (ℕ-discrete (openRefusal K I) 0) (either (ltb len (markLong (geoAt K I))))
+  where
+    go : Dec (openRefusal K I ≡ 0) → (ltb len (markLong (geoAt K I)) ≡ true) ⊎ (ltb len (markLong (geoAt K I)) ≡ false)
+        → firstOf (openRefusal K I ∷ (when 16 (ltb len (markLong (geoAt K I))) ∷ [])) ≤ 16
+    go (no n) b =
+        let k = first-of-head (openRefusal K I) (when 16 (ltb len (markLong (geoAt K I))) ∷ []) (omega arith) in
+        omega (arith, k, open-small K I)
+    go (yes e) (inl t) = let k = first-of-tail _ _ e ∙ first-of-one _ ∙ when-true 16 t in omega (arith, k)
+    go (yes e) (inr f) = let k = first-of-tail _ _ e ∙ first-of-one _ ∙ when-false 16 f in omega (arith, k)
+
+module _ (K : ℕ) (I : List ℕ) (len : ℕ) where
+  check-earlier : 1 ≤ checkCall K I len → checkRefusal K I len ≡ checkCall K I len
+  unfolding checkRefusal
+  check-earlier h = first-of-head _ _ h
+
+  -- none of 1, 2, 3, 16: what the whole check says
+  check-last : checkCall K I len ≡ 0 → checkRefusal K I len ≡ when 17 (not (whole (geoAt K I) I))
+  unfolding checkRefusal
+  check-last z = first-of-tail _ _ z ∙ first-of-one _
+
+  module _ (b : Bytes I) where
+    passes-well : checkCall K I len ≡ 0 → WellFormed K I → checkRefusal K I len ≡ 0
+    passes-well z w = check-last z ∙ when-false 17 (ap not (whole-complete K I b w))
+
+    pub check-passes : (checkRefusal K I len ≡ 0) ↔ ((checkCall K I len ≡ 0) × WellFormed K I)
+    check-passes = (λ e. let p = check-passed K I len b e in (p .0, p .2), λ p. passes-well (p .0) (p .1))
+
+    check-damaged : (checkRefusal K I len ≡ 17) ↔ ((checkCall K I len ≡ 0) × (WellFormed K I → ⊥))
+    check-damaged = (
+      λ e. let z = none e in (z, λ w. omega (arith, e, passes-well z w)),
+      λ p. go (p .0) (p .1) (either (whole (geoAt K I) I)),
+    )
+      where
+        none : checkRefusal K I len ≡ 17 → checkCall K I len ≡ 0
+        none e = first (ℕ-discrete (checkCall K I len) 0)
+          where
+            first : Dec (checkCall K I len ≡ 0) → checkCall K I len ≡ 0
+            first (yes z) = z
+            first (no n) = absurd (omega (arith, e, check-earlier (omega arith), call-small K I len))
+
+        go : checkCall K I len ≡ 0 → (WellFormed K I → ⊥) → (whole (geoAt K I) I ≡ true) ⊎ (whole (geoAt K I) I ≡ false)
+            → checkRefusal K I len ≡ 17
+        go z bad (inl t) = absurd (bad (check-passed K I len b (check-last z ∙ when-false 17 (ap not t)) .2))
+        go z bad (inr f) = check-last z ∙ when-true 17 (ap not f)
+
+pub check-is-exact : CheckIsExact
+check-is-exact = record { earlier = check-earlier; passes = check-passes; damaged = check-damaged }
+
+-- The check is reached, and passes, on a well-formed volume with a work buffer that is long enough.
+module _ (K : ℕ) (I W : List ℕ) (w : WellFormed K I) (long : markLong (geoAt K I) ≤ length W) where
+  pub long-reaches : checkCall K I (length W) ≡ 0
+  unfolding checkCall
+  long-reaches =
+      first-of-tail _ _ (well-formed-opens K I w) ∙ first-of-one _
+      ∙ when-false 16 (le-ltb (length W) (markLong (geoAt K I)) long)
+
+  pub long-passes : Bytes I → checkRefusal K I (length W) ≡ 0
+  long-passes b = check-passes K I (length W) b .1 (long-reaches, w)
