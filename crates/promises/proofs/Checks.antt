@@ -1,5 +1,5 @@
 -- S7: what the check part of a changing call decides.
-use mathlib.Core.Path.{_≡_, sym, ap, _∙_}
+use mathlib.Core.Path.{_≡_, ap, _∙_}
 use mathlib.Core.Bool.{Bool, true, false, not}
 use mathlib.Core.Logic.{_⊎_, inl, inr, _↔_}
 use mathlib.Core.List.{List, [], _∷_}
@@ -79,7 +79,7 @@ module _ (K : ℕ) (I : List ℕ) (len : ℕ) where
     passes-well : checkCall K I len ≡ 0 → WellFormed K I → checkRefusal K I len ≡ 0
     passes-well z w = check-last z ∙ when-false 17 (ap not (whole-complete K I b w))
 
-    pub check-passes : (checkRefusal K I len ≡ 0) ↔ ((checkCall K I len ≡ 0) × WellFormed K I)
+    check-passes : (checkRefusal K I len ≡ 0) ↔ ((checkCall K I len ≡ 0) × WellFormed K I)
     check-passes = (λ e. let p = check-passed K I len b e in (p .0, p .2), λ p. passes-well (p .0) (p .1))
 
     damaged-ill : checkCall K I len ≡ 0 → (WellFormed K I → ⊥) → checkRefusal K I len ≡ 17
