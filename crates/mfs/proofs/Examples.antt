@@ -5,7 +5,7 @@ use mathlib.Core.List.{List, [], _∷_, _++_}
 use Prim.Native.Nat.{ℕ, _+_, _*_, _≤_, _<_}
 use native.Mathlib.Omega.{arith}
 use lib.ListN.{length, length-replicate, take, drop}
-use Rattle.wire.specs.Be.{zeros, be, bytes, splice}
+use Rattle.wire.specs.Be.{zeros, be, bytes}
 use Rattle.wire.specs.Pick.{pick, same}
 use Rattle.wire.proofs.Laws.{length-splice, splice-in}
 use Rattle.wire.proofs.Picks.{same-refl}

@@ -1,4 +1,4 @@
--- The promises of the public calls, in order; demand 1 stands in Once. Definitions alone: proofs/Promises.antt has the proof of each.
+-- The promises of the public calls, in order; D1 stands in Once. Definitions alone: proofs/Promises.antt has the proof of each.
 -- In all of them K is the superblock's block, I the image at a call's entry and J after it, W the work buffer before and Z after.
 use mathlib.Core.Path.{_≡_}
 use mathlib.Core.Bool.{false}

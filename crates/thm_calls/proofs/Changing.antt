@@ -101,7 +101,7 @@ module _ (K : ℕ) (I W cwd p : List ℕ) (now : ℕ) (J Z : List ℕ) where
       let b = first-refused (siteOf (geoAt K I) I k (realPath cwd p)) _ i h in
       ap (createdAt (geoAt K I) I k (lastName (realPath cwd p)) now) b)
 
-  -- an accepted create stores bytes, where its name is one
+  -- an accepted create stores bytes, where its name is a good one
   create-bytes : (k : Kind) (x : Site) → Bytes I → siteOf (geoAt K I) I k (realPath cwd p) ≡ accepted x → GoodName (lastOf cwd p)
       → Bytes (createdImage (geoAt K I) I k (realPath cwd p) now)
   unfolding createdImage
@@ -166,12 +166,6 @@ module _ (K : ℕ) (I W cwd p : List ℕ) (now : ℕ) (J Z : List ℕ) where
 
     pub create-dir-well : Bytes I → now < 2 ^ 64 → r ≡ answer.Success → WellFormed K J
     create-dir-well b clock e = let w = create-dir-before b e in well-after K I J w _ _ (create-dir-tree w clock e .makes)
-
-    pub create-dir-bytes : Bytes I → now < 2 ^ 64 → r ≡ answer.Success → Bytes J
-    create-dir-bytes b clock e =
-        let a = dir-passed e in
-        subst Bytes (sym (create-image kind.Dir (a .0) (c .image)))
-        (create-bytes kind.Dir (a .1) b (a .2) (create-dir-tree (create-dir-before b e) clock e .name))
 
     pub create-dir-kept : (x : Refusal) → r ≡ answer.Refused x → J ≡ I
     create-dir-kept x e =
