@@ -1,4 +1,4 @@
-// W1's "rest zero" and W5 of a volume, decided on the bytes of its image: the superblock's last bytes, the bitmap against the marks
+// The zeros of W1, and W5, decided on the bytes of a volume's image: the superblock's last bytes, the bitmap against the marks
 // of a walk, and the used count. The marks stand in a lent work buffer, one bit a block: bit x is that of address D + x.
 // What the answers say of the definitions of a volume is in proofs/Top.antt and proofs/Marks.antt.
 use super_block::SuperBlock;
