@@ -1,4 +1,4 @@
--- W1 to W5 as one test on the bytes of an image whose superblock gives the numbers g. Definitions alone.
+-- C3: W1 to W5 as one test on the bytes of an image whose superblock gives the numbers g. Definitions alone.
 use mathlib.Core.Bool.{Bool, true, false, _&&_}
 use mathlib.Core.Option.{Option, none, some}
 use mathlib.Core.List.{List, []}

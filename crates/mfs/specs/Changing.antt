@@ -58,7 +58,7 @@ pub record CreatesDir (K : ℕ) (I W cwd p : List ℕ) (time : ℕ) (r : Answer)
   pub image : J ≡ createImage Dir K I (length W) cwd p time
   pub work : Z ≡ workAfter K I W
 
--- ---- delete
+-- ---- delete: C11
 
 pub record Deletes (K : ℕ) (I W cwd p : List ℕ) (time : ℕ) (r : Answer) (J Z : List ℕ) : Type 0 where
   pub answer : says r ≡ given (changeCall K I (length W) cwd p) (deletedOn (geoAt K I) I (realPath cwd p))

@@ -26,7 +26,7 @@ checkCall K I len = firstOf (openRefusal K I ∷ (when 16 (ltb len (markLong (ge
 unfoldable pub workAfter : ℕ → List ℕ → List ℕ → List ℕ
 workAfter K I W = settle (checkCall K I (length W)) (splice W 0 (zeros (markLong (geoAt K I)))) W
 
--- O4, S7: success exactly where W1 to W5 hold and nothing was given before; else what was given, or 17.
+-- O4, R17, S7: success exactly where W1 to W5 hold and nothing was given before; else what was given, or 17.
 abbrev pub Decides : ℕ → List ℕ → ℕ → Answer → Type 0
 Decides K I len answer.Success = (checkCall K I len ≡ 0) × WellFormed K I
 Decides K I len (answer.Refused r) = (refusalNumber r ≡ firstOf (checkCall K I len ∷ (17 ∷ []))) × (checkCall K I len ≡ 0 → WellFormed K I → ⊥)
