@@ -21,7 +21,7 @@ pub fn blocks_for(size: u32) -> u32
     (size - 1) / CAPACITY + 1
 }
 
-// Why a call is refused: R1 to R18.
+// Why a call is refused, in the order of the rules R.
 pub enum Refusal {
     // 1: the image is empty, no multiple of the block size, over the limit, or ends before the bitmap
     BadImage,
@@ -62,7 +62,7 @@ pub enum Refusal {
 }
 
 impl Refusal {
-    // The number of its rule, R1 to R18.
+    // The number of its rule: R1 is 1.
     pub fn number(self) -> u8
         ensures { λ r. ⌜ r ≡ refusalNumber self ⌝ }
     {

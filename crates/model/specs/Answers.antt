@@ -1,4 +1,4 @@
--- 0. How an answer is said: a value, or the number of a refusal (R1 to R18). Definitions alone.
+-- 0. How an answer is said: a value, or the number of a refusal (the rules R). Definitions alone.
 use mathlib.Core.Bool.{Bool, true, false}
 use mathlib.Core.List.{List, [], _∷_}
 use Prim.Native.Nat.{ℕ, zero, suc}
