@@ -1,4 +1,4 @@
--- 3. What is asked of a walk: an entry by its name, the sum, a listing. Each ends where its answer is known. Definitions alone.
+-- 3. What is asked of a walk: an entry by its name, the sum, a listing. None goes further than it must. Definitions alone.
 use mathlib.Core.List.{List, [], _∷_, _++_}
 use Prim.Native.Nat.{ℕ, zero, suc, _+_}
 use lib.Dec.{ltb}
