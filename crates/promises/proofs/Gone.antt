@@ -1,4 +1,4 @@
--- Demand 2, and the end of demand 3: after an accepted delete nothing is at the path.
+-- S5, and the end of D3: after an accepted delete nothing is at the path.
 use mathlib.Core.Path.{_≡_, refl, sym, ap, _∙_}
 use mathlib.Core.Bool.{true, false}
 use mathlib.Core.Logic.{_⊎_, inl, inr}
@@ -71,7 +71,7 @@ module _ {X : Type 0} (n : Name) where
       none-absent (delete n bs)
       (named-entries n (delete n bs) ∙ ap (named n) (delete-entries n bs) ∙ less-named (entriesOf bs) (omega (arith, h, named-entries n bs)))
 
--- After an accepted delete the path names nothing, in a directory that is there: as demand 3 asks of the end of a sequence.
+-- After an accepted delete the path names nothing, in a directory that is there: as D3 asks of the end of a sequence.
 pub delete-leaves : (K : ℕ) (I W cwd p : List ℕ) (now : ℕ) (r : Answer) (J Z : List ℕ) → Deletes K I W cwd p now r J Z → (w : WellFormed K I) → now < 2 ^ 64
     → r ≡ answer.Success → (v : WellFormed K J) → Vacant maxDepth (wayOf cwd p) (lastOf cwd p) (v .tree)
 unfolding deleted

@@ -111,7 +111,7 @@ module _ (K : ℕ) (I W : List ℕ) (h : Handle) (buf : List ℕ) (now : ℕ) (o
             (subst (λ (y : Entry (Below (s .0))). Bare (s .0) (refiled now z cs (y .name) (y .time) (y .node) .node)) (sym (a .is-file)) tt);
       }
 
-  -- "an accepted write through a handle changes no byte of another file"
+  -- S3, of a write
   pub write-others : Another maxDepth (w .tree) h q m → Untouched (blockSize (geoAt K I)) maxDepth (w .tree) (v .tree) I J q m
   unfolding rewritten
   write-others x =

@@ -1,4 +1,4 @@
--- Demand 2: what an accepted create leaves at its path, so that a version that answers success and does nothing breaks the contract.
+-- S5: what an accepted create leaves at its path, so that a version that answers success and does nothing breaks the contract.
 use mathlib.Core.Path.{_≡_, refl, sym, ap, _∙_, subst}
 use mathlib.Core.Bool.{false}
 use mathlib.Core.Option.{Option, none, some}

@@ -1,4 +1,4 @@
--- Demand 2: what a file holds is read through a handle that an open gives.
+-- S5: what a file holds is read through a handle that an open gives.
 use mathlib.Core.Path.{_≡_, sym, ap, _∙_, subst}
 use mathlib.Core.Bool.{false}
 use mathlib.Core.Option.{some}
