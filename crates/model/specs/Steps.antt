@@ -1,5 +1,5 @@
--- 6. The calls at one path as steps of image and tree, and what D3 says of any number of them. Definitions alone.
--- A step says less than Calls do (size, blocks and addresses are free), so that D3 holds of every call that is one.
+-- 6. The calls at one path as steps of image and tree, and what demand 3 says of any number of them. Definitions alone.
+-- A step says less than Calls do (size, blocks and addresses are free), so that demand 3 holds of every call that is one.
 use mathlib.Core.Path.{_≡_}
 use mathlib.Core.List.{List, []}
 use Prim.Native.Nat.{ℕ, _+_, _-_, _*_, _≤_, _<_}
@@ -21,8 +21,8 @@ pub data Run (g : Geo) (d : ℕ) (p : List Name) (n : Name) : List ℕ → Tree 
   done : {I : List ℕ} {t : Tree d} → Run g d p n I t I t
   call : {I J L : List ℕ} {t u v : Tree d} → Step g d p n I t J u → Run g d p n J u L v → Run g d p n I t L v
 
--- D3: J against the first image I and its tree t. Superblock and bitmap are as before, and so is every block that t reaches (the
--- directories and all other files and devices), but for eight bytes: the time in the holding directory's own entry.
+-- "superblock, bitmap, every directory block and every other file's or device's blocks as they were, but for the time field in the
+-- holding directory's own entry": J against the first image I and its tree t.
 pub record Restored (g : Geo) (d : ℕ) (p : List Name) (I : List ℕ) (t : Tree d) (J : List ℕ) : Type 0 where
   pub top : (i : ℕ) → i < blockSize g → getD J (blockSize g * g .K + i) 0 ≡ getD I (blockSize g * g .K + i) 0
   pub bitmap : (i : ℕ) → i < blockSize g * (dataAt g - mapAt g) → getD J (blockSize g * mapAt g + i) 0 ≡ getD I (blockSize g * mapAt g + i) 0

@@ -14,7 +14,7 @@ abbrev pub All : {A : Type 0} → (A → Type 0) → List A → Type 0
 All P [] = Unit {0}
 All P (x ∷ xs) = P x × All P xs
 
--- ---- W3: the bytes of a name, and how often a name stands in a directory
+-- ---- W3: "names are 1 to 255 bytes of 0x20 to 0x7E without `/`, distinct in a directory"
 
 abbrev pub NameByte : ℕ → Type 0
 NameByte c = (32 ≤ c) × (c ≤ 126) × (c ≡ 47 → ⊥)

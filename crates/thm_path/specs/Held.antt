@@ -8,8 +8,8 @@ use Rattle.model.specs.Tree.{Name, Entry, Below, Tree, lookup, Some, find}
 use Rattle.model.specs.Render.{blocksAt, placeOf, ownTime}
 use Rattle.dir.specs.Hold.{Hold}
 
--- C13: the directory above stands at the names before the last, and its entry of the last name is this one's own, unless this
--- one is the root.
+-- The directory above stands at the names before the last, and its entry of the last name is the directory's own: "The holding
+-- directory's own entry, if it has one".
 pub record Under (B d : ℕ) (p : List Name) (t : Tree d) (h : Hold) : Type 0 where
   pub way : List Name
   pub path : p ≡ way ++ (h .name ∷ [])
@@ -26,7 +26,7 @@ Above B d [] t h = Unit {0}
 Above B d (n ∷ p) t h = Under B d (n ∷ p) t h
 
 -- That is the directory that the names p lead to, from the root of a tree of d levels: it begins at its address, it is as deep as
--- there are names (the root is at 0), and these and its own levels are the tree's.
+-- there are names ("root is 0"), and these and its own levels are the tree's.
 pub record HeldAt (B d : ℕ) (p : List Name) (t : Tree d) (h : Hold) : Type 0 where
   pub there : Some
   pub found : find d p t ≡ some there
