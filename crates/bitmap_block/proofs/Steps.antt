@@ -32,7 +32,7 @@ use Rattle.bitmap_block.specs.Bitmap.{mark, marked, clears, more, fewer,
 
 -- ---- places
 
--- 01: "Index x has its bit in bitmap block a + x/4096, byte (x mod 4096)/8, bit x mod 8 counted from the lowest".
+-- F5, as the rule has it: first the bitmap block of index x, then the byte in that block, then the place in that byte.
 pub mark-place : (K n : ℕ) (I : List ℕ) (x : ℕ) → mark (geo K n) I x ≡ bit I (512 * (K + 2 + x / 4096)) (x % 4096)
 unfolding mark bit
 mark-place K n I x =

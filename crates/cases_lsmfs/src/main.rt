@@ -1,5 +1,5 @@
 // The listing program on further inputs: each title names the input, and what follows is what lsmfs writes for it, which the
-// file stdout holds to the paper. Standard input is the paper's volume and one byte more.
+// file stdout holds to the rules. Standard input is the volume of `lsmfs`'s stored case and one byte more.
 ghost use Prim.Native.Nat.{_≤_};
 
 const K: u32 = 8;
@@ -77,7 +77,7 @@ fn empty_root(img: &mut [u8]) {
     show_first(b"its first 5633 bytes", img, 5633);
 }
 
-// The paper's volume: used 14, blocks 11 to 13 in use, file `m1` and directory `old`.
+// The volume of `lsmfs`'s stored case: used 14, blocks 11 to 13 in use, file `m1` and directory `old`.
 fn build(img: &mut [u8]) {
     set(img, 4113, 14);
     set(img, 5120, 7);

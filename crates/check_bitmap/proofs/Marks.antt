@@ -56,7 +56,7 @@ module _ (g : Geo) (len : ℕ) (s : Sound g len) where
       let l : dataAt g ≤ g .n = omega (arith, a .some-data) in
       omega (arith, mul-le-mul-left (blockSize g) l, mul-comm (blockSize g) (g .n), s .inside-image)
 
--- ---- W5: "a bit is set exactly for each block reached from the root, bits past the data are clear"
+-- ---- W5: the bits are the marks, and clear past the data
 
 -- f x is how often the block of index x is reached; W has the marks.
 module _ (g : Geo) (I W : List ℕ) (s : Sound g (length I)) (room : markLong g ≤ length W) (f : ℕ → ℕ)

@@ -19,7 +19,7 @@ pub not-so : (b : Bool) → (b ≡ true → ⊥) → b ≡ false
 not-so true f = absurd (f refl)
 not-so false f = refl
 
--- "the same" does not mind the order
+-- equality does not mind the order
 pub same-sym : (x y : Name) (b : Bool) → same x y ≡ b → same y x ≡ b
 same-sym x y true e = ap (λ (z : Name). same y z) (same-eq x y e) ∙ same-refl y
 same-sym x y false e = not-so (same y x) (λ t. not-both (ap (λ (z : Name). same x z) (same-eq y x t) ∙ same-refl x) e)

@@ -29,7 +29,7 @@ use Rattle.check_volume.proofs.WalkedBlocks.{then-then, then-same, then
 
 -- ---- the sum of a directory
 
--- the sum of 18 + name length over all entries of the blocks
+-- W4: the bytes of all entries of the blocks
 unfoldable pub rawSum : List RawBlock → ℕ
 rawSum [] = 0
 rawSum (b ∷ bs) = rawsUsed (b .raws) + rawSum bs

@@ -1,7 +1,7 @@
 // The whole check of a volume: W1 to W5 decided on the bytes of an image.
-// specs/Survey.antt says what it computes; the marks of claimed blocks stand in a lent work buffer, one bit a block.
-// A directory's blocks are claimed and its names tested in one pass before its entries are walked; walking a directory calls walking an
-// entry, which calls back for a subdirectory, the depth falling.
+// specs/Survey.antt says what it computes; the marks of claimed blocks stand in the work buffer.
+// A directory's blocks are claimed and its names tested in one pass before its entries are walked. Two functions call each other:
+// one for a directory, one for an entry of it; each directory entered leaves one level less.
 use block::Addr;
 use block::LinkedBlock;
 use dir_entry::DirEntry;

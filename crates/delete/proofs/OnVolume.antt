@@ -70,7 +70,7 @@ node-bare B d (device s cs) h = refl
 node-bare B zero (sub x) h = absurd x
 node-bare B (suc d) (sub x) h = ap not (eq-eqb (sum x) 0 (bare-sum x h))
 
--- The size in an entry of the tree tells exactly whether the entry is bare: "14 directory to delete has entries".
+-- R14: the size in an entry of the tree tells exactly whether the entry is bare.
 module _ (B d : ℕ) (e : Entry (Below d)) where
   pub bare-is : hasEntries (headOf (view B d) e) ≡ false → Bare d (e .node)
   unfolding hasEntries headOf
@@ -166,7 +166,7 @@ module _ (g : Geo) (I : List ℕ) (d : ℕ) (t : Tree d) (l : List ℕ) (v : Vol
             (and-then-ok (w .0) (λ y. accepted (record { dir = h .dir; entry = shown-there o; place = spotOf n (o .dir .1); own = y })) (w .1)),
       )
 
-  -- "5 not found", "6 a directory part isn't a directory"
+  -- R5, R6
   abbrev NotThere : ℕ → Type 0
   NotThere k = (k ≡ 5) ⊎ (k ≡ 6)
 

@@ -1,4 +1,4 @@
--- The limit of a file by numbers: "file up to 2,147,483,647 bytes".
+-- The limit of a file (F13) by numbers.
 use mathlib.Core.Path.{_≡_}
 use mathlib.Core.Bool.{true, false}
 use Prim.Native.Nat.{_+_}

@@ -3,7 +3,7 @@ use Prim.Native.Nat.{ℕ}
 use Rattle.limits.specs.declared.Refusal.{Refusal}
 use Rattle.limits.specs.declared.Refusal.the-variants.{BadImage, NotMfs, BadCount, BadPath, NotFound, WrongKind, Exists, BadName, NoRoom, TooLarge, Stale, BadSeek, EmptyWrite, NotEmpty, TooDeep, ShortWork, Damaged, LostDir}
 
--- 01's table "Refusal numbers".
+-- Each refusal has the number of its rule: R1 is 1.
 abbrev pub refusalNumber : Refusal → ℕ
 refusalNumber BadImage = 1
 refusalNumber NotMfs = 2

@@ -1,4 +1,4 @@
--- The lines of 01's case, and one of a refusal, computed from the definitions.
+-- The lines of the stored case of `lsmfs`, and one of a refusal, computed from the definitions.
 use mathlib.Core.Path.{_≡_, refl, sym}
 use mathlib.Core.List.{[], _∷_}
 use native.Mathlib.Omega.{arith}

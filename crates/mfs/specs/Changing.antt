@@ -25,31 +25,31 @@ use Rattle.mfs.specs.Says.{says}
 use Rattle.mfs.specs.Reading.{OpenIs}
 use Rattle.mfs.specs.Checking.{workAfter, checkRefusal}
 
--- "1, 2, 3, 16, 17 (the whole check), then ... 4": with a work buffer of len bytes
+-- O8, then 4: with a work buffer of len bytes
 unfoldable pub changeCall : ℕ → List ℕ → ℕ → List ℕ → List ℕ → ℕ
 changeCall K I len cwd p = firstOf (checkRefusal K I len ∷ (pathRefusal cwd p ∷ []))
 
 -- ---- create
 
--- What a create of that kind answers, and the image that it leaves.
+-- O9: what a create of that kind answers, and the image that it leaves.
 unfoldable pub createReply : Kind → ℕ → List ℕ → ℕ → List ℕ → List ℕ → Reply Fresh
 createReply k K I len cwd p = given (changeCall K I len cwd p) (createdOn (geoAt K I) I k (realPath cwd p))
 
 unfoldable pub createImage : Kind → ℕ → List ℕ → ℕ → List ℕ → List ℕ → ℕ → List ℕ
 createImage k K I len cwd p time = settle (changeCall K I len cwd p) (createdImage (geoAt K I) I k (realPath cwd p) time) I
 
--- "Opening or creating a file answers a handle at position 0": on the new file x, of 0 bytes
+-- H5: the handle on the new file x, of 0 bytes
 abbrev pub freshHandle : List ℕ → Fresh → Handle
 freshHandle x f =
     record { dir = record { 0 = f .dir }; name = padded 255 x; len = length x; addr = record { 0 = f .block }; size = 0; position = 0 }
 
--- Create a file at the path p, with the work buffer W: the answer o, the image J and the buffer Z.
+-- C9: create a file at the path p, with the work buffer W: the answer o, the image J and the buffer Z.
 pub record CreatesFile (K : ℕ) (I W cwd p : List ℕ) (time : ℕ) (o : OpenOut) (J Z : List ℕ) : Type 0 where
   pub answer : OpenIs (andThen (createReply File K I (length W) cwd p) (λ f. accepted (freshHandle (lastName (realPath cwd p)) f))) o
   pub image : J ≡ createImage File K I (length W) cwd p time
   pub work : Z ≡ workAfter K I W
 
--- Create a directory: "plain success".
+-- C10: create a directory: plain success, without what a handle would hold.
 abbrev pub plainly : Reply Fresh → Reply (Unit {0})
 plainly r = andThen r (λ f. accepted tt)
 
@@ -58,7 +58,7 @@ pub record CreatesDir (K : ℕ) (I W cwd p : List ℕ) (time : ℕ) (r : Answer)
   pub image : J ≡ createImage Dir K I (length W) cwd p time
   pub work : Z ≡ workAfter K I W
 
--- ---- delete
+-- ---- delete: C11
 
 pub record Deletes (K : ℕ) (I W cwd p : List ℕ) (time : ℕ) (r : Answer) (J Z : List ℕ) : Type 0 where
   pub answer : says r ≡ given (changeCall K I (length W) cwd p) (deletedOn (geoAt K I) I (realPath cwd p))
@@ -67,7 +67,7 @@ pub record Deletes (K : ℕ) (I W cwd p : List ℕ) (time : ℕ) (r : Answer) (J
 
 -- ---- write
 
--- "read and write answer the byte count and the new handle": a write of the bytes buf through the handle h.
+-- O11, C12: a write of the bytes buf through the handle h: the byte count and the new handle.
 unfoldable pub writeReply : ℕ → List ℕ → ℕ → Handle → ℕ → Reply Target
 writeReply K I len h size = given (checkRefusal K I len) (targetOf (geoAt K I) I h size)
 

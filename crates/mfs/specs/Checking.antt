@@ -1,4 +1,4 @@
--- The check, in 01's words. Definitions alone.
+-- The check (C3). Definitions alone.
 use mathlib.Core.Path.{_≡_}
 use mathlib.Core.Bool.{not}
 use mathlib.Core.List.{List, [], _∷_}
@@ -18,15 +18,15 @@ use Rattle.check_volume.specs.Whole.{whole}
 use Rattle.mfs.specs.declared.Answer.{Answer}
 use Rattle.mfs.specs.declared.Answer.the-variants as answer
 
--- "1, 2, 3", then "only one shorter than ceil((n-D)/8) bytes gives 16": what is given before the check, with a work buffer of len bytes.
+-- O4, R16: 1, 2, 3, then 16 for a work buffer of len bytes that is too short for the marks: what is given before the check.
 unfoldable pub checkCall : ℕ → List ℕ → ℕ → ℕ
 checkCall K I len = firstOf (openRefusal K I ∷ (when 16 (ltb len (markLong (geoAt K I))) ∷ []))
 
--- "After any call that reaches the check these bytes are zero; the others, and all of them after an earlier refusal, are untouched."
+-- C3: the bytes of the marks are zero once the check was reached; all others stay, and so do these after an earlier refusal.
 unfoldable pub workAfter : ℕ → List ℕ → List ℕ → List ℕ
 workAfter K I W = settle (checkCall K I (length W)) (splice W 0 (zeros (markLong (geoAt K I)))) W
 
--- "The check gives 1, 2, 3, 16, 17": success exactly where W1 to W5 hold.
+-- O4, R17, S7: success exactly where W1 to W5 hold and nothing was given before; else what was given, or 17.
 abbrev pub Decides : ℕ → List ℕ → ℕ → Answer → Type 0
 Decides K I len answer.Success = (checkCall K I len ≡ 0) × WellFormed K I
 Decides K I len (answer.Refused r) = (refusalNumber r ≡ firstOf (checkCall K I len ∷ (17 ∷ []))) × (checkCall K I len ≡ 0 → WellFormed K I → ⊥)
@@ -36,7 +36,7 @@ pub record Checks (K : ℕ) (I W : List ℕ) (r : Answer) (Z : List ℕ) : Type 
   pub answer : Decides K I (length W) r
   pub work : Z ≡ workAfter K I W
 
--- ---- "Changing calls: 1, 2, 3, 16, 17 (the whole check), then": as a number
+-- ---- O8: the check of a changing call, as a number
 
 unfoldable pub checkRefusal : ℕ → List ℕ → ℕ → ℕ
 checkRefusal K I len = firstOf (checkCall K I len ∷ (when 17 (not (whole (geoAt K I) I)) ∷ []))

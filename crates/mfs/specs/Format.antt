@@ -1,4 +1,4 @@
--- Format and usage, in 01's words.
+-- Format (C1) and usage (C2).
 use mathlib.Core.Path.{_≡_}
 use mathlib.Core.List.{List, [], _∷_}
 use Prim.Native.Nat.{ℕ, _+_, _-_, _*_}
@@ -13,8 +13,8 @@ use Rattle.mfs.specs.declared.Answer.{Answer}
 use Rattle.mfs.specs.declared.Space.{Space}
 use Rattle.mfs.specs.Says.{says, Sizes, spaceSays}
 
--- "Format: n is the image's block count. Write the superblock with used count D, zero blocks a to D-1 and block D, allocate D (used is
--- then D+1). All else stays." (Allocating D zeroes it, sets its bit and adds 1 to the used count.)
+-- C1: the superblock with used count D, a bitmap of zeros, then index 0 taken, block D: that zeroes it, sets its bit and makes
+-- the used count D+1.
 unfoldable pub formatted : Geo → List ℕ → List ℕ
 formatted g I = taken g (zeroed (blockSize g) (superWritten g I (dataAt g)) (mapAt g) (dataAt g - mapAt g)) 0
 
@@ -23,15 +23,15 @@ pub record Formats (K : ℕ) (I : List ℕ) (r : Answer) (J : List ℕ) : Type 0
   pub answer : says r ≡ reply (formatRefusal K (length I)) tt
   pub image : J ≡ settle (formatRefusal K (length I)) (formatted (formatGeo K (length I)) I) I
 
--- "so do usage with a count above n": 17 for a used count u.
+-- R17: usage of a volume with used count u, where more is used than there is.
 unfoldable pub overused : Geo → ℕ → ℕ
 overused g u = when 17 (ltb (g .n) u)
 
--- "1, 2, 3, then" that.
+-- O3: 1, 2, 3, then that.
 unfoldable pub usageRefusal : ℕ → List ℕ → ℕ
 usageRefusal K I = firstOf (openRefusal K I ∷ (overused (geoAt K I) (usedCount (geoAt K I) I) ∷ []))
 
--- "Usage: n*512, used*512 and their difference."
+-- C2: all, used and free, in bytes.
 unfoldable pub sizesOf : Geo → ℕ → Sizes
 sizesOf g u = record { size = g .n * blockSize g; used = u * blockSize g; free = g .n * blockSize g - u * blockSize g }
 

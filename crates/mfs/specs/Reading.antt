@@ -1,5 +1,5 @@
--- Open, info, list, read and seek on any image, in 01's words. Definitions alone.
--- "Others: 1, 2, 3, then 4, then the first met of 5, 6, 17 on the walk, then 10 for open."
+-- Open, info, list, read and seek (C4 to C8) on any image. Definitions alone.
+-- They are refused in the orders O5, O6 and O7.
 use mathlib.Core.Path.{_≡_}
 use mathlib.Core.Bool.{Bool, true, false}
 use mathlib.Core.List.{List, [], _∷_}
@@ -36,7 +36,7 @@ use Rattle.mfs.specs.declared.Listing.{Listing}
 use Rattle.mfs.specs.declared.Listing.the-variants as listing
 use Rattle.mfs.specs.Says.{onAnswer, IfRefused}
 
--- "1, 2, 3, then 4"
+-- O5: 1, 2, 3, 4
 unfoldable pub pathCall : ℕ → List ℕ → List ℕ → List ℕ → ℕ
 pathCall K I cwd p = firstOf (openRefusal K I ∷ (pathRefusal cwd p ∷ []))
 
@@ -52,15 +52,15 @@ end K I = geoAt K I .n
 
 -- ---- open
 
--- "a handle at position 0": the holding directory's first address, the name, the file's first address and size.
+-- H1, H5: at position 0; the holding directory's first address, the name, the file's first address and size.
 abbrev pub handleFor : ℕ → DirEntry → List ℕ → Handle
 handleFor a e x = record { dir = record { 0 = a }; name = padded 255 x; len = length x; addr = e .addr; size = e .size; position = 0 }
 
--- what a refused open gives
+-- H6: what a refused open gives
 abbrev pub noHandle : Handle
 noHandle = record { dir = record { 0 = 0 }; name = zeros 255; len = 0; addr = record { 0 = 0 }; size = 0; position = 0 }
 
--- "6 ... open isn't on a file"; "10 file would pass its limit (open: does pass it)"
+-- C4, R6, R10: an entry that is a file's, and not too long
 unfoldable pub openEntry : List ℕ → Held → Reply Handle
 openEntry x h =
     pick (isFile (h .entry .kind)) (pick (ltb fileLimit (h .entry .size)) (refused 10) (accepted (handleFor (h .dir) (h .entry) x))) (refused 6)
@@ -74,7 +74,7 @@ openReply K I cwd p = given (pathCall K I cwd p) (openOn (size K I) (area K I) (
 
 -- ---- info
 
--- "Info: kind, size, time, name." The name stands in the first len bytes of an array of 255, zeros after it.
+-- C5: what info tells. The name stands in the first len bytes of an array of 255, zeros after it.
 pub record About : Type 0 where
   pub kind : Kind
   pub size : ℕ
@@ -85,19 +85,19 @@ pub record About : Type 0 where
 abbrev pub about : Kind → ℕ → ℕ → List ℕ → About
 about k s t x = record { kind = k; size = s; time = t; len = length x; name = padded 255 x }
 
--- what a refused info gives
+-- H6: what a refused info gives
 abbrev pub noAbout : About
 noAbout = record { kind = Dir; size = 0; time = 0; len = 0; name = zeros 255 }
 
 abbrev pub aboutEntry : List ℕ → Held → Reply About
 aboutEntry x h = accepted (about (h .entry .kind) (h .entry .size) (h .entry .time) x)
 
--- "A path given as `/` itself gives a directory, size as the sum, time 0, no name."
+-- C5: the root has no entry of its own, so its size is summed up, its time is 0 and its name empty
 abbrev pub aboutRoot : Summed → Reply About
 aboutRoot (summed.Total s) = accepted (about Dir s 0 [])
 aboutRoot summed.Damaged = refused 17
 
--- of the path p, whose full path is l
+-- P6: of the path p, whose full path is l; the root only where p is a slash and nothing else
 unfoldable pub infoOn : ℕ → ℕ → ℕ → List ℕ → List ℕ → List ℕ → Reply About
 infoOn B D n I l p = pick (same p (slash ∷ [])) (aboutRoot (sumFrom 0 (walk B D n I D))) (andThen (entryOf B D n I l) (aboutEntry (lastName l)))
 
@@ -106,7 +106,7 @@ infoReply K I cwd p = given (pathCall K I cwd p) (infoOn (size K I) (area K I) (
 
 -- ---- list
 
--- "answers bytes and next number"
+-- C6: the bytes of the records, and the number of the entry behind them
 pub record Counts : Type 0 where
   pub bytes : ℕ
   pub next : ℕ
@@ -115,7 +115,7 @@ abbrev pub countsOf : Listed → Reply Counts
 countsOf (listed.Records b i) = accepted (record { bytes = b; next = i })
 countsOf listed.Damaged = refused 17
 
--- "Listing takes all of it as directory part": the full path l, from entry number i on, into a buffer of cap bytes.
+-- P5: all of the full path l leads to the directory; from entry number i on, into a buffer of cap bytes.
 unfoldable pub listOn : ℕ → ℕ → ℕ → List ℕ → List ℕ → ℕ → ℕ → Reply Counts
 listOn B D n I l i cap = andThen (openDir B D n I l) (λ a. countsOf (listFrom cap 0 i (skip i (walk B D n I a))))
 
@@ -167,7 +167,7 @@ abbrev pub listSays : Listing → Reply Counts
 listSays (listing.Records b i) = accepted (record { bytes = b; next = i })
 listSays (listing.Refused r) = refused (refusalNumber r)
 
--- "The buffer's rest stays", and a refusal leaves all of it: the answer q, and the buffer from buf to out, where rs are the records' bytes.
+-- C6, D1: the answer q, and the buffer from buf to out, where rs are the records' bytes. A refusal leaves all of the buffer.
 pub record ListIs (r : Reply Counts) (rs buf out : List ℕ) (q : Listing) : Type 0 where
   pub answer : listSays q ≡ r
   pub buffer : out ≡ onReply r (splice buf 0 rs) buf
@@ -176,7 +176,7 @@ abbrev pub Lists : ℕ → List ℕ → List ℕ → List ℕ → ℕ → List �
 Lists K I cwd p i buf q out =
     ListIs (listReply K I cwd p i (length buf)) (recordsOn (size K I) (area K I) (end K I) I (realPath cwd p) i (length buf)) buf out q
 
--- Read: "1, 2, 3", then what the handle, its directory and its chain are refused by; the count, the handle and the buffer, from buf to out.
+-- C7, O6: 1, 2, 3, then what handle, directory and chain are refused by; the count, the handle and the buffer, from buf to out.
 unfoldable pub readCall : ℕ → List ℕ → Handle → ℕ → ℕ
 readCall K I h len = firstOf (openRefusal K I ∷ (readRefusal (size K I) (area K I) (end K I) I h len ∷ []))
 

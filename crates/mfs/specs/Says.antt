@@ -1,4 +1,4 @@
--- What each answer says on paper: 01's values, or 01's number.
+-- What each answer says: the values of its rule, or the number of a refusal.
 use Prim.Native.Nat.{ℕ}
 use Rattle.model.specs.Answers.{Reply, accepted, refused}
 use Rattle.limits.specs.Refusals.{refusalNumber}
@@ -9,7 +9,7 @@ use Rattle.mfs.specs.declared.Answer.the-variants as answer
 use Rattle.mfs.specs.declared.Space.{Space}
 use Rattle.mfs.specs.declared.Space.the-variants as space
 
--- "format, check, delete and creating a directory answer plain success"
+-- plain success, of format, check, create_dir and delete (C1, C3, C10, C11)
 abbrev pub says : Answer → Reply (Unit {0})
 says answer.Success = accepted tt
 says (answer.Refused r) = refused (refusalNumber r)
@@ -29,7 +29,7 @@ abbrev pub IfRefused : Answer → Type 0 → Type 0
 IfRefused answer.Success P = Unit {0}
 IfRefused (answer.Refused r) P = P
 
--- "n*512, used*512 and their difference"
+-- C2: all, used and free
 pub record Sizes : Type 0 where
   pub size : ℕ
   pub used : ℕ

@@ -1,5 +1,5 @@
-// The public calls on an MFS volume. An image is a lent slice of 512-byte blocks, and k the block of its superblock.
-// No call requires anything: every image gets the one answer that the paper gives it, and a refusal changes nothing.
+// The public calls on an MFS volume. An image is a slice that is lent for the call, and k the block of its superblock.
+// No call requires anything: every image gets the one answer of the rules (docs/RULES.md), and a refusal changes nothing.
 use block::Addr;
 use block::Index;
 use create::Created;

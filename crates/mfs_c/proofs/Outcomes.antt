@@ -1,4 +1,4 @@
--- Demand 1, of each export: any two outcomes that its contract allows are equal, refused ones too.
+-- D1, of each export: any two outcomes that its contract allows are equal, refused ones too.
 use mathlib.Core.Path.{_≡_, sym, ap, _∙_}
 use mathlib.Core.List.{List}
 use Prim.Native.Nat.{ℕ}

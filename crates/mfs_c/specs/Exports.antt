@@ -1,4 +1,4 @@
--- What each export tells its caller: a call of `mfs` was made, and 0 with its values in the out parameters, or the number of its refusal
+-- C15: what each export tells its caller: a call of `mfs` was made, and 0 with its values in the out parameters, or its refusal
 -- with every out parameter as it was. Definitions alone.
 use mathlib.Core.Path.{_≡_}
 use mathlib.Core.List.{List, [], _∷_}
@@ -26,7 +26,7 @@ use Rattle.mfs.specs.Changing.{CreatesFile, CreatesDir, Deletes, Writes}
 
 -- ---- how an answer is told
 
--- 0, or 01's number of the refusal
+-- 0, or the number of the refusal
 abbrev pub told : {A : Type 0} → Reply A → ℕ
 told (accepted a) = 0
 told (refused k) = k
@@ -36,7 +36,7 @@ abbrev pub outOf : {A B : Type 0} → Reply A → (A → B) → B → B
 outOf (accepted a) f old = f a
 outOf (refused k) f old = old
 
--- "A handle holds the holding directory's first address, the name, the file's first address, size and position": four numbers, in the order directory,
+-- H1: a handle of a caller in C: four numbers, in the order directory,
 -- file, size, position, and a name of len bytes in an array of 255.
 abbrev pub handleOf : List ℕ → List ℕ → ℕ → Handle
 handleOf ns x len =

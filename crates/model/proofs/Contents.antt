@@ -187,7 +187,7 @@ module _ (B s c : ℕ) (free buf : List ℕ) (cs : List Cell) (five : 5 ≤ B) (
           ∙ getD-replicate {A = ℕ} more (k - length (stream cs)) 0 0 (omega (arith, wide, length-grown, length-stream B cs (good .cells)))
           ∙ sym (List·getD-eq-default (stream cs) 0 (omega arith))
 
-  -- Stale bytes after the end in a kept block stay: byte j of block i.
+  -- C12: what stands behind the end in a kept block stays: byte j of block i.
   pub stale-stay : (i j : ℕ) → i < blocksFor B (c + length buf) → j < B - 4 → c + length buf ≤ (B - 4) * i + j
       → getD (stream (rewrite B free c buf cs)) ((B - 4) * i + j) 0 ≡ getD (stream cs) ((B - 4) * i + j) 0
   stale-stay i j h k l = rewrite-past ((B - 4) * i + j) l (block-below (B - 4) i (blocksFor B (c + length buf)) j h k)

@@ -1,4 +1,4 @@
--- Demand 3.
+-- D3: steps at one vacant path that end with nothing there restore all but the time.
 use mathlib.Core.Path.{_≡_, refl, sym, ap, _∙_, subst}
 use mathlib.Core.Bool.{true}
 use mathlib.Core.Option.{some}
@@ -172,7 +172,7 @@ pub whole-super : (g : Geo) (u : ℕ) → length (superBytes g u) ≡ blockSize 
 unfolding superBytes
 whole-super g u = length-padded (blockSize g) _ (rw length-append (omega (arith, size-large g, length-bytes 4 (g .n), length-bytes 4 u, length-append (bytes 4 (g .n)) (bytes 4 u))))
 
--- Demand 3.
+-- D3: steps at one vacant path that end with nothing there restore all but the time.
 pub demand3 : (g : Geo) (d : ℕ) (p : List Name) (n : Name) (I I′ : List ℕ) (t t′ : Tree d) → Bytes I → Bytes I′
     → Volume g I d t → Vacant d p n t → Run g d p n I t I′ t′ → Vacant d p n t′ → Restored g d p I t I′
 demand3 g d p n I I′ t t′ b b′ w v r u =

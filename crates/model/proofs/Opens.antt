@@ -1,4 +1,4 @@
--- Refusals 1, 2 and 3: the laws of a list of tests in 01's order, what each test says, and that a call passes them exactly where the numbers are sound.
+-- R1 to R3: the laws of a list of tests, what each test says, and that a call passes them exactly where the numbers are sound.
 use mathlib.Core.Path.{_≡_, refl, ap, _∙_}
 use mathlib.Core.Bool.{Bool, true, false, not, _||_}
 use mathlib.Core.Logic.{_⊎_, inl, inr}

@@ -28,7 +28,7 @@ fn renew_at(img: &mut [u8], p: Place, size: u32, time: u64)
     wire::put(img, at + 9, 8, time);
 }
 
-// The new size and the time go into a directory's own entry, if it has one.
+// C13: the new size and the time in a directory's own entry; the root has none.
 fn renew(img: &mut [u8], own: Own, size: u32, time: u64)
     requires { ⌜ OwnIn (now img) own ⌝ }
     ensures { λ _. ⌜ now (img .exit) ≡ ownRenewed blockBytes (now (img .entry)) own size time ⌝ }

@@ -143,7 +143,7 @@ pub fn realpath(full: &mut [u8], cwd: &[u8], path: &[u8]) -> Real
     joined(full, cwd, path)
 }
 
-// Where a path of len bytes ends without its trailing slashes, which go if the length is above 1.
+// Where a path of len bytes ends without the slashes at its end; a slash alone stays (P3).
 fn trim(full: &[u8], len: usize) -> usize
     requires { ⌜ len ≤ length (now full) ⌝ }
     ensures { λ r. ⌜ (r ≤ len) × (take r (now (full .entry)) ≡ trimmed (take len (now (full .entry)))) ⌝ }

@@ -102,7 +102,7 @@ skip-past (suc i) (item e a o x w) h l = skip-past i w h (omega arith)
 skip-past (suc i) finished h l = refl
 skip-past (suc i) damaged h l = absurd h
 
--- "A number past the last entry gives 0 bytes and i."
+-- C6: from a number past the last entry, 0 bytes and that number.
 pub list-past : (cap i : ℕ) (w : Walk) → Whole w → items w ≤ i → listFrom cap 0 i (skip i w) ≡ listed.Records 0 i
 unfolding listFrom
 list-past cap i w h l = ap (listFrom cap 0 i) (skip-past i w h l)

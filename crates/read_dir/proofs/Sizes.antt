@@ -22,7 +22,7 @@ skip-count (suc i) (item e a o x w) = omega (arith, skip-count i w)
 skip-count (suc i) finished = omega arith
 skip-count (suc i) damaged = omega arith
 
--- the sum of 18 + name length over the entries, whether or not the walk ends
+-- W4: the bytes of the entries, whether or not the walk ends
 unfoldable pub weigh : Walk → ℕ
 weigh (item e a o x w) = 18 + e .len + weigh w
 weigh finished = 0

@@ -40,7 +40,7 @@ module _ (K : ℕ) (I : List ℕ) where
 -- ---- listings
 
 module _ {X : Type 0} where
-  -- "records of kind 1, size 4, time 8, length 1, name": how many bytes the records of these entries have, and the bytes.
+  -- C6: how many bytes the records of these entries have, and the bytes.
   unfoldable pub recordsLong : List (Entry X) → ℕ
   recordsLong [] = 0
   recordsLong (e ∷ es) = 14 + length (e .name) + recordsLong es
@@ -49,7 +49,7 @@ module _ {X : Type 0} where
   recordsOf v [] = []
   recordsOf v (e ∷ es) = recordOf (headOf v e) (e .name) ++ recordsOf v es
 
-  -- "while the bytes so far plus the record are strictly fewer than the buffer's length": how many of these entries go into a buffer of
+  -- C6: how many of these entries go into a buffer of
   -- cap bytes, after b bytes.
   unfoldable pub fitting : ℕ → ℕ → List (Entry X) → ℕ
   fitting cap b [] = 0

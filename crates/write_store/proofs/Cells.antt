@@ -95,7 +95,7 @@ relinked B I a z v body h k s =
 
 -- ---- new blocks
 
--- "its 512 bytes become zero"
+-- F6: a block that was just taken is zero
 unfoldable pub empties : Geo → List ℕ → List Cell
 empties g [] = []
 empties g (w ∷ ws) = emptyCell g w ∷ empties g ws

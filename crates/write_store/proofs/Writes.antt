@@ -447,7 +447,7 @@ module _ (g : Geo) (I : List ℕ) (d : ℕ) (t : Tree d) (v : Volume g I d t) (p
 
 -- ---- the theorem, with its parts named as a caller has them
 
--- For every well-formed volume and every file in it: the image that `write` leaves (its contract) is the one that 01 says (`Writes`).
+-- C12: for every well-formed volume and every file in it, the image that `write` leaves (its contract) is that of `TreeWrites`.
 pub wrote-is : (g : Geo) (I : List ℕ) (t : Tree maxDepth) (p : List Name) (n : Name) (s : Some) (x : Entry (Below (s .0))) (k z : ℕ) (cs : List Cell) (e : DirEntry) (at : Place) (c : ℕ) (buf : List ℕ) (now : ℕ)
     → Volume g I maxDepth t → find maxDepth p t ≡ some s → lookup n (s .1) ≡ some x → x ≡ fileEntry n k z cs → e ≡ headOf (view (blockSize g) (s .0)) x → at ≡ spotOf n (s .1)
     → 1 ≤ length buf → c ≤ z → c + length buf ≤ fileLimit → blocksFor (blockSize g) (c + length buf) - length cs ≤ length (freeBlocks g maxDepth t) → now < 2 ^ 64

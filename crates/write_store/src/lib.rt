@@ -181,7 +181,7 @@ fn renew_entry(img: &mut [u8], s: SuperBlock, p: Place, size: u32, time: u64)
     wire::put(img, at + 9, 8, time);
 }
 
-// The file of entry e, which stands at `place`, becomes its first c bytes and then the buffer.
+// C12: the buffer is written at position c of the file of entry e, which stands at `place`.
 pub fn write(
     img: &mut [u8],
     s: SuperBlock,

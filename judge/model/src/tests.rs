@@ -1,4 +1,4 @@
-//! 01's marked examples, its example volume, each clause of a well-formed volume, and the life of a file.
+//! The examples E1 to E12, the volume of `lsmfs`'s stored case, each clause of W1 to W5, and the life of a file.
 use crate::check::file_blocks;
 use crate::path::{pieces, split};
 use crate::*;
@@ -109,7 +109,7 @@ fn example_12_where_an_entry_goes() {
 }
 
 #[test]
-fn the_example_volume_lists_as_the_paper_prints_it() {
+fn the_example_volume_lists_as_it_should() {
     let image = example_volume();
     assert_eq!(check(&image, K, &mut work()), Ok(()));
     let mut buf = [0; 64];
