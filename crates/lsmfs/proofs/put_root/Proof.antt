@@ -1,38 +1,38 @@
 use Prim.Native.Nat.{_-_, _^_, _<_}
 use native.Mathlib.Omega.{arith}
-use Rattle.lsmfs_pages.proofs.put_root.Statement.{statement}
-use Rattle.lsmfs_pages.proofs.put_root.Tie as tie
-use Rattle.lsmfs_pages.proofs.put_root.Reads as reads
-use Rattle.lsmfs_pages.proofs.put_root.Lts as lts
-use Rattle.lsmfs_pages.proofs.put_page.Reads as put-page-reads
+use Rattle.lsmfs.proofs.put_root.Statement.{statement}
+use Rattle.lsmfs.proofs.put_root.Tie as tie
+use Rattle.lsmfs.proofs.put_root.Reads as reads
+use Rattle.lsmfs.proofs.put_root.Lts as lts
+use Rattle.lsmfs.proofs.put_page.Reads as put-page-reads
 
 abbrev Inv-loop : tie.InvT-loop
-Inv-loop img i₀ next₀ i next = (i < 2 ^ 32) × (next < 2 ^ 32)
+Inv-loop img more i₀ next₀ i next = (i < 2 ^ 32) × (next < 2 ^ 32)
 
 abbrev μ-loop : tie.MeasureT-loop
-μ-loop img i₀ next₀ i next = 2 ^ 32 - i
+μ-loop img more i₀ next₀ i next = 2 ^ 32 - i
 
--- src/lib.rt:64:9
+-- src/main.rt:64:9
 put-page-requires : tie.Need-put-page-requires Inv-loop μ-loop
 put-page-requires c κs = tt
 
--- src/lib.rt:65:5
+-- src/main.rt:65:5
 loop-holds : tie.Need-loop-holds Inv-loop μ-loop
 loop-holds c = (omega arith, omega arith)
 
--- src/lib.rt:67:9
+-- src/main.rt:67:9
 put-page-requires-2 : tie.Need-put-page-requires-2 Inv-loop μ-loop
 put-page-requires-2 c κs = tt
 
--- src/lib.rt:65:5
+-- src/main.rt:65:5
 loop-less : tie.Need-loop-less Inv-loop μ-loop
 loop-less c = omega arith
 
--- src/lib.rt:65:5
+-- src/main.rt:65:5
 loop-again : tie.Need-loop-again Inv-loop μ-loop
 loop-again c = (omega arith, omega arith)
 
--- src/lib.rt:62:1
+-- src/main.rt:62:1
 returns : tie.Need-returns Inv-loop μ-loop
 returns c = tt
 
