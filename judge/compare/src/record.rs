@@ -1,4 +1,4 @@
-//! The fixed list: calls inside the domain with the original's answers, as lines that the program `replay` reads. Its form is described
+//! The fixed list: calls inside the domain with the original's answers, as lines that the program `cases` reads. Its form is described
 //! in judge/README.md.
 use crate::call::{Answer, Call, Place, Seek};
 use crate::domain::outside;
