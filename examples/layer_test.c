@@ -1,7 +1,8 @@
 /*
  * What the inline functions of mfs.h promise beyond the exports: structs stay on a refusal, names
- * end with a zero byte, records are walked and never past the bytes given, every number has its
- * words.
+ * end with a zero byte, records are walked and never past the bytes given, a const volume answers as
+ * the volume does, every number has its words. It has no cast, so that examples/run can see that the
+ * headers have none that a compiler of C++ warns of.
  */
 #include <stdio.h>
 #include <stdlib.h>
@@ -101,6 +102,77 @@ static void records_are_walked(void)
     EXPECT(at == bytes);
 }
 
+/* The calls that change nothing, each on the volume and on a const volume in the same image. */
+static void a_const_volume_answers_the_same(void)
+{
+    const mfs_const_volume by_hand = {image, sizeof image, 8, "/"};
+    const mfs_const_volume made = mfs_const_of(&volume);
+    mfs_handle handle, other;
+    mfs_entry entry, same;
+    uint64_t totals[6];
+    uint8_t buf[300], listed[300];
+    char text[2], again[2];
+    size_t bytes, count;
+    uint32_t next, number;
+    EXPECT(made.image == image && made.image_len == sizeof image && made.k == 8);
+    EXPECT(same_text(made.cwd, by_hand.cwd));
+    EXPECT(mfs_const_check(&made, work, sizeof work) == MFS_OK);
+    EXPECT(mfs_const_check(&made, work, 0) == MFS_SHORT_WORK);
+    EXPECT(mfs_usage(&volume, totals, totals + 1, totals + 2) == MFS_OK);
+    EXPECT(mfs_const_usage(&by_hand, totals + 3, totals + 4, totals + 5) == MFS_OK);
+    EXPECT(memcmp(totals, totals + 3, 3 * sizeof *totals) == 0);
+    EXPECT(mfs_list(&volume, "/", 0, buf, sizeof buf, &bytes, &next) == MFS_OK);
+    EXPECT(mfs_const_list(&by_hand, "/", 0, listed, sizeof listed, &count, &number) == MFS_OK);
+    EXPECT(count == bytes && number == next && memcmp(listed, buf, bytes) == 0);
+    EXPECT(mfs_create_file(&volume, "/both", 5, &handle) == MFS_OK);
+    EXPECT(mfs_write(&volume, &handle, "ab", 2, 6) == MFS_OK);
+    EXPECT(mfs_info(&volume, "/both", &entry) == MFS_OK);
+    EXPECT(mfs_const_info(&by_hand, "/both", &same) == MFS_OK);
+    EXPECT(same.kind == entry.kind && same.size == entry.size && same.time == entry.time);
+    EXPECT(same_text(same.name, entry.name) && same.name_len == entry.name_len);
+    EXPECT(mfs_open(&volume, "/both", &handle) == MFS_OK);
+    EXPECT(mfs_const_open(&by_hand, "/both", &other) == MFS_OK);
+    EXPECT(memcmp(other.number, handle.number, sizeof other.number) == 0);
+    EXPECT(mfs_read(&volume, &handle, text, sizeof text, &bytes) == MFS_OK && bytes == 2);
+    EXPECT(mfs_const_read(&by_hand, &other, again, sizeof again, &count) == MFS_OK && count == 2);
+    EXPECT(memcmp(text, "ab", 2) == 0 && memcmp(again, "ab", 2) == 0);
+    EXPECT(mfs_const_open(&by_hand, "/none", &other) == MFS_NOT_FOUND);
+    EXPECT(mfs_delete(&volume, "/both", 7) == MFS_OK);
+}
+
+/* A buffer that is too short for the next record gets the answer of a directory's end. */
+static void a_short_buffer_looks_like_the_end(void)
+{
+    uint8_t buf[MFS_LIST_BYTES_MIN];
+    size_t bytes;
+    uint32_t next;
+    EXPECT(MFS_LIST_BYTES_MIN == 270);
+    EXPECT(mfs_list(&volume, "/", 0, buf, sizeof buf - 1, &bytes, &next) == MFS_OK);
+    EXPECT(bytes == 0 && next == 0);
+    EXPECT(mfs_list(&volume, "/", 0, buf, sizeof buf, &bytes, &next) == MFS_OK);
+    EXPECT(bytes == 269 && next == 1);
+    EXPECT(mfs_list(&volume, "/", 1, buf, sizeof buf, &bytes, &next) == MFS_OK);
+    EXPECT(bytes == 0 && next == 1);
+}
+
+/* Another handle's write of as many bytes leaves a handle current, one of more bytes does not. */
+static void a_handle_is_current_while_the_size_stays(void)
+{
+    mfs_handle old, other;
+    char text[3];
+    size_t bytes;
+    EXPECT(mfs_create_file(&volume, "/kept", 0, &other) == MFS_OK);
+    EXPECT(mfs_write(&volume, &other, "abc", 3, 0) == MFS_OK);
+    EXPECT(mfs_open(&volume, "/kept", &old) == MFS_OK);
+    EXPECT(mfs_seek_start(&other, 0) == MFS_OK);
+    EXPECT(mfs_write(&volume, &other, "xyz", 3, 1) == MFS_OK);
+    EXPECT(mfs_read(&volume, &old, text, sizeof text, &bytes) == MFS_OK);
+    EXPECT(bytes == 3 && memcmp(text, "xyz", 3) == 0);
+    EXPECT(mfs_write(&volume, &other, "!", 1, 2) == MFS_OK);
+    EXPECT(mfs_read(&volume, &old, text, sizeof text, &bytes) == MFS_STALE);
+    EXPECT(mfs_delete(&volume, "/kept", 3) == MFS_OK);
+}
+
 static const uint8_t one_record[16] = {1,    0x81, 0x82, 0x83, 0x84, 0x91, 0x92, 0x93,
                                        0x94, 0x95, 0x96, 0x97, 0x98, 2,    'm',  '1'};
 
@@ -153,12 +225,16 @@ static void every_number_has_its_words(void)
 int main(void)
 {
     EXPECT(sizeof work == 525);
+    EXPECT(MFS_CHECK_VERSION());
     EXPECT(MFS_WORK_BYTES(8 * 512) == 1 && MFS_WORK_BYTES(9 * 512) == 2);
     EXPECT(mfs_format(&volume) == MFS_OK);
     structs_stay_on_a_refusal();
     names_end_with_a_zero_byte();
     seeks_go_from_start_position_and_end();
     records_are_walked();
+    a_const_volume_answers_the_same();
+    a_short_buffer_looks_like_the_end();
+    a_handle_is_current_while_the_size_stays();
     other_bytes_are_no_record();
     every_number_has_its_words();
     EXPECT(mfs_check(&volume) == MFS_OK);

@@ -2,7 +2,7 @@
  * A collector of meter readings on a volume in memory: one counter to a file, and a log. Prints
  * each call with its answer, and ends at the first answer that it does not expect.
  *
- * Written so that it is C99 and C++ at once. examples/run compiles and runs it as both.
+ * Written so that it is C99 and C++98 at once. examples/run compiles and runs it as both.
  */
 #include <inttypes.h>
 #include <stdio.h>
@@ -42,7 +42,7 @@ static void print_rest(const mfs_volume *volume, mfs_handle *handle)
     char text[64];
     size_t bytes;
     must("read", mfs_read(volume, handle, text, sizeof text, &bytes));
-    printf("  %zu bytes: %.*s\n", bytes, (int)bytes, text);
+    printf("  %d bytes: %.*s\n", (int)bytes, (int)bytes, text);
 }
 
 static char kind_letter(mfs_kind kind)

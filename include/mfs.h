@@ -1,12 +1,14 @@
 /*
- * MFS, proved: the file system of MOROS on a lent image of 512-byte blocks. For C99 and C++.
+ * MFS, proved: the file system of MOROS on a lent image of 512-byte blocks. For C99 and C++98 and
+ * all later ones.
  *
- * Link with libmfs_c.a (x86-64; made by `rt staticlib mfs_c`). The archive needs memcpy and memset
- * and nothing else: no allocation, no operating system, no global state.
+ * Link with libmfs_c (x86-64; made by `rt staticlib mfs_c`). It needs memcpy and memset and nothing
+ * else: no allocation, no operating system, no global state.
  *
- * Two layers are declared here. The exports, mfs_c_*, are the proved functions; they take plain
- * pointers and lengths. Over them stand small inline functions, mfs_*, that take a volume and paths
- * as strings, and add no rule of their own. Most programs want those:
+ * There are two layers. The exports, mfs_c_*, are the proved functions; mfs_c.h declares them, with
+ * the limits and the refusals. They take plain pointers and lengths. Over them stand the small
+ * inline functions of this header, mfs_*, that take a volume and paths as strings, and add no rule
+ * of their own:
  *
  *     static uint8_t image[4200 * MFS_BLOCK_SIZE];
  *     static uint8_t work[MFS_WORK_BYTES(sizeof image)];
@@ -21,7 +23,7 @@
  * - Answers. A call answers MFS_OK, which is 0, or the number of its refusal. Every image, path,
  *   handle and buffer gets an answer, also a damaged image and a handle with made-up fields:
  *   nothing has to be tested beforehand. Where several refusals apply, the call gives the first one
- *   in the order of its list.
+ *   in the order of its list, which stands with the export of its name in mfs_c.h.
  * - A refusal changes nothing. Image, handle, read buffer and every out parameter stay byte for
  *   byte as they were; only the work buffer may change, as the next point says.
  * - The work buffer is for the check of the whole volume, which the check itself and every changing
@@ -34,17 +36,31 @@
  *   be NULL, also where a length is 0: give the address of any byte then. Buffers must not overlap:
  *   one that a call may write (the image of a changing call, the work buffer, a read buffer, a
  *   handle, an out parameter) shares no byte with another buffer of that call.
+ * - Handles. A call looks for a handle's file anew: in the handle's directory, a file of the
+ *   handle's name, first address and size. Where there is none, the handle is stale (11): the file
+ *   was deleted, or another handle's write gave it another size. Where there is one, the handle is
+ *   current. So it stays current when another handle rewrites the file's bytes and leaves its size,
+ *   and becomes current again when name, first address and size have all come back.
  * - Time is the caller's: a number of 64 bits that is stored in an entry and never looked at.
  * - Stack: allow 28 KiB for the check and the changing calls, 4 KiB for the others (measured on
  *   x86-64 with directories to depth 16: 25,312 and 2,464 bytes).
  * - Threads: calls may run at the same time where none changes a buffer that another one uses.
+ *
+ * The image is one addressable slice: a buffer, or a mapping of the file or the device. A call
+ * changes the slice and stores nothing elsewhere; to bring the changed blocks to a device is the
+ * caller's part. A power cut in the middle of that can leave some of them stored and others not.
+ * After a create, a delete, or a write that adds or frees blocks, the volume may then be one that
+ * the check refuses, and so every changing call (17); the bytes of the other files stand. Where
+ * that must not happen, keep what the changed blocks held (a copy of the image, or a log of them
+ * beside it) until all are stored, and put it back after a cut.
  *
  * K is the number of the block that holds the superblock (8,192 in MOROS itself). Blocks below K
  * and block K + 1 are never touched.
  *
  * A path that starts with '/' is a full path. Another one is taken from the working directory, cwd,
  * which must start with '/' then. "." and ".." are plain names. Slashes at the end are dropped, but
- * not in a listing. An empty piece between two slashes is not found.
+ * not in a listing. An empty piece between two slashes is not found. mfs_refusal_text(MFS_BAD_PATH)
+ * says which bytes a path may have.
  *
  * Allocation reaches 4096 * floor(n / 4096) blocks of the data area at most, so on a volume of
  * fewer than 4,096 blocks nothing can be created: MFS_NO_ROOM.
@@ -57,46 +73,20 @@
 #include <stdint.h>
 #include <string.h>
 
+#include "mfs_c.h"
+
+/* Casts that compilers of C++ do not warn of. */
+#ifdef __cplusplus
+#define MFS_VALUE_AS(type, value) static_cast<type>(value)
+#define MFS_POINTER_AS(type, pointer) reinterpret_cast<type>(pointer)
+#else
+#define MFS_VALUE_AS(type, value) ((type)(value))
+#define MFS_POINTER_AS(type, pointer) ((type)(pointer))
+#endif
+
 #ifdef __cplusplus
 extern "C" {
 #endif
-
-/* ---- Limits ---------------------------------------------------------------------------------- */
-
-#define MFS_BLOCK_SIZE 512           /* bytes of a block */
-#define MFS_IMAGE_MAX_BLOCKS 8388608 /* blocks of the largest image (4 GiB) */
-#define MFS_NAME_MAX 255             /* bytes of the longest name */
-#define MFS_PATH_MAX 1024            /* bytes of the longest full path, each 0x20 to 0x7E */
-#define MFS_FILE_MAX 2147483647      /* bytes of the largest file */
-#define MFS_DEPTH_MAX 16             /* depth of the deepest directory; the root is at 0 */
-
-/* Bytes of work buffer that are enough for any volume in an image of image_len bytes. */
-#define MFS_WORK_BYTES(image_len) (((image_len) / MFS_BLOCK_SIZE + 7) / 8)
-
-/* ---- Refusals -------------------------------------------------------------------------------- */
-
-/* Why a call is refused. N is n - K - 2: the blocks of bitmap and data area together. */
-typedef enum mfs_refusal {
-    MFS_OK = 0,           /* not refused */
-    MFS_BAD_IMAGE = 1,    /* image empty, no multiple of 512, over the limit, or no block K + 2 */
-    MFS_NOT_MFS = 2,      /* another signature, version or size code in block K */
-    MFS_BAD_COUNT = 3,    /* n above the image's blocks, N below 2, or N mod 4097 = 1 */
-    MFS_BAD_PATH = 4,     /* full path too long or a byte of it; a needed cwd without '/' first */
-    MFS_NOT_FOUND = 5,    /* nothing of that name, or (not for create) an empty last name */
-    MFS_WRONG_KIND = 6,   /* part of the path no directory; open of no file; list of no directory */
-    MFS_EXISTS = 7,       /* create: the name is there */
-    MFS_BAD_NAME = 8,     /* create: last name empty or over 255 bytes */
-    MFS_NO_ROOM = 9,      /* fewer blocks free within reach than the call must add */
-    MFS_TOO_LARGE = 10,   /* file would pass 2,147,483,647 bytes; open: it does */
-    MFS_STALE = 11,       /* handle's own fields out of range, or no such file in its directory */
-    MFS_BAD_SEEK = 12,    /* target below 0 or above the file's size */
-    MFS_EMPTY_WRITE = 13, /* write of no bytes */
-    MFS_NOT_EMPTY = 14,   /* delete: the directory has entries */
-    MFS_TOO_DEEP = 15,    /* the new directory would be at depth 17 */
-    MFS_SHORT_WORK = 16,  /* work buffer shorter than ceil((n - D) / 8) bytes */
-    MFS_DAMAGED = 17,     /* check, changing calls: not well formed; others: damage on the way */
-    MFS_LOST_DIR = 18     /* holding directory's own entry missing; never after a passed check */
-} mfs_refusal;
 
 /* The reason of a refusal in words. Never NULL. */
 static inline const char *mfs_refusal_text(uint32_t number)
@@ -145,139 +135,7 @@ static inline const char *mfs_refusal_text(uint32_t number)
     }
 }
 
-/* What an entry is. */
-typedef enum mfs_kind {
-    MFS_KIND_DIR = 0,
-    MFS_KIND_FILE = 1,
-    MFS_KIND_DEVICE = 2
-} mfs_kind;
-
-/* ---- The exports -----------------------------------------------------------------------------
- *
- * A buffer is a pointer and the number of its bytes. A handle is three parameters: number (the
- * first address of the directory that holds the file, the file's first address, size, position),
- * name (255 bytes, zeros after the name) and len, the name's bytes. Out parameters are written
- * where the answer is 0, and stay as they were otherwise.
- */
-
-/*
- * Makes the whole image a volume with an empty root directory: n is the image's block count.
- * Block K and blocks K + 2 to D are written, no other.
- * Refusals: 1, 3.
- */
-uint32_t mfs_c_format(uint8_t *img, size_t img_len, uint32_t k);
-
-/*
- * Bytes of the volume, of its used blocks, and the rest, by the superblock's counts.
- * Refusals: 1, 2, 3, 17 (a used count above n).
- */
-uint32_t mfs_c_usage(const uint8_t *img, size_t img_len, uint32_t k,
-                     uint64_t *size, uint64_t *used, uint64_t *free);
-
-/*
- * Accepts exactly the images that are well-formed volumes.
- * Refusals: 1, 2, 3, 16, 17.
- */
-uint32_t mfs_c_check(const uint8_t *img, size_t img_len, uint32_t k,
-                     uint8_t *work, size_t work_len);
-
-/*
- * Opens the file at a path: number, name and len become a handle at position 0.
- * Refusals: 1, 2, 3, 4, the first of 5, 6, 17 on the way along the path, 10.
- */
-uint32_t mfs_c_open(const uint8_t *img, size_t img_len, uint32_t k,
-                    const uint8_t *cwd, size_t cwd_len,
-                    const uint8_t *path, size_t path_len,
-                    uint32_t number[4], uint8_t name[255], size_t *len);
-
-/*
- * Kind (an mfs_kind), size, time and name of what stands at a path. A directory's size is the sum
- * of 18 + name length over its entries. The path "/" gives the root: a directory, time 0, no name.
- * All 255 bytes of name are written, zeros after the name.
- * Refusals: 1, 2, 3, 4, the first of 5, 6, 17 on the way along the path.
- */
-uint32_t mfs_c_info(const uint8_t *img, size_t img_len, uint32_t k,
-                    const uint8_t *cwd, size_t cwd_len,
-                    const uint8_t *path, size_t path_len,
-                    uint8_t *kind, uint32_t *size, uint64_t *time, uint8_t name[255], size_t *len);
-
-/*
- * Lists the directory at a path from entry number i on, counted from 0. Records are put into buf as
- * long as all of them together are shorter than buf_len; the rest of buf stays. A record is kind (1
- * byte), size (4), time (8), name length (1) and name, with numbers big-endian. bytes counts what
- * was put into buf, and next is the number of the entry after it. With no entry left, bytes is 0
- * and next is i.
- * Refusals: 1, 2, 3, 4, the first of 5, 6, 17 on the way along the path and through the entries, as
- * far as the record that does not fit.
- */
-uint32_t mfs_c_list(const uint8_t *img, size_t img_len, uint32_t k,
-                    const uint8_t *cwd, size_t cwd_len,
-                    const uint8_t *path, size_t path_len,
-                    uint32_t i, uint8_t *buf, size_t buf_len, size_t *bytes, uint32_t *next);
-
-/*
- * Reads from the position on, as many bytes as buf has room for and the file has. bytes counts
- * them; the rest of buf stays. The position in number moves behind them. At the file's end bytes
- * is 0.
- * Refusals: 1, 2, 3, 11 (the handle's own fields), the first of 11, 17 on the way through its
- * directory, 17 on the way through the file.
- */
-uint32_t mfs_c_read(const uint8_t *img, size_t img_len, uint32_t k,
-                    uint32_t number[4], const uint8_t name[255], size_t len,
-                    uint8_t *buf, size_t buf_len, size_t *bytes);
-
-/*
- * Move the position in number: to `to`, by `by`, or to the size plus `by`. Targets from 0 to the
- * size are accepted. The size is the handle's; the image is not looked at.
- * Refusals: 11 (the handle's own fields), 12.
- */
-uint32_t mfs_c_seek_start(uint32_t number[4], const uint8_t name[255], size_t len, uint32_t to);
-uint32_t mfs_c_seek_current(uint32_t number[4], const uint8_t name[255], size_t len, int32_t by);
-uint32_t mfs_c_seek_end(uint32_t number[4], const uint8_t name[255], size_t len, int32_t by);
-
-/*
- * Creates a file of 0 bytes at a path and opens it: number, name and len become its handle. The
- * holding directory's own entry gets its new size and the time.
- * Refusals: 1, 2, 3, 16, 17, 4, 8, the first of 5, 6 on the way along the path, 7, 9, 18.
- */
-uint32_t mfs_c_create_file(uint8_t *img, size_t img_len, uint32_t k,
-                           const uint8_t *cwd, size_t cwd_len,
-                           const uint8_t *path, size_t path_len,
-                           uint64_t time, uint8_t *work, size_t work_len,
-                           uint32_t number[4], uint8_t name[255], size_t *len);
-
-/*
- * Creates an empty directory at a path. The holding directory's own entry gets its new size and the
- * time.
- * Refusals: 1, 2, 3, 16, 17, 4, 8, the first of 5, 6 on the way along the path, 15, 7, 9, 18.
- */
-uint32_t mfs_c_create_dir(uint8_t *img, size_t img_len, uint32_t k,
-                          const uint8_t *cwd, size_t cwd_len,
-                          const uint8_t *path, size_t path_len,
-                          uint64_t time, uint8_t *work, size_t work_len);
-
-/*
- * Deletes the file, the device or the empty directory at a path. The holding directory's own entry
- * gets its new size and the time.
- * Refusals: 1, 2, 3, 16, 17, 4, the first of 5, 6 on the way along the path, 14, 18.
- */
-uint32_t mfs_c_delete(uint8_t *img, size_t img_len, uint32_t k,
-                      const uint8_t *cwd, size_t cwd_len,
-                      const uint8_t *path, size_t path_len,
-                      uint64_t time, uint8_t *work, size_t work_len);
-
-/*
- * Writes all of buf at the position, or nothing. The file ends behind buf: bytes that followed are
- * gone. Its entry gets the new size and the time, number the new size and position, and bytes is
- * buf_len. Other handles on the file are stale from then on if its size has changed.
- * Refusals: 1, 2, 3, 16, 17, 13, 11 (also for a directory not reached from the root), 10, 9.
- */
-uint32_t mfs_c_write(uint8_t *img, size_t img_len, uint32_t k,
-                     uint32_t number[4], const uint8_t name[255], size_t len,
-                     const uint8_t *buf, size_t buf_len,
-                     uint64_t time, uint8_t *work, size_t work_len, size_t *bytes);
-
-/* ---- Over the exports: volumes, handles and strings -------------------------------------------
+/* ---- Volumes, handles and strings -------------------------------------------------------------
  *
  * Each function is the export of the same name, with its refusals in its order. A string ends with
  * a zero byte. A struct that a call fills in stays as it was where the call is refused.
@@ -296,6 +154,14 @@ typedef struct mfs_volume {
     size_t work_len; /* MFS_WORK_BYTES(image_len) is enough */
     const char *cwd; /* "/" for the root */
 } mfs_volume;
+
+/* A volume that is only read, as one in a mapping without write access: mfs_const_* take it. */
+typedef struct mfs_const_volume {
+    const uint8_t *image;
+    size_t image_len;
+    uint32_t k;
+    const char *cwd;
+} mfs_const_volume;
 
 /* An open file. Nothing is held open: a handle may be copied, kept for long and thrown away. */
 typedef struct mfs_handle {
@@ -322,172 +188,248 @@ typedef struct mfs_record {
     size_t name_len;
 } mfs_record;
 
-/* Bytes of a record before its name. */
-#define MFS_RECORD_HEADER 14
-/* Bytes of a buffer for mfs_list that has room for any one record. */
-#define MFS_LIST_BYTES_MIN (MFS_RECORD_HEADER + MFS_NAME_MAX + 1)
-
 /* The bytes of a string, for the exports. */
+MFS_NONNULL
 static inline const uint8_t *mfs_bytes_of(const char *text)
 {
-    return (const uint8_t *)text;
+    return MFS_POINTER_AS(const uint8_t *, text);
 }
 
-/* Makes the whole image a volume with an empty root directory. Refusals: 1, 3. */
-static inline mfs_refusal mfs_format(const mfs_volume *volume)
+/* An export's answer by its name. */
+static inline mfs_refusal mfs_answer(uint32_t number)
 {
-    return (mfs_refusal)mfs_c_format(volume->image, volume->image_len, volume->k);
+    return MFS_VALUE_AS(mfs_refusal, number);
 }
 
-/* Accepts exactly the images that are well-formed volumes. Refusals: 1, 2, 3, 16, 17. */
-static inline mfs_refusal mfs_check(const mfs_volume *volume)
+/* A volume for the calls that only read it. */
+MFS_NONNULL
+static inline mfs_const_volume mfs_const_of(const mfs_volume *volume)
 {
-    return (mfs_refusal)mfs_c_check(volume->image, volume->image_len, volume->k,
-                                    volume->work, volume->work_len);
+    mfs_const_volume view;
+    view.image = volume->image;
+    view.image_len = volume->image_len;
+    view.k = volume->k;
+    view.cwd = volume->cwd;
+    return view;
 }
 
-/* Bytes of the volume, of its used blocks, and the rest. Refusals: 1, 2, 3, 17. */
-static inline mfs_refusal mfs_usage(const mfs_volume *volume,
-                                    uint64_t *size, uint64_t *used, uint64_t *free)
+/* ---- Calls that change nothing, on a const volume -------------------------------------------- */
+
+/* Accepts exactly the images that are well-formed volumes. */
+MFS_NONNULL MFS_MUST_USE
+static inline mfs_refusal mfs_const_check(const mfs_const_volume *volume,
+                                          uint8_t *work, size_t work_len)
 {
-    return (mfs_refusal)mfs_c_usage(volume->image, volume->image_len, volume->k, size, used, free);
+    return mfs_answer(mfs_c_check(volume->image, volume->image_len, volume->k, work, work_len));
 }
 
-/* Opens a file, at position 0. Refusals: 1, 2, 3, 4, the first met of 5, 6, 17, then 10. */
-static inline mfs_refusal mfs_open(const mfs_volume *volume, const char *path, mfs_handle *handle)
+/* Bytes of the volume, of its used blocks, and the rest. */
+MFS_NONNULL MFS_MUST_USE
+static inline mfs_refusal mfs_const_usage(const mfs_const_volume *volume,
+                                          uint64_t *size, uint64_t *used, uint64_t *free)
 {
-    return (mfs_refusal)mfs_c_open(volume->image, volume->image_len, volume->k,
-                                   mfs_bytes_of(volume->cwd), strlen(volume->cwd),
-                                   mfs_bytes_of(path), strlen(path),
-                                   handle->number, handle->name, &handle->name_len);
+    return mfs_answer(mfs_c_usage(volume->image, volume->image_len, volume->k, size, used, free));
 }
 
-/* Bytes of the file, as the handle knows it. */
-static inline uint32_t mfs_size(const mfs_handle *handle)
+/* Opens a file, at position 0. */
+MFS_NONNULL MFS_MUST_USE
+static inline mfs_refusal mfs_const_open(const mfs_const_volume *volume, const char *path,
+                                         mfs_handle *handle)
 {
-    return handle->number[2];
+    return mfs_answer(mfs_c_open(volume->image, volume->image_len, volume->k,
+                                 mfs_bytes_of(volume->cwd), strlen(volume->cwd),
+                                 mfs_bytes_of(path), strlen(path),
+                                 handle->number, handle->name, &handle->name_len));
 }
 
-/* Where the next read or write begins. */
-static inline uint32_t mfs_position(const mfs_handle *handle)
-{
-    return handle->number[3];
-}
-
-/*
- * Reads up to len bytes from the position on; *bytes counts them, and is 0 at the end of the file.
- * Refusals: 1, 2, 3, 11, 17.
- */
-static inline mfs_refusal mfs_read(const mfs_volume *volume, mfs_handle *handle,
-                                   void *buf, size_t len, size_t *bytes)
-{
-    return (mfs_refusal)mfs_c_read(volume->image, volume->image_len, volume->k,
-                                   handle->number, handle->name, handle->name_len,
-                                   (uint8_t *)buf, len, bytes);
-}
-
-/*
- * Writes len bytes at the position, all or none; the file ends behind them. To replace a counter,
- * seek to 0 and write. To append, seek to the end and write.
- * Refusals: 1, 2, 3, 16, 17, 13, 11, 10, 9.
- */
-static inline mfs_refusal mfs_write(const mfs_volume *volume, mfs_handle *handle,
-                                    const void *buf, size_t len, uint64_t time)
-{
-    size_t bytes; /* len, where the write is accepted */
-    return (mfs_refusal)mfs_c_write(volume->image, volume->image_len, volume->k,
-                                    handle->number, handle->name, handle->name_len,
-                                    (const uint8_t *)buf, len,
-                                    time, volume->work, volume->work_len, &bytes);
-}
-
-/* The position becomes `to`. Refusals: 11, 12. */
-static inline mfs_refusal mfs_seek_start(mfs_handle *handle, uint32_t to)
-{
-    return (mfs_refusal)mfs_c_seek_start(handle->number, handle->name, handle->name_len, to);
-}
-
-/* The position moves by `by`. Refusals: 11, 12. */
-static inline mfs_refusal mfs_seek_current(mfs_handle *handle, int32_t by)
-{
-    return (mfs_refusal)mfs_c_seek_current(handle->number, handle->name, handle->name_len, by);
-}
-
-/* The position becomes the size plus `by`, which is 0 or below. Refusals: 11, 12. */
-static inline mfs_refusal mfs_seek_end(mfs_handle *handle, int32_t by)
-{
-    return (mfs_refusal)mfs_c_seek_end(handle->number, handle->name, handle->name_len, by);
-}
-
-/*
- * Creates a file of 0 bytes, and opens it.
- * Refusals: 1, 2, 3, 16, 17, 4, 8, the first met of 5, 6, then 7, 9, 18.
- */
-static inline mfs_refusal mfs_create_file(const mfs_volume *volume, const char *path, uint64_t time,
-                                          mfs_handle *handle)
-{
-    return (mfs_refusal)mfs_c_create_file(volume->image, volume->image_len, volume->k,
-                                          mfs_bytes_of(volume->cwd), strlen(volume->cwd),
-                                          mfs_bytes_of(path), strlen(path),
-                                          time, volume->work, volume->work_len,
-                                          handle->number, handle->name, &handle->name_len);
-}
-
-/*
- * Creates an empty directory.
- * Refusals: 1, 2, 3, 16, 17, 4, 8, the first met of 5, 6, then 15, 7, 9, 18.
- */
-static inline mfs_refusal mfs_create_dir(const mfs_volume *volume, const char *path, uint64_t time)
-{
-    return (mfs_refusal)mfs_c_create_dir(volume->image, volume->image_len, volume->k,
-                                         mfs_bytes_of(volume->cwd), strlen(volume->cwd),
-                                         mfs_bytes_of(path), strlen(path),
-                                         time, volume->work, volume->work_len);
-}
-
-/*
- * Deletes a file, a device or an empty directory.
- * Refusals: 1, 2, 3, 16, 17, 4, the first met of 5, 6, then 14, 18.
- */
-static inline mfs_refusal mfs_delete(const mfs_volume *volume, const char *path, uint64_t time)
-{
-    return (mfs_refusal)mfs_c_delete(volume->image, volume->image_len, volume->k,
-                                     mfs_bytes_of(volume->cwd), strlen(volume->cwd),
-                                     mfs_bytes_of(path), strlen(path),
-                                     time, volume->work, volume->work_len);
-}
-
-/* What stands at a path; "/" is the root. Refusals: 1, 2, 3, 4, the first met of 5, 6, 17. */
-static inline mfs_refusal mfs_info(const mfs_volume *volume, const char *path, mfs_entry *entry)
+/* What stands at a path; "/" is the root. */
+MFS_NONNULL MFS_MUST_USE
+static inline mfs_refusal mfs_const_info(const mfs_const_volume *volume, const char *path,
+                                         mfs_entry *entry)
 {
     uint8_t kind;
     const uint32_t answer = mfs_c_info(volume->image, volume->image_len, volume->k,
                                        mfs_bytes_of(volume->cwd), strlen(volume->cwd),
                                        mfs_bytes_of(path), strlen(path),
                                        &kind, &entry->size, &entry->time,
-                                       (uint8_t *)entry->name, &entry->name_len);
+                                       MFS_POINTER_AS(uint8_t *, entry->name), &entry->name_len);
     if (answer == MFS_OK) {
-        entry->kind = (mfs_kind)kind;
+        entry->kind = MFS_VALUE_AS(mfs_kind, kind);
         entry->name[MFS_NAME_MAX] = '\0';
     }
-    return (mfs_refusal)answer;
+    return mfs_answer(answer);
 }
 
 /*
  * Lists a directory from entry number `from` on: begin with 0 and go on with *next for as long as
- * *bytes is above 0. buf should have MFS_LIST_BYTES_MIN bytes or more; mfs_record_next walks them.
- * Refusals: 1, 2, 3, 4, the first met of 5, 6, 17.
+ * *bytes is above 0. Give it MFS_LIST_BYTES_MIN bytes or more: a shorter buffer gets 0 bytes at the
+ * end, and also before a name that is too long for it. mfs_record_next walks the records.
  */
+MFS_NONNULL MFS_MUST_USE
+static inline mfs_refusal mfs_const_list(const mfs_const_volume *volume, const char *path,
+                                         uint32_t from, uint8_t *buf, size_t buf_len,
+                                         size_t *bytes, uint32_t *next)
+{
+    return mfs_answer(mfs_c_list(volume->image, volume->image_len, volume->k,
+                                 mfs_bytes_of(volume->cwd), strlen(volume->cwd),
+                                 mfs_bytes_of(path), strlen(path),
+                                 from, buf, buf_len, bytes, next));
+}
+
+/* Reads up to len bytes from the position on; *bytes counts them, and is 0 at the file's end. */
+MFS_NONNULL MFS_MUST_USE
+static inline mfs_refusal mfs_const_read(const mfs_const_volume *volume, mfs_handle *handle,
+                                         void *buf, size_t len, size_t *bytes)
+{
+    return mfs_answer(mfs_c_read(volume->image, volume->image_len, volume->k,
+                                 handle->number, handle->name, handle->name_len,
+                                 MFS_VALUE_AS(uint8_t *, buf), len, bytes));
+}
+
+/* ---- The same on a volume that may change ---------------------------------------------------- */
+
+MFS_NONNULL MFS_MUST_USE
+static inline mfs_refusal mfs_check(const mfs_volume *volume)
+{
+    const mfs_const_volume view = mfs_const_of(volume);
+    return mfs_const_check(&view, volume->work, volume->work_len);
+}
+
+MFS_NONNULL MFS_MUST_USE
+static inline mfs_refusal mfs_usage(const mfs_volume *volume,
+                                    uint64_t *size, uint64_t *used, uint64_t *free)
+{
+    const mfs_const_volume view = mfs_const_of(volume);
+    return mfs_const_usage(&view, size, used, free);
+}
+
+MFS_NONNULL MFS_MUST_USE
+static inline mfs_refusal mfs_open(const mfs_volume *volume, const char *path, mfs_handle *handle)
+{
+    const mfs_const_volume view = mfs_const_of(volume);
+    return mfs_const_open(&view, path, handle);
+}
+
+MFS_NONNULL MFS_MUST_USE
+static inline mfs_refusal mfs_info(const mfs_volume *volume, const char *path, mfs_entry *entry)
+{
+    const mfs_const_volume view = mfs_const_of(volume);
+    return mfs_const_info(&view, path, entry);
+}
+
+MFS_NONNULL MFS_MUST_USE
 static inline mfs_refusal mfs_list(const mfs_volume *volume, const char *path, uint32_t from,
                                    uint8_t *buf, size_t buf_len, size_t *bytes, uint32_t *next)
 {
-    return (mfs_refusal)mfs_c_list(volume->image, volume->image_len, volume->k,
-                                   mfs_bytes_of(volume->cwd), strlen(volume->cwd),
-                                   mfs_bytes_of(path), strlen(path),
-                                   from, buf, buf_len, bytes, next);
+    const mfs_const_volume view = mfs_const_of(volume);
+    return mfs_const_list(&view, path, from, buf, buf_len, bytes, next);
 }
 
+MFS_NONNULL MFS_MUST_USE
+static inline mfs_refusal mfs_read(const mfs_volume *volume, mfs_handle *handle,
+                                   void *buf, size_t len, size_t *bytes)
+{
+    const mfs_const_volume view = mfs_const_of(volume);
+    return mfs_const_read(&view, handle, buf, len, bytes);
+}
+
+/* ---- Handles --------------------------------------------------------------------------------- */
+
+/* Bytes of the file, as the handle knows it. */
+MFS_NONNULL
+static inline uint32_t mfs_size(const mfs_handle *handle)
+{
+    return handle->number[2];
+}
+
+/* Where the next read or write begins. */
+MFS_NONNULL
+static inline uint32_t mfs_position(const mfs_handle *handle)
+{
+    return handle->number[3];
+}
+
+/* The position becomes `to`. */
+MFS_NONNULL MFS_MUST_USE
+static inline mfs_refusal mfs_seek_start(mfs_handle *handle, uint32_t to)
+{
+    return mfs_answer(mfs_c_seek_start(handle->number, handle->name, handle->name_len, to));
+}
+
+/* The position moves by `by`. */
+MFS_NONNULL MFS_MUST_USE
+static inline mfs_refusal mfs_seek_current(mfs_handle *handle, int32_t by)
+{
+    return mfs_answer(mfs_c_seek_current(handle->number, handle->name, handle->name_len, by));
+}
+
+/* The position becomes the size plus `by`, which is 0 or below. */
+MFS_NONNULL MFS_MUST_USE
+static inline mfs_refusal mfs_seek_end(mfs_handle *handle, int32_t by)
+{
+    return mfs_answer(mfs_c_seek_end(handle->number, handle->name, handle->name_len, by));
+}
+
+/* ---- Calls that change the volume ------------------------------------------------------------ */
+
+/* Makes the whole image a volume with an empty root directory. */
+MFS_NONNULL MFS_MUST_USE
+static inline mfs_refusal mfs_format(const mfs_volume *volume)
+{
+    return mfs_answer(mfs_c_format(volume->image, volume->image_len, volume->k));
+}
+
+/*
+ * Writes len bytes at the position, all or none; the file ends behind them. To replace a counter,
+ * seek to 0 and write. To append, seek to the end and write.
+ */
+MFS_NONNULL MFS_MUST_USE
+static inline mfs_refusal mfs_write(const mfs_volume *volume, mfs_handle *handle,
+                                    const void *buf, size_t len, uint64_t time)
+{
+    size_t bytes; /* len, where the write is accepted */
+    return mfs_answer(mfs_c_write(volume->image, volume->image_len, volume->k,
+                                  handle->number, handle->name, handle->name_len,
+                                  MFS_VALUE_AS(const uint8_t *, buf), len,
+                                  time, volume->work, volume->work_len, &bytes));
+}
+
+/* Creates a file of 0 bytes, and opens it. */
+MFS_NONNULL MFS_MUST_USE
+static inline mfs_refusal mfs_create_file(const mfs_volume *volume, const char *path, uint64_t time,
+                                          mfs_handle *handle)
+{
+    return mfs_answer(mfs_c_create_file(volume->image, volume->image_len, volume->k,
+                                        mfs_bytes_of(volume->cwd), strlen(volume->cwd),
+                                        mfs_bytes_of(path), strlen(path),
+                                        time, volume->work, volume->work_len,
+                                        handle->number, handle->name, &handle->name_len));
+}
+
+/* Creates an empty directory. */
+MFS_NONNULL MFS_MUST_USE
+static inline mfs_refusal mfs_create_dir(const mfs_volume *volume, const char *path, uint64_t time)
+{
+    return mfs_answer(mfs_c_create_dir(volume->image, volume->image_len, volume->k,
+                                       mfs_bytes_of(volume->cwd), strlen(volume->cwd),
+                                       mfs_bytes_of(path), strlen(path),
+                                       time, volume->work, volume->work_len));
+}
+
+/* Deletes a file, a device or an empty directory. */
+MFS_NONNULL MFS_MUST_USE
+static inline mfs_refusal mfs_delete(const mfs_volume *volume, const char *path, uint64_t time)
+{
+    return mfs_answer(mfs_c_delete(volume->image, volume->image_len, volume->k,
+                                   mfs_bytes_of(volume->cwd), strlen(volume->cwd),
+                                   mfs_bytes_of(path), strlen(path),
+                                   time, volume->work, volume->work_len));
+}
+
+/* ---- The records of a listing ---------------------------------------------------------------- */
+
 /* The big-endian number in `width` bytes. */
+MFS_NONNULL
 static inline uint64_t mfs_number_at(const uint8_t *bytes, size_t width)
 {
     uint64_t number = 0;
@@ -508,6 +450,7 @@ static inline uint64_t mfs_number_at(const uint8_t *bytes, size_t width)
  *         printf("%.*s\n", (int)record.name_len, record.name);
  *     }
  */
+MFS_NONNULL MFS_MUST_USE
 static inline bool mfs_record_next(const uint8_t *buf, size_t bytes, size_t *at,
                                    mfs_record *record)
 {
@@ -523,10 +466,10 @@ static inline bool mfs_record_next(const uint8_t *buf, size_t bytes, size_t *at,
         bytes - *at - MFS_RECORD_HEADER < name_len) {
         return false;
     }
-    record->kind = (mfs_kind)start[0];
-    record->size = (uint32_t)mfs_number_at(start + 1, 4);
+    record->kind = MFS_VALUE_AS(mfs_kind, start[0]);
+    record->size = MFS_VALUE_AS(uint32_t, mfs_number_at(start + 1, 4));
     record->time = mfs_number_at(start + 5, 8);
-    record->name = (const char *)(start + MFS_RECORD_HEADER);
+    record->name = MFS_POINTER_AS(const char *, start + MFS_RECORD_HEADER);
     record->name_len = name_len;
     *at += MFS_RECORD_HEADER + name_len;
     return true;

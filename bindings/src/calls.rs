@@ -1,9 +1,13 @@
 //! The calls: one safe function over each export.
 //!
-//! Why each `unsafe` block is sound, in the terms of [`raw`](crate::raw): a pointer with a length is that of a slice with that length,
-//! and any other pointer that of a reference to the type that the export names. So none is null, also where a slice is empty, and what an
-//! export writes is borrowed mutably and overlaps nothing. An export keeps no pointer, never unwinds, and takes any values.
+//! Why each `unsafe` block is sound, in the terms of [`raw`](crate::raw): a pointer with a length is that of a slice
+//! with that length, and any other pointer that of a reference to the type that the export names. So none is null, also
+//! where a slice is empty, and what an export writes is borrowed mutably and overlaps nothing. An export keeps no
+//! pointer, never unwinds, and takes any values. That the library has exports of these parameters at all is what
+//! [`same_version`] asks first.
+use crate::version::same_version;
 use crate::{raw, Handle, Kind, Record, Refusal, SeekFrom, BLOCK_SIZE, NAME_LEN};
+use alloc::vec::Vec;
 
 /// Bytes of the volume, of its used blocks, and the rest.
 #[derive(Clone, Copy, Debug, PartialEq, Eq)]
@@ -45,22 +49,24 @@ pub struct Listed {
 }
 
 /// Bytes of work buffer that are enough for any volume in an image of that many bytes.
+#[must_use]
 pub fn work_len(image_len: usize) -> usize {
     (image_len / BLOCK_SIZE).div_ceil(8)
 }
 
 /// What an export's number means.
 fn answer<T>(number: u32, value: T) -> Result<T, Refusal> {
-    if number == 0 {
-        return Ok(value);
+    match Refusal::from_number(number) {
+        None => Ok(value),
+        Some(refusal) => Err(refusal),
     }
-    Err(Refusal::from_number(number).expect("an export answers 0 or the number of a refusal"))
 }
 
 /// Makes the whole image a volume with an empty root directory.
 ///
-/// Refusals: 1, 3.
+#[doc = errors!(format)]
 pub fn format(image: &mut [u8], k: u32) -> Result<(), Refusal> {
+    same_version()?;
     // SAFETY: as the top of this file says.
     let number = unsafe { raw::mfs_c_format(image.as_mut_ptr(), image.len(), k) };
     answer(number, ())
@@ -68,8 +74,9 @@ pub fn format(image: &mut [u8], k: u32) -> Result<(), Refusal> {
 
 /// How much of the volume is used, by the counts of its superblock.
 ///
-/// Refusals: 1, 2, 3, 17.
+#[doc = errors!(usage)]
 pub fn usage(image: &[u8], k: u32) -> Result<Usage, Refusal> {
+    same_version()?;
     let mut u = Usage { size: 0, used: 0, free: 0 };
     // SAFETY: as the top of this file says.
     let number = unsafe { raw::mfs_c_usage(image.as_ptr(), image.len(), k, &mut u.size, &mut u.used, &mut u.free) };
@@ -78,8 +85,9 @@ pub fn usage(image: &[u8], k: u32) -> Result<Usage, Refusal> {
 
 /// Whether the image is a well-formed volume.
 ///
-/// Refusals: 1, 2, 3, 16, 17.
+#[doc = errors!(check)]
 pub fn check(image: &[u8], k: u32, work: &mut [u8]) -> Result<(), Refusal> {
+    same_version()?;
     // SAFETY: as the top of this file says.
     let number = unsafe { raw::mfs_c_check(image.as_ptr(), image.len(), k, work.as_mut_ptr(), work.len()) };
     answer(number, ())
@@ -87,8 +95,9 @@ pub fn check(image: &[u8], k: u32, work: &mut [u8]) -> Result<(), Refusal> {
 
 /// Opens the file at a path, at position 0.
 ///
-/// Refusals: 1, 2, 3, 4, the first of 5, 6, 17 on the way along the path, 10.
+#[doc = errors!(open)]
 pub fn open(image: &[u8], k: u32, cwd: &[u8], path: &[u8]) -> Result<Handle, Refusal> {
+    same_version()?;
     let mut h = Handle::empty();
     // SAFETY: as the top of this file says.
     let number = unsafe {
@@ -110,8 +119,9 @@ pub fn open(image: &[u8], k: u32, cwd: &[u8], path: &[u8]) -> Result<Handle, Ref
 
 /// Kind, size, time and name of what stands at a path; `/` itself is the root, with time 0 and no name.
 ///
-/// Refusals: 1, 2, 3, 4, the first of 5, 6, 17 on the way along the path.
+#[doc = errors!(info)]
 pub fn info(image: &[u8], k: u32, cwd: &[u8], path: &[u8]) -> Result<Info, Refusal> {
+    same_version()?;
     let (mut kind, mut size, mut time) = (0u8, 0u32, 0u64);
     let (mut name, mut len) = ([0u8; NAME_LEN], 0usize);
     // SAFETY: as the top of this file says.
@@ -132,18 +142,24 @@ pub fn info(image: &[u8], k: u32, cwd: &[u8], path: &[u8]) -> Result<Info, Refus
         )
     };
     answer(number, ())?;
-    let kind = Kind::from_byte(kind).expect("an export answers the kind of an entry");
+    // The export answers 0, 1 or 2.
+    let kind = Kind::from_byte(kind).ok_or(Refusal::Damaged)?;
     Ok(Info { kind, size, time, name: name[..len].to_vec() })
 }
 
 /// Lists the directory at a path from entry number `from` on, counted from 0.
 ///
-/// Records are put into the buffer as long as all of them together are shorter than it; the rest of it stays. [`records`](crate::records)
-/// walks them. A record is kind (1 byte), size (4), time (8), name length (1) and name, with numbers big-endian, so a buffer of 270 bytes
-/// has room for any one. With no entry left, the answer has 0 bytes and `from`.
+/// Records are put into the buffer as long as all of them together are shorter than it; the rest of it stays.
+/// [`records`](crate::records) walks them. A record is kind (1 byte), size (4), time (8), name length (1) and name,
+/// with numbers big-endian.
 ///
-/// Refusals: 1, 2, 3, 4, the first of 5, 6, 17 on the way along the path and through the entries, as far as the record that does not fit.
+/// With no entry left, the answer has 0 bytes and `from`. A buffer that is too short for the next record gets that same
+/// answer: with fewer than [`LIST_LEN_MIN`](crate::LIST_LEN_MIN) bytes, 0 bytes are the end or a longer name. With as
+/// many or more, any record fits, and 0 bytes are the end.
+///
+#[doc = errors!(list)]
 pub fn list(image: &[u8], k: u32, cwd: &[u8], path: &[u8], from: u32, buf: &mut [u8]) -> Result<Listed, Refusal> {
+    same_version()?;
     let mut l = Listed { bytes: 0, next: 0 };
     // SAFETY: as the top of this file says.
     let number = unsafe {
@@ -165,11 +181,12 @@ pub fn list(image: &[u8], k: u32, cwd: &[u8], path: &[u8], from: u32, buf: &mut 
     answer(number, l)
 }
 
-/// Reads from the handle's position on, as many bytes as the buffer has room for and the file has; the rest of the buffer stays. The
-/// answer counts the bytes, and is 0 at the file's end.
+/// Reads from the handle's position on, as many bytes as the buffer has room for and the file has; the rest of the
+/// buffer stays. The answer counts the bytes, and is 0 at the file's end.
 ///
-/// Refusals: 1, 2, 3, 11 (the handle's own fields), the first of 11, 17 on the way through its directory, 17 on the way through the file.
+#[doc = errors!(read)]
 pub fn read(image: &[u8], k: u32, handle: &mut Handle, buf: &mut [u8]) -> Result<usize, Refusal> {
+    same_version()?;
     let mut bytes = 0usize;
     // SAFETY: as the top of this file says.
     let number = unsafe {
@@ -190,8 +207,9 @@ pub fn read(image: &[u8], k: u32, handle: &mut Handle, buf: &mut [u8]) -> Result
 
 /// Moves the handle's position, within 0 to its size. The image is not looked at.
 ///
-/// Refusals: 11 (the handle's own fields), 12.
+#[doc = errors!(seek)]
 pub fn seek(handle: &mut Handle, from: SeekFrom) -> Result<(), Refusal> {
+    same_version()?;
     let Handle { number, name, len } = handle;
     // SAFETY: as the top of this file says.
     let number = unsafe {
@@ -206,8 +224,9 @@ pub fn seek(handle: &mut Handle, from: SeekFrom) -> Result<(), Refusal> {
 
 /// Creates a file of 0 bytes at a path, and opens it. The holding directory's own entry gets its new size and the time.
 ///
-/// Refusals: 1, 2, 3, 16, 17, 4, 8, the first of 5, 6 on the way along the path, 7, 9, 18.
+#[doc = errors!(create_file)]
 pub fn create_file(image: &mut [u8], k: u32, cwd: &[u8], path: &[u8], time: u64, work: &mut [u8]) -> Result<Handle, Refusal> {
+    same_version()?;
     let mut h = Handle::empty();
     // SAFETY: as the top of this file says.
     let number = unsafe {
@@ -232,8 +251,9 @@ pub fn create_file(image: &mut [u8], k: u32, cwd: &[u8], path: &[u8], time: u64,
 
 /// Creates an empty directory at a path. The holding directory's own entry gets its new size and the time.
 ///
-/// Refusals: 1, 2, 3, 16, 17, 4, 8, the first of 5, 6 on the way along the path, 15, 7, 9, 18.
+#[doc = errors!(create_dir)]
 pub fn create_dir(image: &mut [u8], k: u32, cwd: &[u8], path: &[u8], time: u64, work: &mut [u8]) -> Result<(), Refusal> {
+    same_version()?;
     // SAFETY: as the top of this file says.
     let number = unsafe {
         raw::mfs_c_create_dir(
@@ -252,10 +272,12 @@ pub fn create_dir(image: &mut [u8], k: u32, cwd: &[u8], path: &[u8], time: u64, 
     answer(number, ())
 }
 
-/// Deletes the file, the device or the empty directory at a path. The holding directory's own entry gets its new size and the time.
+/// Deletes the file, the device or the empty directory at a path. The holding directory's own entry gets its new size
+/// and the time.
 ///
-/// Refusals: 1, 2, 3, 16, 17, 4, the first of 5, 6 on the way along the path, 14, 18.
+#[doc = errors!(delete)]
 pub fn delete(image: &mut [u8], k: u32, cwd: &[u8], path: &[u8], time: u64, work: &mut [u8]) -> Result<(), Refusal> {
+    same_version()?;
     // SAFETY: as the top of this file says.
     let number = unsafe {
         raw::mfs_c_delete(
@@ -274,11 +296,13 @@ pub fn delete(image: &mut [u8], k: u32, cwd: &[u8], path: &[u8], time: u64, work
     answer(number, ())
 }
 
-/// Writes all of the buffer at the handle's position, or nothing. The file ends behind it: bytes that followed are gone. The answer
-/// counts the bytes. Other handles on the file are stale from then on if its size has changed.
+/// Writes all of the buffer at the handle's position, or nothing. The file ends behind it: bytes that followed are
+/// gone. The answer counts the bytes. Other handles on the file are stale from then on if its size has changed; if it
+/// has not, they stay current.
 ///
-/// Refusals: 1, 2, 3, 16, 17, 13, 11 (also for a directory not reached from the root), 10, 9.
+#[doc = errors!(write)]
 pub fn write(image: &mut [u8], k: u32, handle: &mut Handle, buf: &[u8], time: u64, work: &mut [u8]) -> Result<usize, Refusal> {
+    same_version()?;
     let mut bytes = 0usize;
     // SAFETY: as the top of this file says.
     let number = unsafe {

@@ -19,44 +19,82 @@
 //! }
 //! ```
 //!
-//! [`Volume`] makes its own work buffer and takes paths as strings. The functions of the crate, one for each call, take all they need
-//! as slices and allocate nothing but a name in [`info`].
+//! [`Volume`] makes its own work buffer and takes paths as strings or bytes; [`VolumeRef`] is the same for an image
+//! that is only read, and
+#![cfg_attr(feature = "std", doc = "[`File`] is a file with `Read`, `Seek` and `Write`.")]
+#![cfg_attr(not(feature = "std"), doc = "with the feature `std` there is a file with `Read`, `Seek` and `Write`.")]
+//! The functions of the crate, one for each call, take all they need as slices and allocate nothing but a name in [`info`].
 //!
 //! # What holds for every call
 //!
-//! - Every image, path, handle and buffer gets an answer; no call panics on what it is given, and nothing has to be tested beforehand.
-//!   Where several refusals apply, the first in the order of the call's list is given.
+//! - Every image, path, handle and buffer gets an answer; no call panics on what it is given, and nothing has to be
+//!   tested beforehand. Where several refusals apply, the first in the order of the call's list is given.
 //! - A refusal changes neither image nor handle nor buffer, but for the work buffer.
-//! - The check and the calls that change a volume look at the whole of it first, and mark blocks in a lent work buffer, one bit a
-//!   block: [`work_len`] says how many bytes are always enough. With n blocks in the volume and D the first of its data area,
-//!   ceil((n - D) / 8) bytes are used. They are zero after a call that reached the check, and untouched after one that was refused
-//!   before (1, 2, 3, 16). The bytes behind them are never touched.
-//! - A path that starts with `/` is a full path; another one is taken from the working directory, which must start with `/` then. Its
-//!   bytes are 0x20 to 0x7E. `.` and `..` are plain names. Slashes at the end are dropped, but not in a listing.
+//! - The check and the calls that change a volume look at the whole of it first, and mark blocks in a lent work buffer,
+//!   one bit a block: [`work_len`] says how many bytes are always enough. With n blocks in the volume and D the first
+//!   of its data area, ceil((n - D) / 8) bytes are used. They are zero after a call that reached the check, and
+//!   untouched after one that was refused before (1, 2, 3, 16). The bytes behind them are never touched.
+//! - A path that starts with `/` is a full path; another one is taken from the working directory, which must start with
+//!   `/` then. Which bytes it may have, [`Refusal::BadPath`] says. `.` and `..` are plain names. Slashes at the end are
+//!   dropped, but not in a listing.
 //! - `k` is the number of the superblock's block (8,192 in MOROS itself). Blocks below it and the one after it are never touched.
 //! - A time is the caller's number; it is stored and never looked at.
 //! - On a volume of fewer than 4,096 blocks nothing can be created ([`Refusal::NoRoom`]).
 //! - The limits are [`IMAGE_BLOCKS`], [`NAME_LEN`], [`PATH_LEN`], [`FILE_LEN`] and [`DEPTH`].
+//! - At the first call the version of the library's exports is compared with the one that these bindings call,
+//!   [`EXPORTS_VERSION`]. Where it is another, every call answers [`Refusal::OtherVersion`], and no other export is
+//!   called.
+//!
+//! # Where the image is kept
+//!
+//! The whole image is one slice: a buffer, or a mapping of the file or the device. A call changes the slice and stores
+//! nothing elsewhere; to bring the changed blocks to a device is the caller's part. **A power cut in the middle of
+//! that** can leave some of them stored and others not. After a create, a delete, or a write that adds or frees blocks,
+//! the volume may then be one that [`check`] refuses, and so every changing call ([`Refusal::Damaged`]); the bytes of
+//! the other files stand. Where that must not happen, keep what the changed blocks held (a copy of the image, or a log
+//! of them beside it) until all are stored, and put it back after a cut.
+//!
+//! # Features
+//!
+//! `std`, on by default: `std::io`'s traits for files, and [`Refusal`] as a `std::io::Error`. Without it the crate is
+//! `no_std` and wants `alloc`.
+#![no_std]
 #![warn(missing_docs)]
 
+extern crate alloc;
+#[cfg(feature = "std")]
+extern crate std;
+
 // So that the program in README.md is compiled and run with the tests.
-#[cfg(doctest)]
+#[cfg(all(doctest, feature = "std"))]
 #[doc = include_str!("../README.md")]
 mod readme {}
 
+#[macro_use]
+mod errors;
 mod calls;
+mod entries;
+#[cfg(feature = "std")]
+mod file;
 mod handle;
 pub mod raw;
 mod record;
 mod refusal;
+mod version;
+mod view;
 mod volume;
 
 pub use calls::{
     check, create_dir, create_file, delete, format, info, list, open, read, seek, usage, work_len, write, Info, Listed, Usage,
 };
+pub use entries::{Entries, Walk, Walked};
+#[cfg(feature = "std")]
+pub use file::{File, Source};
 pub use handle::{Handle, SeekFrom};
 pub use record::{records, Kind, Record, Records};
 pub use refusal::Refusal;
+pub use version::EXPORTS_VERSION;
+pub use view::VolumeRef;
 pub use volume::Volume;
 
 /// Bytes of a block.
@@ -71,3 +109,5 @@ pub const PATH_LEN: usize = 1024;
 pub const FILE_LEN: u32 = 2_147_483_647;
 /// Depth of the deepest directory; the root is at 0.
 pub const DEPTH: usize = 16;
+/// Bytes of a buffer for [`list`](list()) that has room for any one record: 14, the longest name, and one that stays free.
+pub const LIST_LEN_MIN: usize = 14 + NAME_LEN + 1;

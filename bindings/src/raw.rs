@@ -1,17 +1,19 @@
-//! The exports of the proved library, as include/mfs.h declares and documents them. The safe functions of this crate call them; a program
-//! has no need to.
+//! The exports of the proved library, as include/mfs_c.h declares and documents them. The safe functions of this crate
+//! call them; a program has no need to.
 //!
 //! # Safety
 //!
-//! A slice passes as a pointer and its length, and every other pointer is to one value of its type. No pointer may be null, also where
-//! a length is 0. What an export may write (an image that is `*mut`, a work buffer, a read buffer, a handle's numbers, an out parameter) must
-//! overlap no other buffer of the call. All values are allowed. Each export answers 0, or the number of its refusal, which leaves every out
-//! parameter as it was.
-#![allow(missing_docs)] // include/mfs.h has them
+//! A slice passes as a pointer and its length, and every other pointer is to one value of its type. No pointer may be
+//! null, also where a length is 0. What an export may write (an image that is `*mut`, a work buffer, a read buffer, a
+//! handle's numbers, an out parameter) must overlap no other buffer of the call. All values are allowed. Each export
+//! but `mfs_c_version` answers 0, or the number of its refusal, which leaves every out parameter as it was. That the
+//! library has these exports is certain where `mfs_c_version` answers [`EXPORTS_VERSION`](crate::EXPORTS_VERSION).
+#![allow(missing_docs)] // include/mfs_c.h has them
 
 use crate::NAME_LEN;
 
 extern "C" {
+    pub fn mfs_c_version() -> u32;
     pub fn mfs_c_format(img: *mut u8, img_len: usize, k: u32) -> u32;
     pub fn mfs_c_usage(img: *const u8, img_len: usize, k: u32, size: *mut u64, used: *mut u64, free: *mut u64) -> u32;
     pub fn mfs_c_check(img: *const u8, img_len: usize, k: u32, work: *mut u8, work_len: usize) -> u32;

@@ -1,5 +1,5 @@
 //! The records of a listing.
-use std::iter::FusedIterator;
+use core::iter::FusedIterator;
 
 /// What an entry is.
 #[derive(Clone, Copy, Debug, PartialEq, Eq, Hash)]
@@ -33,7 +33,7 @@ pub struct Record<'a> {
     pub size: u32,
     /// The time of the last change, as the caller gave it.
     pub time: u64,
-    /// 1 to 255 bytes, printable and without `/` on a well-formed volume.
+    /// 1 to 255 bytes; on a well-formed volume those of a path, and no `/`.
     pub name: &'a [u8],
 }
 
@@ -48,19 +48,21 @@ impl<'a> Record<'a> {
         if name.is_empty() {
             return None;
         }
-        let record = Record { kind: Kind::from_byte(kind)?, size: u32::from_be_bytes(size), time: u64::from_be_bytes(time), name };
+        let record =
+            Record { kind: Kind::from_byte(kind)?, size: u32::from_be_bytes(size), time: u64::from_be_bytes(time), name };
         Some((record, rest))
     }
 }
 
 /// The records in the bytes that a listing put into its buffer, one after the other.
 #[derive(Clone, Debug)]
+#[must_use = "the records are read as it is walked"]
 pub struct Records<'a> {
     rest: &'a [u8],
 }
 
-/// Walks the records that [`list`](crate::list) put into a buffer: give it the first [`bytes`](crate::Listed::bytes) of that buffer.
-/// On bytes that no listing made, it ends where no record stands.
+/// Walks the records that [`list`](crate::list) put into a buffer: give it the first [`bytes`](crate::Listed::bytes) of
+/// that buffer. On bytes that no listing made, it ends where no record stands.
 pub fn records(bytes: &[u8]) -> Records<'_> {
     Records { rest: bytes }
 }

@@ -160,7 +160,7 @@ fn a_volume_lists_all_pages() {
     // 600 records of 214 bytes: two pages.
     let name_of = |number: usize| format!("{number:0>200}");
     for number in 0..600 {
-        volume.create_file(&name_of(number), number as u64).unwrap();
+        volume.create_file(name_of(number), number as u64).unwrap();
     }
     let entries = volume.list("/").unwrap();
     assert_eq!(entries.len(), 600);

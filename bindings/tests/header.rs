@@ -1,8 +1,12 @@
-//! include/mfs.h and this crate say the same: refusals with their numbers and words, limits, and the exports with their parameters.
+//! The headers in include/ and this crate say the same: refusals with their numbers and words, limits, the version of
+//! the exports, and the exports with their parameters.
 use mfs::Refusal;
 use std::collections::BTreeMap;
 
-const HEADER: &str = include_str!("../../include/mfs.h");
+/// The exports, their limits and refusals.
+const EXPORTS: &str = include_str!("../../include/mfs_c.h");
+/// The layer over them.
+const LAYER: &str = include_str!("../../include/mfs.h");
 const RAW: &str = include_str!("../src/raw.rs");
 
 /// `BadImage` is MFS_BAD_IMAGE in the header.
@@ -27,7 +31,7 @@ fn between<'a>(text: &'a str, from: &str, to: &str) -> &'a str {
 
 #[test]
 fn refusals_have_the_same_numbers() {
-    let in_header: Vec<(String, u32)> = between(HEADER, "typedef enum mfs_refusal {", "}")
+    let in_header: Vec<(String, u32)> = between(EXPORTS, "typedef enum mfs_refusal {", "}")
         .lines()
         .filter_map(|line| line.trim().split_once(" = "))
         .map(|(name, rest)| {
@@ -36,13 +40,13 @@ fn refusals_have_the_same_numbers() {
         })
         .collect();
     let mut expected = vec![(String::from("MFS_OK"), 0)];
-    expected.extend(Refusal::ALL.map(|refusal| (c_name(refusal), u32::from(refusal.number()))));
+    expected.extend(Refusal::ALL.map(|refusal| (c_name(refusal), refusal.number())));
     assert_eq!(in_header, expected);
 }
 
 #[test]
 fn refusals_have_the_same_words() {
-    let texts = between(HEADER, "switch (number) {", "default:");
+    let texts = between(LAYER, "switch (number) {", "default:");
     for refusal in Refusal::ALL {
         let case = between(texts, &format!("case {}:", c_name(refusal)), ";");
         assert_eq!(case.trim(), format!("return \"{refusal}\""));
@@ -52,24 +56,44 @@ fn refusals_have_the_same_words() {
 #[test]
 fn numbers_lead_back_to_their_refusals() {
     for (place, refusal) in Refusal::ALL.into_iter().enumerate() {
-        assert_eq!(usize::from(refusal.number()), place + 1);
-        assert_eq!(Refusal::from_number(place as u32 + 1), Some(refusal));
+        let number = place as u32 + 1;
+        assert_eq!(refusal.number(), number);
+        assert_eq!(Refusal::from_number(number), Some(refusal));
     }
-    for number in [0, 19, 256 + 1, u32::MAX] {
-        assert_eq!(Refusal::from_number(number), None);
+    assert_eq!(Refusal::from_number(0), None);
+}
+
+#[test]
+fn a_number_without_a_name_is_a_value() {
+    for number in [19, 256 + 1, u32::MAX] {
+        let unknown = Refusal::from_number(number).unwrap();
+        assert_eq!(unknown, Refusal::Unknown(number));
+        assert_eq!(unknown.number(), number);
+        assert_eq!(unknown.to_string(), format!("refused by number {number}, which these bindings do not know"));
+        assert!(!Refusal::ALL.contains(&unknown));
     }
 }
 
 #[test]
+fn the_exports_have_one_version() {
+    let in_header = between(EXPORTS, "#define MFS_C_VERSION ", "\n").parse::<u32>().unwrap();
+    assert_eq!(in_header, mfs::EXPORTS_VERSION);
+    assert_eq!(unsafe { mfs::raw::mfs_c_version() }, in_header);
+}
+
+#[test]
 fn limits_are_the_same() {
-    let limit = |name: &str| between(HEADER, &format!("#define {name} "), " ").trim().parse::<usize>().unwrap();
+    let limit = |name: &str| between(EXPORTS, &format!("#define {name} "), " ").trim().parse::<usize>().unwrap();
     assert_eq!(limit("MFS_BLOCK_SIZE"), mfs::BLOCK_SIZE);
     assert_eq!(limit("MFS_IMAGE_MAX_BLOCKS"), mfs::IMAGE_BLOCKS);
     assert_eq!(limit("MFS_NAME_MAX"), mfs::NAME_LEN);
     assert_eq!(limit("MFS_PATH_MAX"), mfs::PATH_LEN);
     assert_eq!(limit("MFS_FILE_MAX"), mfs::FILE_LEN as usize);
     assert_eq!(limit("MFS_DEPTH_MAX"), mfs::DEPTH);
-    assert_eq!(between(HEADER, "#define MFS_WORK_BYTES(image_len) ", "\n"), "(((image_len) / MFS_BLOCK_SIZE + 7) / 8)");
+    assert_eq!(between(EXPORTS, "#define MFS_RECORD_HEADER ", "\n"), "14");
+    assert_eq!(between(EXPORTS, "#define MFS_LIST_BYTES_MIN ", "\n"), "(MFS_RECORD_HEADER + MFS_NAME_MAX + 1)");
+    assert_eq!(mfs::LIST_LEN_MIN, 14 + mfs::NAME_LEN + 1);
+    assert_eq!(between(EXPORTS, "#define MFS_WORK_BYTES(image_len) ", "\n"), "(((image_len) / MFS_BLOCK_SIZE + 7) / 8)");
     for (image_len, bytes) in [(0, 0), (511, 0), (512, 1), (8 * 512, 1), (9 * 512, 2), (4200 * 512, 525), (1 << 32, 1 << 20)] {
         assert_eq!(mfs::work_len(image_len), bytes);
     }
@@ -77,7 +101,8 @@ fn limits_are_the_same() {
 
 /// A declaration's parameters as C writes them, one space between words.
 fn c_parameters(list: &str) -> Vec<String> {
-    list.split(',').map(|parameter| parameter.split_whitespace().collect::<Vec<_>>().join(" ")).collect()
+    let list = if list == "void" { "" } else { list };
+    list.split_terminator(',').map(|parameter| parameter.split_whitespace().collect::<Vec<_>>().join(" ")).collect()
 }
 
 /// A parameter of raw.rs, as C writes it.
@@ -100,9 +125,19 @@ fn as_c(parameter: &str) -> String {
     }
 }
 
+/// The exports as the library's own text has them.
+#[test]
+fn the_library_has_these_exports() {
+    let library = include_str!("../../crates/mfs_c/src/lib.rt");
+    let in_library: Vec<&str> =
+        library.split("pub extern \"C\" fn ").skip(1).map(|rest| rest.split('(').next().unwrap()).collect();
+    let in_raw: Vec<&str> = RAW.split("pub fn ").skip(1).map(|rest| rest.split('(').next().unwrap()).collect();
+    assert_eq!(in_library, in_raw);
+}
+
 #[test]
 fn exports_have_the_same_parameters() {
-    let in_header: BTreeMap<&str, Vec<String>> = HEADER
+    let in_header: BTreeMap<&str, Vec<String>> = EXPORTS
         .split("\nuint32_t ")
         .skip(1)
         .map(|rest| (rest.split('(').next().unwrap(), c_parameters(between(rest, "(", ");"))))
@@ -115,6 +150,6 @@ fn exports_have_the_same_parameters() {
             (rest.split('(').next().unwrap(), c_parameters(list).iter().map(|parameter| as_c(parameter)).collect())
         })
         .collect();
-    assert_eq!(in_header.len(), 14);
+    assert_eq!(in_header.len(), 15);
     assert_eq!(in_header, in_raw);
 }

@@ -1,5 +1,5 @@
 // The public calls for programs in C and Rust, on numbers, byte slices and arrays of fixed size. Each answers 0, or 01's number of
-// its refusal; a refusal leaves every out parameter as it was. include/mfs.h declares them.
+// its refusal; a refusal leaves every out parameter as it was. include/mfs_c.h declares them.
 use block::Addr;
 use file::Counted;
 use file::Handle;
@@ -16,7 +16,15 @@ ghost use Rattle.file.specs.declared.SeekFrom.the-variants as from;
 ghost use Rattle.file.specs.Written.{countedSays};
 ghost use Rattle.mfs.specs.Says.{says};
 ghost use Rattle.mfs.specs.Reading.{openSays};
-ghost use Rattle.mfs_c.specs.Exports.{told, handleOf, numbersOf, FormatsC, UsesC, ChecksC, HandleOut, OpensC, InformsC, ListsC, CountOut, ReadsC, SeeksC, CreatesFileC, CreatesDirC, DeletesC, WritesC};
+ghost use Rattle.mfs_c.specs.Exports.{abiVersion, told, handleOf, numbersOf, FormatsC, UsesC, ChecksC, HandleOut, OpensC, InformsC, ListsC, CountOut, ReadsC, SeeksC, CreatesFileC, CreatesDirC, DeletesC, WritesC};
+
+// The version of these exports, for callers that were compiled against another one to find out.
+#[no_mangle]
+pub extern "C" fn mfs_c_version() -> u32
+    ensures { λ v. ⌜ v ≡ abiVersion ⌝ }
+{
+    1
+}
 
 // The number of a refusal, as the exports answer it.
 fn code(r: Refusal) -> u32

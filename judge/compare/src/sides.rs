@@ -25,7 +25,7 @@ pub struct Sides<'a> {
 #[derive(Debug)]
 pub enum Verdict {
     /// Both answered this; a refusal has the library's number.
-    Same(Answer, Option<u8>),
+    Same(Answer, Option<u32>),
     LeftOut(Reason),
     /// No handle is in the call's slot, the page's directory is gone, or a listing would begin past the last entry.
     NotMade,
