@@ -130,6 +130,17 @@ impl Changing {
         advice::failure(refusal, &self.map, self.k, &self.name, path)
     }
 
+    /// As `refused`, for a call that was to create something: not found is then a directory on the way.
+    pub fn not_created(&self, refusal: Refusal, path: &[u8], advice: &str) -> Failure {
+        match self.refused(refusal, path) {
+            Failure::Refused { subject, number: 5, .. } => {
+                let reason = "a directory on the way is not there".to_string();
+                Failure::Refused { subject, number: 5, reason, advice: advice.to_string() }
+            }
+            other => other,
+        }
+    }
+
     /// Stores what has changed among the given blocks, or with `--dry-run` only counts it.
     pub fn store(self, blocks: impl Iterator<Item = u32>) -> Result<u64, Failure> {
         let failed = |error| Failure::host(&self.name, error);

@@ -9,3 +9,4 @@ mod readme;
 mod refusals;
 mod sharing;
 mod support;
+mod terminal;
