@@ -183,7 +183,7 @@ Options, anywhere on the line:
                   but without a word where it is block 8
   --code 0|auto   the card's size code: 0 is blocks of 512 bytes, and the only one yet
   --json          one object a line
-  -q, --quiet     no remarks and no progress bar
+  -q, --quiet     no progress bar, and no remark but that a change was rolled back
   --no-progress   no progress bar";
 
 const CODES: &str = "\

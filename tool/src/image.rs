@@ -33,6 +33,9 @@ impl Reading {
         let name = path.display().to_string();
         let failed = |error| Failure::host(&name, error);
         let real = path.canonicalize().map_err(failed)?;
+        if real.is_dir() {
+            return Err(Failure::host(&name, "is a folder, and no image"));
+        }
         let mut file = File::open(&real).map_err(failed)?;
         lock(&file, Hold::Shared, &name, out)?;
         if undo::log_of(&real).exists() {

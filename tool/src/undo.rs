@@ -177,7 +177,7 @@ pub fn roll_back(image: &mut File, path: &Path, name: &str, out: &Output) -> Res
     };
     fs::remove_file(&log).map_err(of_log)?;
     sync_folder_of(&log).map_err(of_log)?;
-    out.note(name, &said);
+    out.warn(name, &said);
     Ok(())
 }
 

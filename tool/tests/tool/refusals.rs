@@ -254,6 +254,8 @@ fn files_of_the_host_that_fail() {
     let bench = Bench::with_card();
     bench.fails(&["ls", "none.img"], 3, "mfs: none.img: No such file or directory (os error 2)");
     bench.fails(&["mkdir", "none.img", "/d"], 3, "mfs: none.img: No such file or directory (os error 2)");
+    bench.fails(&["ls", "."], 3, "mfs: .: is a folder, and no image");
+    bench.fails(&["mkdir", ".", "/d"], 3, "mfs: .: Is a directory (os error 21)");
     bench.fails(
         &["map", "--svg", "no/such/folder.svg", "card.img"],
         3,

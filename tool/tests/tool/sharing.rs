@@ -59,7 +59,7 @@ fn a_log_without_its_end_was_never_followed_by_a_store() {
     let bench = Bench::with_street();
     let before = bench.read("card.img");
     bench.file("card.img.mfs-undo", b"MFSUNDO1\0\0\0");
-    let run = bench.run(&["ls", "card.img"]);
+    let run = bench.run(&["--quiet", "ls", "card.img"]);
     let said = "mfs: card.img: a change was interrupted before it began: nothing to roll back\n";
     assert_eq!((run.code, run.out.as_str(), run.err.as_str()), (0, "street\n", said));
     assert!(!bench.has("card.img.mfs-undo") && bench.read("card.img") == before);
