@@ -1,7 +1,7 @@
 // Bits of a lent slice, numbered from byte `from` on: bit x is in byte x / 8, at x % 8 counted from the lowest.
 // The bitmap of a volume and the work buffer of the check are both read and written here, by shifts and masks.
 ghost use mathlib.Core.Path.{_≡_};
-ghost use Prim.Native.Nat.{ℕ, _+_, _/_, _<_, _≤_};
+ghost use Prim.Native.Nat.{ℕ, _+_, _*_, _/_, _<_, _≤_};
 ghost use lib.ListN.{length};
 ghost use Rattle.bits.specs.Bit.{bit, withBit, ones, BitIs, BitsFit, AllSet};
 ghost use Rattle.bits.specs.Find.{Lowest};
@@ -74,17 +74,76 @@ pub fn lowest_clear(s: &[u8], from: usize, start: u32, limit: u32) -> Found
     Found::Nothing
 }
 
-// How many bits below the limit are set.
-pub fn count(s: &[u8], from: usize, limit: u32) -> u32
-    requires { ⌜ BitsFit (now s) from limit ⌝ }
-    ensures { λ r. ⌜ r ≡ ones (now (s .entry)) from limit ⌝ }
+// The ones of the eight bytes at `at`, counted together.
+fn word_ones(s: &[u8], at: usize) -> u32
+    requires { ⌜ at + 8 ≤ length (now s) ⌝ }
+    ensures { λ r. ⌜ (r ≡ ones (now (s .entry)) at 64) × (r ≤ 64) ⌝ }
+{
+    u64::count_ones(wire::get(s, at, 8))
+}
+
+// The ones of one byte.
+fn byte_ones(s: &[u8], at: usize) -> u32
+    requires { ⌜ at < length (now s) ⌝ }
+    ensures { λ r. ⌜ (r ≡ ones (now (s .entry)) at 8) × (r ≤ 8) ⌝ }
+{
+    u8::count_ones(s[at])
+}
+
+// How many bits of the k words of eight bytes from `from` on are set.
+fn count_words(s: &[u8], from: usize, k: u32) -> u32
+    requires { ⌜ from + 8 * k ≤ length (now s) ⌝ }
+    requires { ⌜ k ≤ 67108863 ⌝ }
+    ensures { λ r. ⌜ (r ≡ ones (now (s .entry)) from (64 * k)) × (r ≤ 64 * k) ⌝ }
+{
+    let mut n: u32 = 0;
+    let mut i: u32 = 0;
+    while i < k {
+        n += word_ones(s, from + 8 * (i as usize));
+        i += 1;
+    }
+    n
+}
+
+// How many bits of the k bytes from `from` on are set.
+fn count_bytes(s: &[u8], from: usize, k: u32) -> u32
+    requires { ⌜ from + k ≤ length (now s) ⌝ }
+    requires { ⌜ k ≤ 8 ⌝ }
+    ensures { λ r. ⌜ (r ≡ ones (now (s .entry)) from (8 * k)) × (r ≤ 8 * k) ⌝ }
+{
+    let mut n: u32 = 0;
+    let mut i: u32 = 0;
+    while i < k {
+        n += byte_ones(s, from + (i as usize));
+        i += 1;
+    }
+    n
+}
+
+// How many of the first k bits from byte `from` on are set.
+fn count_bits(s: &[u8], from: usize, k: u32) -> u32
+    requires { ⌜ BitsFit (now s) from k ⌝ }
+    ensures { λ r. ⌜ (r ≡ ones (now (s .entry)) from k) × (r ≤ k) ⌝ }
 {
     let mut n: u32 = 0;
     let mut x: u32 = 0;
-    while x < limit {
+    while x < k {
         let b = bit_at(s, from, x);
         n += b as u32;
         x += 1;
     }
     n
+}
+
+// How many bits below the limit are set: eight bytes together, the last few bytes singly, and of a last part of a byte its bits.
+pub fn count(s: &[u8], from: usize, limit: u32) -> u32
+    requires { ⌜ BitsFit (now s) from limit ⌝ }
+    ensures { λ r. ⌜ r ≡ ones (now (s .entry)) from limit ⌝ }
+{
+    let words = limit / 64;
+    let bytes = limit % 64 / 8;
+    let a = count_words(s, from, words);
+    let b = count_bytes(s, from + 8 * (words as usize), bytes);
+    let c = count_bits(s, from + 8 * (words as usize) + (bytes as usize), limit % 8);
+    a + b + c
 }
