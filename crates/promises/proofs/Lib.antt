@@ -14,3 +14,4 @@ pub mod Made
 pub mod Gone
 pub mod Kept
 pub mod Promises
+pub mod Lost
