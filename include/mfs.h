@@ -94,8 +94,7 @@ typedef enum mfs_refusal {
     MFS_NOT_EMPTY = 14,   /* delete: the directory has entries */
     MFS_TOO_DEEP = 15,    /* the new directory would be at depth 17 */
     MFS_SHORT_WORK = 16,  /* work buffer shorter than ceil((n - D) / 8) bytes */
-    MFS_DAMAGED = 17,     /* check, changing calls: not well formed; others: damage on the way */
-    MFS_LOST_DIR = 18     /* holding directory's own entry missing; never after a passed check */
+    MFS_DAMAGED = 17      /* check, changing calls: not well formed; others: damage on the way */
 } mfs_refusal;
 
 /* The reason of a refusal in words. Never NULL. */
@@ -138,8 +137,6 @@ static inline const char *mfs_refusal_text(uint32_t number)
         return "the work buffer has less than one bit for each block of the data area";
     case MFS_DAMAGED:
         return "the volume is damaged";
-    case MFS_LOST_DIR:
-        return "the holding directory's own entry is missing";
     default:
         return "no refusal has that number";
     }
@@ -238,7 +235,7 @@ uint32_t mfs_c_seek_end(uint32_t number[4], const uint8_t name[255], size_t len,
 /*
  * Creates a file of 0 bytes at a path and opens it: number, name and len become its handle. The
  * holding directory's own entry gets its new size and the time.
- * Refusals: 1, 2, 3, 16, 17, 4, 8, the first of 5, 6 on the way along the path, 7, 9, 18.
+ * Refusals: 1, 2, 3, 16, 17, 4, 8, the first of 5, 6 on the way along the path, 7, 9.
  */
 uint32_t mfs_c_create_file(uint8_t *img, size_t img_len, uint32_t k,
                            const uint8_t *cwd, size_t cwd_len,
@@ -249,7 +246,7 @@ uint32_t mfs_c_create_file(uint8_t *img, size_t img_len, uint32_t k,
 /*
  * Creates an empty directory at a path. The holding directory's own entry gets its new size and the
  * time.
- * Refusals: 1, 2, 3, 16, 17, 4, 8, the first of 5, 6 on the way along the path, 15, 7, 9, 18.
+ * Refusals: 1, 2, 3, 16, 17, 4, 8, the first of 5, 6 on the way along the path, 15, 7, 9.
  */
 uint32_t mfs_c_create_dir(uint8_t *img, size_t img_len, uint32_t k,
                           const uint8_t *cwd, size_t cwd_len,
@@ -259,7 +256,7 @@ uint32_t mfs_c_create_dir(uint8_t *img, size_t img_len, uint32_t k,
 /*
  * Deletes the file, the device or the empty directory at a path. The holding directory's own entry
  * gets its new size and the time.
- * Refusals: 1, 2, 3, 16, 17, 4, the first of 5, 6 on the way along the path, 14, 18.
+ * Refusals: 1, 2, 3, 16, 17, 4, the first of 5, 6 on the way along the path, 14.
  */
 uint32_t mfs_c_delete(uint8_t *img, size_t img_len, uint32_t k,
                       const uint8_t *cwd, size_t cwd_len,
@@ -421,7 +418,7 @@ static inline mfs_refusal mfs_seek_end(mfs_handle *handle, int32_t by)
 
 /*
  * Creates a file of 0 bytes, and opens it.
- * Refusals: 1, 2, 3, 16, 17, 4, 8, the first met of 5, 6, then 7, 9, 18.
+ * Refusals: 1, 2, 3, 16, 17, 4, 8, the first met of 5, 6, then 7, 9.
  */
 static inline mfs_refusal mfs_create_file(const mfs_volume *volume, const char *path, uint64_t time,
                                           mfs_handle *handle)
@@ -435,7 +432,7 @@ static inline mfs_refusal mfs_create_file(const mfs_volume *volume, const char *
 
 /*
  * Creates an empty directory.
- * Refusals: 1, 2, 3, 16, 17, 4, 8, the first met of 5, 6, then 15, 7, 9, 18.
+ * Refusals: 1, 2, 3, 16, 17, 4, 8, the first met of 5, 6, then 15, 7, 9.
  */
 static inline mfs_refusal mfs_create_dir(const mfs_volume *volume, const char *path, uint64_t time)
 {
@@ -447,7 +444,7 @@ static inline mfs_refusal mfs_create_dir(const mfs_volume *volume, const char *p
 
 /*
  * Deletes a file, a device or an empty directory.
- * Refusals: 1, 2, 3, 16, 17, 4, the first met of 5, 6, then 14, 18.
+ * Refusals: 1, 2, 3, 16, 17, 4, the first met of 5, 6, then 14.
  */
 static inline mfs_refusal mfs_delete(const mfs_volume *volume, const char *path, uint64_t time)
 {

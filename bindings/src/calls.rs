@@ -206,7 +206,7 @@ pub fn seek(handle: &mut Handle, from: SeekFrom) -> Result<(), Refusal> {
 
 /// Creates a file of 0 bytes at a path, and opens it. The holding directory's own entry gets its new size and the time.
 ///
-/// Refusals: 1, 2, 3, 16, 17, 4, 8, the first of 5, 6 on the way along the path, 7, 9, 18.
+/// Refusals: 1, 2, 3, 16, 17, 4, 8, the first of 5, 6 on the way along the path, 7, 9.
 pub fn create_file(image: &mut [u8], k: u32, cwd: &[u8], path: &[u8], time: u64, work: &mut [u8]) -> Result<Handle, Refusal> {
     let mut h = Handle::empty();
     // SAFETY: as the top of this file says.
@@ -232,7 +232,7 @@ pub fn create_file(image: &mut [u8], k: u32, cwd: &[u8], path: &[u8], time: u64,
 
 /// Creates an empty directory at a path. The holding directory's own entry gets its new size and the time.
 ///
-/// Refusals: 1, 2, 3, 16, 17, 4, 8, the first of 5, 6 on the way along the path, 15, 7, 9, 18.
+/// Refusals: 1, 2, 3, 16, 17, 4, 8, the first of 5, 6 on the way along the path, 15, 7, 9.
 pub fn create_dir(image: &mut [u8], k: u32, cwd: &[u8], path: &[u8], time: u64, work: &mut [u8]) -> Result<(), Refusal> {
     // SAFETY: as the top of this file says.
     let number = unsafe {
@@ -254,7 +254,7 @@ pub fn create_dir(image: &mut [u8], k: u32, cwd: &[u8], path: &[u8], time: u64, 
 
 /// Deletes the file, the device or the empty directory at a path. The holding directory's own entry gets its new size and the time.
 ///
-/// Refusals: 1, 2, 3, 16, 17, 4, the first of 5, 6 on the way along the path, 14, 18.
+/// Refusals: 1, 2, 3, 16, 17, 4, the first of 5, 6 on the way along the path, 14.
 pub fn delete(image: &mut [u8], k: u32, cwd: &[u8], path: &[u8], time: u64, work: &mut [u8]) -> Result<(), Refusal> {
     // SAFETY: as the top of this file says.
     let number = unsafe {

@@ -40,13 +40,11 @@ pub enum Refusal {
     ShortWork = 16,
     /// The volume is damaged.
     Damaged = 17,
-    /// The holding directory's own entry is not found. Never given on a volume that passes the check.
-    LostDir = 18,
 }
 
 impl Refusal {
     /// Every refusal, in the order of the numbers.
-    pub const ALL: [Refusal; 18] = [
+    pub const ALL: [Refusal; 17] = [
         Refusal::BadImage,
         Refusal::NotMfs,
         Refusal::BadCount,
@@ -64,7 +62,6 @@ impl Refusal {
         Refusal::TooDeep,
         Refusal::ShortWork,
         Refusal::Damaged,
-        Refusal::LostDir,
     ];
 
     /// The number of the refusal.
@@ -72,7 +69,7 @@ impl Refusal {
         self as u8
     }
 
-    /// The refusal of that number, 1 to 18.
+    /// The refusal of that number, 1 to 17; 18 was one once and is none now.
     pub fn from_number(number: u32) -> Option<Refusal> {
         let place = usize::try_from(number).ok()?.checked_sub(1)?;
         Refusal::ALL.get(place).copied()
@@ -98,7 +95,6 @@ impl Refusal {
             Refusal::TooDeep => "the new directory would be at depth 17",
             Refusal::ShortWork => "the work buffer has less than one bit for each block of the data area",
             Refusal::Damaged => "the volume is damaged",
-            Refusal::LostDir => "the holding directory's own entry is missing",
         }
     }
 }

@@ -55,7 +55,7 @@ fn numbers_lead_back_to_their_refusals() {
         assert_eq!(usize::from(refusal.number()), place + 1);
         assert_eq!(Refusal::from_number(place as u32 + 1), Some(refusal));
     }
-    for number in [0, 19, 256 + 1, u32::MAX] {
+    for number in [0, 18, 19, 256 + 1, u32::MAX] {
         assert_eq!(Refusal::from_number(number), None);
     }
 }

@@ -22,11 +22,12 @@ use Rattle.read_dir.specs.Walk.{walk}
 use Rattle.read_dir.specs.Finds.{findIn}
 use Rattle.path.specs.Path.{slash, realPath, badPath}
 use Rattle.dir.specs.Resolve.{onName}
+use Rattle.dir.specs.Hold.{onPlaced}
 use Rattle.model.proofs.Replies.{and-then-ok, not-accepted, first-refused}
 use Rattle.thm_path.specs.Held.{HeldAt}
 use Rattle.thm_path.proofs.Finds.{find-missing}
 use Rattle.thm_path.proofs.Holding.{hold-is, hold-some}
-use Rattle.delete.specs.Deleting.{Doomed, onPlaced, doomedAt, doomedIn, doomedOf, deletedOn}
+use Rattle.delete.specs.Deleting.{Doomed, doomedAt, doomedIn, doomedOf, deletedOn}
 use Rattle.delete.proofs.OnVolume.{bare-accepted, full-refused, refused-full}
 use Rattle.file.specs.declared.Handle.{Handle}
 use Rattle.mfs.specs.declared.Answer.{Answer}
@@ -92,7 +93,7 @@ module _ (K : ℕ) (I W : List ℕ) (b : Bytes I) (w : WellFormed K I) (long : m
       let found-from : ℕ → Found = λ a. findIn n (walk (blockSize (geoAt K I)) (dataAt (geoAt K I)) (geoAt K I .n) I a) in
       let f : found-from (h .0 .dir) ≡ found.Missing
       = ap found-from (sym (ap (λ (x : Some). blocksAt (x .1)) y ∙ q .starts)) ∙ find-missing (geoAt K I) I maxDepth (w .tree) _ (wayOf cwd p) s laid (v .there) n (v .free) in
-      name-five n _ (and-then-ok (h .0) (doomedIn (geoAt K I) I n) (h .1) ∙ ap (λ (x : Found). onPlaced x (doomedAt (geoAt K I) I (h .0))) f)
+      name-five n _ (and-then-ok (h .0) (doomedIn (geoAt K I) I n) (h .1) ∙ ap (λ (x : Found). onPlaced x (doomedAt (h .0))) f)
 
   pub delete-not-found : Vacant maxDepth (wayOf cwd p) (lastOf cwd p) (w .tree) → says r ≡ refused 5
   delete-not-found v = delete-says ∙ refused-then doomed (λ x. tt) 5 (nothing-there v)

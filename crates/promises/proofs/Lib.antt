@@ -14,4 +14,4 @@ pub mod Made
 pub mod Gone
 pub mod Kept
 pub mod Promises
-pub mod Lost
+pub mod OwnEntry

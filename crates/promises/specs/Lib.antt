@@ -3,4 +3,4 @@ pub mod Sequence
 pub mod Counter
 pub mod Honest
 pub mod Promises
-pub mod Lost
+pub mod OwnEntry
