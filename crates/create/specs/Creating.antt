@@ -1,5 +1,5 @@
 -- Creating by a full path, on an opened volume: the refusals in their order, and the image. Definitions alone.
--- 8, 5/6, 15, 7, 9 (4 comes before, with the path)
+-- O9: 8, 5/6, 15, 7, 9 (4 comes before, with the path)
 use mathlib.Core.Bool.{Bool, _&&_, _||_}
 use mathlib.Core.List.{List}
 use Prim.Native.Nat.{ℕ}

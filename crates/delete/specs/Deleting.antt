@@ -1,5 +1,5 @@
 -- Deleting by a full path, on an opened volume: the refusals in their order, and the image. Definitions alone.
--- 5/6, 14 (4 comes before, with the path)
+-- O10: 5/6, 14 (4 comes before, with the path)
 use mathlib.Core.Bool.{Bool, not, _&&_}
 use mathlib.Core.List.{List}
 use Prim.Native.Nat.{ℕ}

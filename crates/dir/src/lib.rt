@@ -53,10 +53,11 @@ fn directory(e: DirEntry, p: Place, depth: u32) -> Holds
     match k {
         Kind::Dir => {
             let a = e.addr;
+            let deep = depth + 1;
             Holds::At(Holding {
                 dir: a,
                 own: Own::At(p),
-                depth: depth + 1,
+                depth: deep,
             })
         }
         Kind::File => Holds::Refused(Refusal::WrongKind),

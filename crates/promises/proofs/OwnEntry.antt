@@ -6,6 +6,7 @@ use Rattle.model.specs.Answers.{accepted}
 use Rattle.model.specs.Geometry.{geoAt, blockSize, dataAt}
 use Rattle.model.specs.Volume.{maxDepth}
 use Rattle.model.specs.Steps.{Bytes}
+use Rattle.limits.proofs.Numbers.{number-few}
 use Rattle.super_block.specs.declared.SuperBlock.{SuperBlock}
 use Rattle.super_block.specs.Super.{superBlock, Fit}
 use Rattle.super_block.proofs.Fits.{opened-fit}
@@ -31,4 +32,5 @@ pub own-entry-there : OwnEntryThere
 own-entry-there = record {
   inside = own-inside;
   there = λ K I w cwd p h q. own-there (geoAt K I) I maxDepth (w .tree) _ (wayOf cwd p) (volume-at K I w .laid) h q;
+  numbers = number-few;
 }

@@ -1,11 +1,13 @@
 -- The own entry of a directory: after the check and the walk it is there, so that no call is refused for want of it. Definitions alone.
 use mathlib.Core.Path.{_≡_}
 use mathlib.Core.List.{List}
-use Prim.Native.Nat.{ℕ}
+use Prim.Native.Nat.{ℕ, _≤_}
 use Rattle.model.specs.Answers.{accepted}
 use Rattle.model.specs.Geometry.{geoAt, blockSize, dataAt}
 use Rattle.model.specs.Volume.{WellFormed, maxDepth}
 use Rattle.model.specs.Steps.{Bytes}
+use Rattle.limits.specs.declared.Refusal.{Refusal}
+use Rattle.limits.specs.Refusals.{refusalNumber}
 use Rattle.own_entry.specs.Own.{OwnIn, OwnOf}
 use Rattle.path.specs.Path.{realPath, dirPart}
 use Rattle.dir.specs.Hold.{Hold, holdDir}
@@ -21,3 +23,5 @@ pub record OwnEntryThere : Type 0 where
   pub there : (K : ℕ) (I : List ℕ) (w : WellFormed K I) (cwd p : List ℕ) (h : Hold)
       → holdDir (blockSize (geoAt K I)) (dataAt (geoAt K I)) (geoAt K I .n) I (dirPart (realPath cwd p)) ≡ accepted h
       → OwnOf (blockSize (geoAt K I)) maxDepth (wayOf cwd p) (w .tree) (h .own)
+  -- So no refusal has the number 18.
+  pub numbers : (r : Refusal) → refusalNumber r ≤ 17

@@ -10,8 +10,8 @@ enum-told : tie.Need-enum-told
 enum-told c = search needs
 
 -- src/lib.rt:59:24
-add-t8 : tie.Need-add-t8
-add-t8 c = search needs
+add-deep : tie.Need-add-deep
+add-deep c = search needs
 
 -- src/lib.rt:62:38
 enum-told-2 : tie.Need-enum-told-2
@@ -35,4 +35,4 @@ returns-3 c = search directory-device
 
 pub directory-spec : {M : Type 1} → statement M
 directory-spec =
-    tie.close (tie.spec enum-told add-t8 enum-told-2 enum-told-3 returns returns-2 returns-3)
+    tie.close (tie.spec enum-told add-deep enum-told-2 enum-told-3 returns returns-2 returns-3)
