@@ -26,18 +26,16 @@ use Rattle.dir_entry.specs.declared.Kind.the-variants.{Dir, File}
 use Rattle.dir_entry.specs.Entry.{isDir}
 use Rattle.read_dir.specs.Walk.{walk}
 use Rattle.read_dir.specs.Finds.{findIn}
-use Rattle.own_entry.specs.declared.Own.{Own}
-use Rattle.own_entry.specs.Own.{OwnOf}
 use Rattle.create_store.specs.declared.Spot.{Spot}
 use Rattle.create_store.specs.declared.Spot.the-variants as spot
 use Rattle.create_store.specs.Create.{spotFor, needed, SpotIn, insertedAt}
 use Rattle.create_store.proofs.Inserted.{inserted-file, inserted-dir, inserted-entry, spot-inside, spot-adds}
 use Rattle.path.specs.Path.{pathBytes, lastName, dirPart, steps}
 use Rattle.path.proofs.Laws.{bytes-all, last-names}
-use Rattle.dir.specs.Hold.{Hold, holdDir, ownOf}
+use Rattle.dir.specs.Hold.{Hold, holdDir}
 use Rattle.thm_path.specs.Held.{HeldAt}
 use Rattle.thm_path.proofs.Finds.{lookup-or, find-is, find-missing}
-use Rattle.thm_path.proofs.Holding.{hold-is, own-is, hold-refused, hold-some}
+use Rattle.thm_path.proofs.Holding.{hold-is, hold-refused, hold-some}
 use Rattle.create.specs.Creating.{Site, Fresh, badName, tooDeep, existsNumber, spotNumber, noRoom, siteAt, siteIn, siteOf, freshOf, createdOn, imageAt, createdImage}
 use Rattle.create.specs.OnTree.{treeRefusal}
 use Rattle.create.proofs.Sites.{name-short}
@@ -139,12 +137,8 @@ module _ (g : Geo) (I : List ℕ) (t : Tree maxDepth) (v : Volume g I maxDepth t
   abbrev at : Spot
   at = spotFor (blockSize g) (dataAt g) (g .n) I (h .dir) (length n)
 
-  -- the directory's own entry
-  pub own : (o : Own) × (ownOf (blockSize g) (dataAt g) (g .n) I h ≡ accepted o) × OwnOf (blockSize g) maxDepth p t o
-  own = own-is g I maxDepth t _ p (v .laid) h q
-
   abbrev site : Site
-  site = record { dir = h .dir; spot = at; own = own .0 }
+  site = record { dir = h .dir; spot = at; own = h .own }
 
   deep-is : tooDeep k h ≡ (isDir k && eqb (dir .0) 0)
   unfolding tooDeep
@@ -170,10 +164,9 @@ module _ (g : Geo) (I : List ℕ) (t : Tree maxDepth) (v : Volume g I maxDepth t
   unfolding siteAt
   at-is =
       given-none _ (spot-known (blockSize g) (dataAt g) (g .n) (length n) at (spot-inside g I maxDepth t n at v p dir (q .found) (h .dir) (q .starts) refl))
-      ∙ ap (λ (b : Bool). given (when 9 b) (andThen (ownOf (blockSize g) (dataAt g) (g .n) I h) (λ o. accepted (record { dir = h .dir; spot = at; own = o })))) room-is
-      ∙ ap (given (when 9 (ltb (length free) (toCreate (entryRoom g) n (dir .1))))) (and-then-ok (own .0) (λ o. accepted (record { dir = h .dir; spot = at; own = o })) (own .1))
+      ∙ ap (λ (b : Bool). given (when 9 b) (accepted site)) room-is
 
-  -- The tree's refusal if there is one, and else the site: never 17 or 18.
+  -- The tree's refusal if there is one, and else the site: never 17.
   pub site-is : siteIn g I k n h ≡ given (treeRefusal g free k n dir) (accepted site)
   unfolding siteIn
   site-is =
@@ -240,7 +233,7 @@ module _ (g : Geo) (I : List ℕ) (t : Tree maxDepth) (v : Volume g I maxDepth t
       go (refused j) e =
           (j, hold-refused g I maxDepth t _ way (v .laid) j e .1, ap (given (when 8 (badName last))) (and-then-no j (siteIn g I k last) e))
 
-  -- A refusal is 8, 5 or 6, or 15, 7 or 9,
+  -- A refusal is 8, 5 or 6, or 15, 7 or 9: damage, 17, is never met.
   pub refused-is : (j : ℕ) → siteOf g I k l ≡ refused j → (j ≡ 8) ⊎ (((j ≡ 5) ⊎ (j ≡ 6)) ⊎ InDir j)
   unfolding siteOf
   refused-is j e = name (given-refused (when 8 (badName last)) _ j e)
@@ -267,18 +260,6 @@ module _ (g : Geo) (I : List ℕ) (t : Tree maxDepth) (v : Volume g I maxDepth t
           bad (inl b) = a .1 ∙ when-true 8 b
           bad (inr b) = absurd (omega (arith, a .0, when-false 8 b))
       name (inr a) = dirs (then-refused (holdDir (blockSize g) (dataAt g) (g .n) I (dirPart l)) (siteIn g I k last) j (a .1))
-
-  -- so that on a volume neither 17 nor 18 is ever given.
-  pub never-lost : (j : ℕ) → siteOf g I k l ≡ refused j → (j ≡ 17 → ⊥) × (j ≡ 18 → ⊥)
-  never-lost j e = go (refused-is j e)
-    where
-      go : (j ≡ 8) ⊎ (((j ≡ 5) ⊎ (j ≡ 6)) ⊎ InDir j) → (j ≡ 17 → ⊥) × (j ≡ 18 → ⊥)
-      go (inl a) = (λ z. omega arith, λ z. omega arith)
-      go (inr (inl (inl a))) = (λ z. omega arith, λ z. omega arith)
-      go (inr (inl (inr a))) = (λ z. omega arith, λ z. omega arith)
-      go (inr (inr (inl a))) = (λ z. omega arith, λ z. omega arith)
-      go (inr (inr (inr (inl a)))) = (λ z. omega arith, λ z. omega arith)
-      go (inr (inr (inr (inr a)))) = (λ z. omega arith, λ z. omega arith)
 
   -- "9 fewer clear indexes in reach than blocks to add": exactly where 15 and 7 are not given and fewer blocks are free than are added.
   pub no-room : (h : Hold) (s : Some) → holdDir (blockSize g) (dataAt g) (g .n) I (dirPart l) ≡ accepted h → find maxDepth way t ≡ some s
@@ -315,11 +296,10 @@ module _ (g : Geo) (I : List ℕ) (t : Tree maxDepth) (v : Volume g I maxDepth t
       let d = q .there in
       let m = good-last b (r .named) in
       let z = tree-none g unused k last d (r .tests) in
-      let o = own g I t v way h q k last in
       let w : siteOf g I k l ≡ accepted (site g I t v way h q k last) = e ∙ ap accepted (r .here) in
       let first : h .dir ≡ blocksAt (s .1) = sym (q .starts) ∙ ap (λ (y : Some). blocksAt (y .1)) (one-there s h q f) in
       let second : insertedAt g I (at g I t v way h q k last) ≡ entryBlock g last (s .1) unused
-      = inserted-entry g I maxDepth t v way last 0 (o .0) (o .2) m (omega arith) d (q .found) (h .dir) (q .starts) (at g I t v way h q k last) refl (z .1) (z .2)
+      = inserted-entry g I maxDepth t v way last 0 (h .own) (q .own) m (omega arith) d (q .found) (h .dir) (q .starts) (at g I t v way h q k last) refl (z .1) (z .2)
       ∙ ap (λ (y : Some). entryBlock g last (y .1) unused) (one-there s h q f) in
       and-then-ok (site g I t v way h q k last) (λ (y : Site). let u : Reply Fresh = accepted (record { dir = y .dir; block = insertedAt g I (y .spot) }) in u) w
       ∙ ap (λ (a : ℕ). let u : Reply Fresh = accepted (record { dir = a; block = insertedAt g I (at g I t v way h q k last) }) in u) first
@@ -339,9 +319,8 @@ module _ (g : Geo) (I : List ℕ) (t : Tree maxDepth) (v : Volume g I maxDepth t
       let h = r .hold in
       let q = r .at in
       let z = tree-none g (freeBlocks g maxDepth t) File (lastName l) (q .there) (r .tests) in
-      let o = own g I t v names h q File (lastName l) in
       subst (λ (y : Reply Site). TreeCreatesFile g maxDepth names (lastName l) now t I (imageAt g I File (lastName l) now y)) (sym (e ∙ ap accepted (r .here)))
-      (inserted-file g I maxDepth t v names (lastName l) now (o .0) (o .2) (good-last g I t v File l plain (r .named)) clock (q .there) (q .found) (h .dir) (q .starts)
+      (inserted-file g I maxDepth t v names (lastName l) now (h .own) (q .own) (good-last g I t v File l plain (r .named)) clock (q .there) (q .found) (h .dir) (q .starts)
       (at g I t v names h q File (lastName l)) refl (z .1) (z .2))
 
   -- An accepted create of a directory is the model's.
@@ -352,8 +331,7 @@ module _ (g : Geo) (I : List ℕ) (t : Tree maxDepth) (v : Volume g I maxDepth t
       let h = r .hold in
       let q = r .at in
       let z = tree-none g (freeBlocks g maxDepth t) Dir (lastName l) (q .there) (r .tests) in
-      let o = own g I t v names h q Dir (lastName l) in
       let some-level : q .there .0 ≡ 0 → ⊥ = eqb-false (q .there .0) 0 (z .0) in
       subst (λ (y : Reply Site). TreeCreatesDir g maxDepth names (lastName l) now t I (imageAt g I Dir (lastName l) now y)) (sym (e ∙ ap accepted (r .here)))
-      (inserted-dir g I maxDepth t v names (lastName l) now (o .0) (o .2) (good-last g I t v Dir l plain (r .named)) clock (q .there) (q .found) (h .dir) (q .starts)
+      (inserted-dir g I maxDepth t v names (lastName l) now (h .own) (q .own) (good-last g I t v Dir l plain (r .named)) clock (q .there) (q .found) (h .dir) (q .starts)
       (at g I t v names h q Dir (lastName l)) refl (z .1) (z .2) (omega arith))

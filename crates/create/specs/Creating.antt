@@ -1,5 +1,5 @@
--- Creating by a full path, on an opened volume: the refusals in 01's order, and the image. Definitions alone.
--- "create 4, 8, 5/6, 15, 7, 9, 18" (4 comes before, with the path)
+-- Creating by a full path, on an opened volume: the refusals in their order, and the image. Definitions alone.
+-- O9: 8, 5/6, 15, 7, 9 (4 comes before, with the path)
 use mathlib.Core.Bool.{Bool, _&&_, _||_}
 use mathlib.Core.List.{List}
 use Prim.Native.Nat.{ℕ}
@@ -20,7 +20,7 @@ use Rattle.create_store.specs.declared.Spot.{Spot}
 use Rattle.create_store.specs.declared.Spot.the-variants as spot
 use Rattle.create_store.specs.Create.{spotFor, needed, inserted, insertedAt}
 use Rattle.path.specs.Path.{lastName, dirPart}
-use Rattle.dir.specs.Hold.{Hold, holdDir, ownOf}
+use Rattle.dir.specs.Hold.{Hold, holdDir}
 
 -- Where an entry is created: its directory's first address, its place there, and that directory's own entry.
 pub record Site : Type 0 where
@@ -57,13 +57,9 @@ module _ (g : Geo) (I : List ℕ) where
   unfoldable pub noRoom : ℕ → Bool
   noRoom k = ltb (length (clears g I)) k
 
-  -- In the directory h, for a name that goes to the spot p: 9, 18, or the site; damage on the way to the spot is 17.
+  -- In the directory h, for a name that goes to the spot p: 9, or the site; damage on the way to the spot is 17.
   unfoldable pub siteAt : Hold → Spot → Reply Site
-  siteAt h p =
-      given (spotNumber p)
-      (given (when 9 (noRoom (needed p)))
-      (andThen (ownOf (blockSize g) (dataAt g) (g .n) I h)
-      (λ o. accepted (record { dir = h .dir; spot = p; own = o }))))
+  siteAt h p = given (spotNumber p) (given (when 9 (noRoom (needed p))) (accepted (record { dir = h .dir; spot = p; own = h .own })))
 
   -- In the directory h, for the name x: 15, 7, then these.
   unfoldable pub siteIn : Kind → List ℕ → Hold → Reply Site

@@ -33,13 +33,12 @@ use Rattle.path.proofs.Ends.{name-long}
 use Rattle.dir.specs.declared.Holding.{Holding}
 use Rattle.dir.specs.declared.Holds.{Holds}
 use Rattle.dir.specs.declared.Holds.the-variants as holds
-use Rattle.dir.specs.declared.Owned.{Owned}
-use Rattle.dir.specs.declared.Owned.the-variants as owned
-use Rattle.dir.specs.Hold.{Hold, holdDir, ownOf}
-use Rattle.dir.specs.Post.{holdOf, holdsSays, HoldsIn, ownedSays}
+use Rattle.dir.specs.Hold.{Hold, onPlaced, holdDir}
+use Rattle.dir.specs.Post.{holdOf, holdsSays}
 use Rattle.dir.proofs.Laws.{name-empty, name-some}
-use Rattle.delete.specs.Deleting.{Doomed, hasEntries, onPlaced, doomedAt, doomedIn, doomedOf, deletedOn, imageAt, deletedImage}
-use Rattle.delete.specs.Post.{markedSays, MarkedIn}
+use Rattle.dir.proofs.HoldLaws.{hold-inside, hold-numbers}
+use Rattle.delete.specs.Deleting.{Doomed, hasEntries, doomedAt, doomedIn, doomedOf, deletedOn, imageAt, deletedImage}
+use Rattle.delete.specs.Post.{markedSays}
 use Rattle.delete.specs.declared.Marked.{Marked}
 use Rattle.delete.specs.declared.Marked.the-variants as marked
 use Rattle.delete.proofs.Accepted.{Ready, doomed-by, doomed-ready}
@@ -65,44 +64,31 @@ module _ (e : DirEntry) where
 
 -- ---- the entry that is found
 
-module _ (s : SuperBlock) (I full : List ℕ) (h : Holding) (f : Fit s I) (e : DirEntry) (p : Place) (t : Bool) (q : t ≡ hasEntries e) where
-  -- the entry with its directory's own entry
-  abbrev with-own : Own → Reply Doomed
-  with-own o = accepted (record { dir = h .dir .0; entry = e; place = p; own = o })
-
-  pub at-full : t ≡ true → refused 14 ≡ doomedAt (geoOf s) I (holdOf full h) e p
+module _ (h : Holding) (e : DirEntry) (p : Place) (t : Bool) (q : t ≡ hasEntries e) where
+  pub at-full : t ≡ true → refused 14 ≡ doomedAt (holdOf h) e p
   unfolding doomedAt
   at-full z = sym (given-yes 14 _ (omega arith) (sym q ∙ z))
 
-  module _ (z : t ≡ false) (w : Owned) (v : ownedSays w ≡ ownOf 512 (s .area .0) (s .blocks) I (holdOf full h)) where
-    owned-is : andThen (ownedSays w) with-own ≡ doomedAt (geoOf s) I (holdOf full h) e p
-    unfolding doomedAt
-    owned-is =
-        ap (λ (r : Reply Own). andThen r with-own) (v ∙ ap (λ (d : ℕ). ownOf 512 d (s .blocks) I (holdOf full h)) (f .area))
-        ∙ sym (given-no 14 _ (sym q ∙ z))
-
-    pub at-owned : (o : Own) → w ≡ owned.At o → accepted (record { dir = h .dir .0; entry = e; place = p; own = o }) ≡ doomedAt (geoOf s) I (holdOf full h) e p
-    at-owned o k = sym (and-then-ok o with-own (ap ownedSays k)) ∙ owned-is
-
-    pub at-lost : w ≡ owned.Lost → refused 18 ≡ doomedAt (geoOf s) I (holdOf full h) e p
-    at-lost k = sym (and-then-no 18 with-own (ap ownedSays k)) ∙ owned-is
+  pub at-bare : t ≡ false → accepted (record { dir = h .dir .0; entry = e; place = p; own = h .own }) ≡ doomedAt (holdOf h) e p
+  unfolding doomedAt
+  at-bare z = sym (given-no 14 _ (sym q ∙ z))
 
 -- ---- by its name
 
-module _ (s : SuperBlock) (I full x : List ℕ) (h : Holding) (f : Fit s I) (w : Found) (q : w ≡ findIn x (walk 512 (s .area .0) (s .blocks) I (h .dir .0))) where
-  named-is : onPlaced w (doomedAt (geoOf s) I (holdOf full h)) ≡ doomedIn (geoOf s) I x (holdOf full h)
+module _ (s : SuperBlock) (I x : List ℕ) (h : Holding) (f : Fit s I) (w : Found) (q : w ≡ findIn x (walk 512 (s .area .0) (s .blocks) I (h .dir .0))) where
+  named-is : onPlaced w (doomedAt (holdOf h)) ≡ doomedIn (geoOf s) I x (holdOf h)
   unfolding doomedIn
   named-is =
-      ap (λ (y : Found). onPlaced y (doomedAt (geoOf s) I (holdOf full h))) (q ∙ ap (λ (d : ℕ). findIn x (walk 512 d (s .blocks) I (h .dir .0))) (f .area))
+      ap (λ (y : Found). onPlaced y (doomedAt (holdOf h))) (q ∙ ap (λ (d : ℕ). findIn x (walk 512 d (s .blocks) I (h .dir .0))) (f .area))
 
-  pub in-at : (e : DirEntry) (p : Place) (r : Reply Doomed) → w ≡ found.At e p → r ≡ doomedAt (geoOf s) I (holdOf full h) e p → r ≡ doomedIn (geoOf s) I x (holdOf full h)
-  in-at e p r k z = z ∙ sym (ap (λ (y : Found). onPlaced y (doomedAt (geoOf s) I (holdOf full h))) k) ∙ named-is
+  pub in-at : (e : DirEntry) (p : Place) (r : Reply Doomed) → w ≡ found.At e p → r ≡ doomedAt (holdOf h) e p → r ≡ doomedIn (geoOf s) I x (holdOf h)
+  in-at e p r k z = z ∙ sym (ap (λ (y : Found). onPlaced y (doomedAt (holdOf h))) k) ∙ named-is
 
-  pub in-missing : w ≡ found.Missing → refused 5 ≡ doomedIn (geoOf s) I x (holdOf full h)
-  in-missing k = sym (ap (λ (y : Found). onPlaced y (doomedAt (geoOf s) I (holdOf full h))) k) ∙ named-is
+  pub in-missing : w ≡ found.Missing → refused 5 ≡ doomedIn (geoOf s) I x (holdOf h)
+  in-missing k = sym (ap (λ (y : Found). onPlaced y (doomedAt (holdOf h))) k) ∙ named-is
 
-  pub in-damaged : w ≡ found.Damaged → refused 17 ≡ doomedIn (geoOf s) I x (holdOf full h)
-  in-damaged k = sym (ap (λ (y : Found). onPlaced y (doomedAt (geoOf s) I (holdOf full h))) k) ∙ named-is
+  pub in-damaged : w ≡ found.Damaged → refused 17 ≡ doomedIn (geoOf s) I x (holdOf h)
+  in-damaged k = sym (ap (λ (y : Found). onPlaced y (doomedAt (holdOf h))) k) ∙ named-is
 
 -- ---- at its path
 
@@ -111,37 +97,23 @@ module _ (s : SuperBlock) (I full : List ℕ) (len : ℕ) (f : Fit s I) (ps : Pa
   unfolding doomedOf
   mark-empty e = name-empty (lastName (take len full)) _ (omega (arith, name-long full len ps inside p))
 
-  module _ (w : Holds) (some : ps .from ≡ ps .to → ⊥) (q : holdsSays full w ≡ holdDir 512 (s .area .0) (s .blocks) I (take (ps .dir) full)) where
-    held-is : andThen (holdsSays full w) (doomedIn (geoOf s) I (lastName (take len full))) ≡ doomedOf (geoOf s) I (take len full)
+  module _ (w : Holds) (some : ps .from ≡ ps .to → ⊥) (q : holdsSays w ≡ holdDir 512 (s .area .0) (s .blocks) I (take (ps .dir) full)) where
+    held-is : andThen (holdsSays w) (doomedIn (geoOf s) I (lastName (take len full))) ≡ doomedOf (geoOf s) I (take len full)
     unfolding doomedOf
     held-is =
         ap (λ (r : Reply Hold). andThen r (doomedIn (geoOf s) I (lastName (take len full))))
         (q ∙ ap (λ (d : ℕ). holdDir 512 d (s .blocks) I (take (ps .dir) full)) (f .area) ∙ ap (holdDir 512 (dataAt (geoOf s)) (s .blocks) I) (p .dir))
         ∙ sym (name-some (lastName (take len full)) _ (λ z. some (omega (arith, name-long full len ps inside p, p .from-in))))
 
-    pub mark-held : (h : Holding) (r : Reply Doomed) → w ≡ holds.At h → r ≡ doomedIn (geoOf s) I (between full (ps .from) (ps .to)) (holdOf full h)
+    pub mark-held : (h : Holding) (r : Reply Doomed) → w ≡ holds.At h → r ≡ doomedIn (geoOf s) I (between full (ps .from) (ps .to)) (holdOf h)
         → r ≡ doomedOf (geoOf s) I (take len full)
     mark-held h r k z =
-        z ∙ ap (λ (x : List ℕ). doomedIn (geoOf s) I x (holdOf full h)) (p .name)
-        ∙ sym (and-then-ok (holdOf full h) (doomedIn (geoOf s) I (lastName (take len full))) (ap (holdsSays full) k))
+        z ∙ ap (λ (x : List ℕ). doomedIn (geoOf s) I x (holdOf h)) (p .name)
+        ∙ sym (and-then-ok (holdOf h) (doomedIn (geoOf s) I (lastName (take len full))) (ap (holdsSays) k))
         ∙ held-is
 
     pub mark-refused : (r : Refusal) → w ≡ holds.Refused r → refused (refusalNumber r) ≡ doomedOf (geoOf s) I (take len full)
-    mark-refused r k = sym (and-then-no (refusalNumber r) _ (ap (holdsSays full) k)) ∙ held-is
-
-module _ (n : ℕ) (w : Holds) (h : Holding) (i : HoldsIn n w) (k : w ≡ holds.At h) where
-  pub hold-from : h .from ≤ h .to
-  hold-from = subst (HoldsIn n) k i .0
-
-  pub hold-to : h .to ≤ n
-  hold-to = subst (HoldsIn n) k i .1
-
-module _ (full : List ℕ) (len : ℕ) (ps : Parts) (p : PartsIs full len ps) (inside : len ≤ length full) where
-  pub name-from : ps .from ≤ ps .to
-  name-from = p .from-in
-
-  pub name-to : ps .to ≤ length full
-  name-to = omega (arith, p .to-in)
+    mark-refused r k = sym (and-then-no (refusalNumber r) _ (ap (holdsSays) k)) ∙ held-is
 
 -- ---- the whole
 
@@ -166,6 +138,11 @@ module _ (s : SuperBlock) (I l : List ℕ) (f : Fit s I) (m : Marked) (q : marke
     pub lies-ends : p .offset + header + e .len ≤ 507
     lies-ends = ready .lies .ends
 
+    pub own-inside : OwnIn I o
+    own-inside =
+        let b = doomed-by (geoOf s) I l _ accepts in
+        subst (OwnIn I) (sym (b .own)) (hold-inside s I f _ (b .hold) (hold-numbers s I f _ ∙ b .held))
+
     pub deleted-done : accepted tt ≡ deletedOn (geoOf s) I l
     unfolding deletedOn
     deleted-done = sym (and-then-ok _ (λ d. accepted tt) accepts)
@@ -182,6 +159,3 @@ module _ (s : SuperBlock) (I l : List ℕ) (f : Fit s I) (m : Marked) (q : marke
     pub image-refused : (time : ℕ) → I ≡ deletedImage (geoOf s) I l time
     unfolding deletedImage
     image-refused time = sym (ap (imageAt (geoOf s) I time) (sym q ∙ ap markedSays k))
-
-pub mark-inside : (I : List ℕ) (m : Marked) (d : Addr) (e : DirEntry) (p : Place) (o : Own) → MarkedIn I m → m ≡ marked.At d e p o → OwnIn I o
-mark-inside I m d e p o i k = subst (MarkedIn I) k i

@@ -1,15 +1,14 @@
 -- What the code knows where it answers, one law for each answer; then what callers need of a path's directory and entry.
 use mathlib.Core.Path.{_≡_, refl, sym, ap, _∙_}
-use mathlib.Core.Bool.{Bool, true, false}
+use mathlib.Core.Bool.{true, false}
 use mathlib.Core.Logic.{_⊎_, inl, inr}
 use mathlib.Core.List.{List, [], _∷_}
-use Prim.Native.Nat.{ℕ, _+_, _-_, _≤_, _<_}
-use native.Mathlib.Decide.{decLt}
+use Prim.Native.Nat.{ℕ, _+_, _-_, _≤_}
 use native.Mathlib.Omega.{arith}
 use lib.Dec.{eqb}
-use lib.ListN.{length, take, drop, length-take}
-use Rattle.wire.specs.Pick.{pick, same}
-use Rattle.wire.proofs.Picks.{either, same-eq, pick-true, pick-false, pick-case}
+use lib.ListN.{length, take, length-take}
+use Rattle.wire.specs.Pick.{same}
+use Rattle.wire.proofs.Picks.{either, same-eq, pick-false, pick-case}
 use Rattle.model.specs.Answers.{Reply, accepted, refused, andThen}
 use Rattle.limits.specs.Refusals.{refusalNumber}
 use Rattle.model.specs.Steps.{Bytes}
@@ -17,7 +16,6 @@ use Rattle.limits.specs.declared.Refusal.{Refusal}
 use Rattle.model.proofs.Replies.{and-then-ok, and-then-no, refused-one}
 use Rattle.block.specs.declared.Addr.{Addr}
 use Rattle.dir_entry.specs.declared.DirEntry.{DirEntry}
-use Rattle.dir_entry.specs.declared.Kind.the-variants.{Dir, File, Device}
 use Rattle.dir_entry.specs.declared.Slot.the-variants.{Entry}
 use Rattle.dir_entry.specs.Entry.{isDir, placeAt, entryAt, slotAt}
 use Rattle.dir_entry.proofs.Slots.{slot-stands}
@@ -27,30 +25,14 @@ use Rattle.read_dir.specs.declared.Place.{Place}
 use Rattle.read_dir.specs.Walk.{Walk, item, finished, damaged, shown, entriesFrom, walk}
 use Rattle.read_dir.specs.Finds.{findIn}
 use Rattle.read_dir.proofs.Unroll.{entries-ind, chain-ind}
-use Rattle.path.specs.Path.{slash, split, lastName, dirPart, steps}
-use Rattle.path.specs.Post.{between, PieceIs, FirstIs, PartsIs}
+use Rattle.path.specs.Path.{lastName, dirPart, steps}
+use Rattle.path.specs.Post.{between, PartsIs}
 use Rattle.path.specs.declared.Parts.{Parts}
-use Rattle.path.proofs.Laws.{steps-is-root, steps-from}
 use Rattle.path.proofs.Ends.{name-long}
 use Rattle.dir.specs.Resolve.{onFound, onName, Held, held, lookupIn, resolve, openDir, entryOf}
 use Rattle.dir.specs.Post.{openedSays}
 use Rattle.dir.specs.declared.Opened.{Opened}
 use Rattle.dir.specs.declared.Opened.the-variants as opened
-
--- ---- the directory that an entry stands for
-
-abbrev pub ofEntry : DirEntry → Reply ℕ
-ofEntry e = pick (isDir (e .kind)) (accepted (e .addr .0)) (refused 6)
-
-module _ (e : DirEntry) where
-  pub directory-dir : e .kind ≡ Dir → accepted (e .addr .0) ≡ ofEntry e
-  directory-dir q = sym (pick-true _ _ (ap isDir q))
-
-  pub directory-file : e .kind ≡ File → refused 6 ≡ ofEntry e
-  directory-file q = sym (pick-false _ _ (ap isDir q))
-
-  pub directory-device : e .kind ≡ Device → refused 6 ≡ ofEntry e
-  directory-device q = sym (pick-false _ _ (ap isDir q))
 
 -- ---- a name
 
@@ -74,88 +56,9 @@ module _ {A : Type 0} (x : List ℕ) (w : Walk) (f : Found) (k : DirEntry → Re
   pub found-bad : f ≡ found.Damaged → refused 17 ≡ onFound (findIn x w) k
   found-bad g = ap (λ (y : Found). onFound y k) (sym g ∙ q)
 
-  module _ (some : length x ≡ 0 → ⊥) where
-    pub enter-at : (e : DirEntry) (p : Place) (r : Reply A) → f ≡ found.At e p → r ≡ k e → r ≡ onName x (onFound (findIn x w) k)
-    enter-at e p r g h = h ∙ found-at e p g ∙ sym (name-some x _ some)
-
-    pub enter-none : f ≡ found.Missing → refused 5 ≡ onName x (onFound (findIn x w) k)
-    enter-none g = found-none g ∙ sym (name-some x _ some)
-
-    pub enter-bad : f ≡ found.Damaged → refused 17 ≡ onName x (onFound (findIn x w) k)
-    enter-bad g = found-bad g ∙ sym (name-some x _ some)
-
 pub find-at : (a : ℕ) (x : List ℕ) (w : Walk) (f : Found) (e : DirEntry) (p : Place) → f ≡ findIn x w → f ≡ found.At e p
     → accepted (held a e) ≡ onFound (findIn x w) (λ y. accepted (held a y))
 find-at a x w f e p q g = found-at x w f (λ y. accepted (held a y)) q e p g
-
--- ---- name after name
-
-pub and-then-pick : {A B : Type 0} (b : Bool) (x y : Reply A) (f : A → Reply B) → andThen (pick b x y) f ≡ pick b (andThen x f) (andThen y f)
-unfolding pick
-and-then-pick true x y f = refl
-and-then-pick false x y f = refl
-
-module _ (B D n : ℕ) (I : List ℕ) where
-  -- the directory of that name
-  abbrev pub entered : ℕ → List ℕ → Reply ℕ
-  entered a x = onName x (lookupIn B D n I a x ofEntry)
-
-  pub resolve-none : (a : ℕ) → resolve B D n I [] a ≡ accepted a
-  unfolding resolve
-  resolve-none a = refl
-
-  pub resolve-step : (x : List ℕ) (xs : List (List ℕ)) (a : ℕ) → resolve B D n I (x ∷ xs) a ≡ andThen (entered a x) (resolve B D n I xs)
-  unfolding resolve andThen
-  resolve-step [] xs a = refl
-  resolve-step (c ∷ x) xs a = go (findIn (c ∷ x) (walk B D n I a))
-    where
-      go : (f : Found) → onFound f (λ e. pick (isDir (e .kind)) (resolve B D n I xs (e .addr .0)) (refused 6)) ≡ andThen (onFound f ofEntry) (resolve B D n I xs)
-      go (found.At e p) = sym (and-then-pick (isDir (e .kind)) (accepted (e .addr .0)) (refused 6) (resolve B D n I xs))
-      go found.Missing = refl
-      go found.Damaged = refl
-
-pub lt-of-ne : {a b : ℕ} → a ≤ b → (a ≡ b → ⊥) → a < b
-lt-of-ne h z = omega arith
-
--- ---- one piece of the path: r is what entering it from the directory at `dir` gave, and the rest is to be resolved from there
-
-module _ (D n : ℕ) (I : List ℕ) (full : List ℕ) (at end e first dir : ℕ) (r : Opened) (p : PieceIs full at end e) (q : openedSays r ≡ entered 512 D n I dir (between full at e))
-    (inv : resolve 512 D n I (split (drop at (take end full))) dir ≡ resolve 512 D n I (split (drop first (take end full))) D) where
-  step-on : (xs : List (List ℕ)) → split (drop at (take end full)) ≡ between full at e ∷ xs
-      → andThen (openedSays r) (resolve 512 D n I xs) ≡ resolve 512 D n I (split (drop first (take end full))) D
-  step-on xs h =
-      ap (λ (y : Reply ℕ). andThen y (resolve 512 D n I xs)) q
-      ∙ sym (resolve-step 512 D n I (between full at e) xs dir)
-      ∙ ap (λ (ys : List (List ℕ)). resolve 512 D n I ys dir) (sym h)
-      ∙ inv
-
-  pub piece-last : (a : Addr) → r ≡ opened.At a → e ≡ end → accepted (a .0) ≡ resolve 512 D n I (split (drop first (take end full))) D
-  piece-last a g z =
-      sym (resolve-none 512 D n I (a .0)) ∙ sym (and-then-ok (a .0) (resolve 512 D n I []) (ap openedSays g)) ∙ step-on [] (p .last z)
-
-  pub piece-more : (a : Addr) → r ≡ opened.At a → (e ≡ end → ⊥) → resolve 512 D n I (split (drop (e + 1) (take end full))) (a .0) ≡ resolve 512 D n I (split (drop first (take end full))) D
-  piece-more a g z =
-      sym (and-then-ok (a .0) (resolve 512 D n I (split (drop (e + 1) (take end full)))) (ap openedSays g))
-      ∙ step-on (split (drop (e + 1) (take end full))) (p .more (lt-of-ne (p .high) z))
-
-  pub piece-refused : (k : Refusal) → r ≡ opened.Refused k → refused (refusalNumber k) ≡ resolve 512 D n I (split (drop first (take end full))) D
-  piece-refused k g = go (decLt e end)
-    where
-      go : Dec (e < end) → refused (refusalNumber k) ≡ resolve 512 D n I (split (drop first (take end full))) D
-      go (yes l) =
-          sym (and-then-no (refusalNumber k) (resolve 512 D n I (split (drop (e + 1) (take end full)))) (ap openedSays g))
-          ∙ step-on (split (drop (e + 1) (take end full))) (p .more l)
-      go (no l) = sym (and-then-no (refusalNumber k) (resolve 512 D n I []) (ap openedSays g)) ∙ step-on [] (p .last (omega (arith, p .high)))
-
--- ---- the directory of a path
-
-module _ (D n : ℕ) (I : List ℕ) (full : List ℕ) (end : ℕ) (b : Bool) (t : b ≡ same (take end full) (slash ∷ [])) where
-  pub open-root : b ≡ true → accepted D ≡ openDir 512 D n I (take end full)
-  open-root h = sym (ap (λ (ys : List (List ℕ)). resolve 512 D n I ys D) (steps-is-root (take end full) b t h) ∙ resolve-none 512 D n I D)
-
-  pub open-along : (first : ℕ) (r : Reply ℕ) → b ≡ false → FirstIs full end first → r ≡ resolve 512 D n I (split (drop first (take end full))) D
-      → r ≡ openDir 512 D n I (take end full)
-  open-along first r h f q = q ∙ sym (ap (λ (ys : List (List ℕ)). resolve 512 D n I ys D) (steps-from full end first b t h f))
 
 -- ---- the entry at a path
 

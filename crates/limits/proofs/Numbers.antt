@@ -8,7 +8,7 @@ use Rattle.model.specs.Answers.{Reply, refused, reply, settle}
 use Rattle.model.proofs.Replies.{reply-suc, settle-suc}
 use Rattle.limits.specs.Refusals.{refusalNumber}
 use Rattle.limits.specs.declared.Refusal.{Refusal}
-use Rattle.limits.specs.declared.Refusal.the-variants.{BadImage, NotMfs, BadCount, BadPath, NotFound, WrongKind, Exists, BadName, NoRoom, TooLarge, Stale, BadSeek, EmptyWrite, NotEmpty, TooDeep, ShortWork, Damaged, LostDir}
+use Rattle.limits.specs.declared.Refusal.the-variants.{BadImage, NotMfs, BadCount, BadPath, NotFound, WrongKind, Exists, BadName, NoRoom, TooLarge, Stale, BadSeek, EmptyWrite, NotEmpty, TooDeep, ShortWork, Damaged}
 
 pub number-some : (r : Refusal) → 1 ≤ refusalNumber r
 number-some BadImage = omega arith
@@ -28,7 +28,26 @@ number-some NotEmpty = omega arith
 number-some TooDeep = omega arith
 number-some ShortWork = omega arith
 number-some Damaged = omega arith
-number-some LostDir = omega arith
+
+-- The last is 17: the number 18 is not used.
+pub number-few : (r : Refusal) → refusalNumber r ≤ 17
+number-few BadImage = omega arith
+number-few NotMfs = omega arith
+number-few BadCount = omega arith
+number-few BadPath = omega arith
+number-few NotFound = omega arith
+number-few WrongKind = omega arith
+number-few Exists = omega arith
+number-few BadName = omega arith
+number-few NoRoom = omega arith
+number-few TooLarge = omega arith
+number-few Stale = omega arith
+number-few BadSeek = omega arith
+number-few EmptyWrite = omega arith
+number-few NotEmpty = omega arith
+number-few TooDeep = omega arith
+number-few ShortWork = omega arith
+number-few Damaged = omega arith
 
 -- by the refusal
 pub reply-refused : {A : Type 0} {k : ℕ} (a : A) (r : Refusal) → k ≡ refusalNumber r → reply k a ≡ refused (refusalNumber r)
@@ -39,10 +58,10 @@ settle-refused {A} {k} x y r e = rw e (settle-suc (refusalNumber r) x y (number-
 
 -- the refusals in the order of their numbers: each number is one refusal's
 inOrder : List Refusal
-inOrder = BadImage ∷ NotMfs ∷ BadCount ∷ BadPath ∷ NotFound ∷ WrongKind ∷ Exists ∷ BadName ∷ NoRoom ∷ TooLarge ∷ Stale ∷ BadSeek ∷ EmptyWrite ∷ NotEmpty ∷ TooDeep ∷ ShortWork ∷ Damaged ∷ LostDir ∷ []
+inOrder = BadImage ∷ NotMfs ∷ BadCount ∷ BadPath ∷ NotFound ∷ WrongKind ∷ Exists ∷ BadName ∷ NoRoom ∷ TooLarge ∷ Stale ∷ BadSeek ∷ EmptyWrite ∷ NotEmpty ∷ TooDeep ∷ ShortWork ∷ Damaged ∷ []
 
 back : ℕ → Refusal
-back k = getD inOrder (k - 1) LostDir
+back k = getD inOrder (k - 1) Damaged
 
 back-number : (r : Refusal) → back (refusalNumber r) ≡ r
 unfolding back inOrder
@@ -63,7 +82,6 @@ back-number NotEmpty = refl
 back-number TooDeep = refl
 back-number ShortWork = refl
 back-number Damaged = refl
-back-number LostDir = refl
 
 pub number-one : (r q : Refusal) → refusalNumber r ≡ refusalNumber q → r ≡ q
 number-one r q e = sym (back-number r) ∙ ap back e ∙ back-number q

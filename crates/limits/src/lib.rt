@@ -55,10 +55,8 @@ pub enum Refusal {
     TooDeep,
     // 16: the work buffer is too short
     ShortWork,
-    // 17
+    // 17; the number 18 is not used
     Damaged,
-    // 18: the holding directory's own entry is not found
-    LostDir,
 }
 
 impl Refusal {
@@ -84,7 +82,6 @@ impl Refusal {
             Refusal::TooDeep => 15,
             Refusal::ShortWork => 16,
             Refusal::Damaged => 17,
-            Refusal::LostDir => 18,
         }
     }
 }

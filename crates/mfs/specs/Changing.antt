@@ -1,5 +1,5 @@
 -- Create, delete and write on any image, in 01's words. Definitions alone.
--- "Changing calls: 1, 2, 3, 16, 17 (the whole check), then create 4, 8, 5/6, 15, 7, 9, 18; delete 4, 5/6, 14, 18; write 13, 11, 10, 9."
+-- The order (O8 to O11): 1, 2, 3, 16, 17, then create 4, 8, 5/6, 15, 7, 9; delete 4, 5/6, 14; write 13, 11, 10, 9.
 use mathlib.Core.Path.{_≡_}
 use mathlib.Core.List.{List, [], _∷_}
 use Prim.Native.Nat.{ℕ}

@@ -315,6 +315,7 @@ fn list_dir(img: &[u8], s: SuperBlock, a: Addr, i: u32, buf: &mut [u8]) -> Listi
 fn open_full(img: &[u8], s: SuperBlock, full: &[u8], len: usize) -> OpenOut
     requires { ⌜ Fit s (now img) ⌝ }
     requires { ⌜ len ≤ length (now full) ⌝ }
+    requires { ⌜ length (now full) ≤ pathLimit ⌝ }
     ensures { λ o. ⌜ OpenIs (openOn blockBytes (s .area .0) (s .blocks) (now (img .entry)) (take len (now (full .entry)))) o ⌝ }
 {
     let found = dir::find(img, s, full, len);
@@ -352,6 +353,7 @@ pub fn open(img: &[u8], k: u32, cwd: &[u8], path: &[u8]) -> OpenOut
 fn info_full(img: &[u8], s: SuperBlock, full: &[u8], len: usize) -> InfoOut
     requires { ⌜ Fit s (now img) ⌝ }
     requires { ⌜ len ≤ length (now full) ⌝ }
+    requires { ⌜ length (now full) ≤ pathLimit ⌝ }
     ensures { λ o. ⌜ InfoIs (andThen (entryOf blockBytes (s .area .0) (s .blocks) (now (img .entry)) (take len (now (full .entry)))) (aboutEntry (lastName (take len (now (full .entry)))))) o ⌝ }
 {
     let found = dir::find(img, s, full, len);
@@ -394,6 +396,7 @@ pub fn info(img: &[u8], k: u32, cwd: &[u8], path: &[u8]) -> InfoOut
 fn list_full(img: &[u8], s: SuperBlock, full: &[u8], len: usize, i: u32, buf: &mut [u8]) -> Listing
     requires { ⌜ Fit s (now img) ⌝ }
     requires { ⌜ len ≤ length (now full) ⌝ }
+    requires { ⌜ length (now full) ≤ pathLimit ⌝ }
     ensures { λ r. ⌜ ListIs (listOn blockBytes (s .area .0) (s .blocks) (now (img .entry)) (take len (now (full .entry))) i (length (now (buf .entry)))) (recordsOn blockBytes (s .area .0) (s .blocks) (now (img .entry)) (take len (now (full .entry))) i (length (now (buf .entry)))) (now (buf .entry)) (now (buf .exit)) r ⌝ }
 {
     let opened = dir::open(img, s, full, len);

@@ -22,3 +22,4 @@ pub mod Gone
 pub mod Kept
 pub mod Work
 pub mod Promises
+pub mod OwnEntry

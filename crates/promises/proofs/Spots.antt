@@ -21,7 +21,7 @@ use Rattle.dir.specs.Hold.{holdFrom, rootHold}
 use Rattle.dir.proofs.Laws.{name-some}
 use Rattle.thm_path.specs.Shown.{wayTo}
 use Rattle.thm_path.proofs.Finds.{lookup-or}
-use Rattle.thm_path.proofs.Holding.{hold-resolve}
+use Rattle.dir.proofs.HoldLaws.{hold-resolve}
 use Rattle.thm_path.proofs.Resolves.{lookup-name, absent-none, Agree, leads, stops, way-agrees, resolve-way, entry-is}
 use Rattle.thm_path.proofs.Resolves.{entry-missing, entry-stops}
 use Rattle.promises.specs.Refusals.{Spot, entryIn, entryAt}

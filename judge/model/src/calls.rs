@@ -252,7 +252,7 @@ pub fn create_dir(image: &mut [u8], k: u32, cwd: &[u8], path: &[u8], time: u64, 
     create(image, k, cwd, path, time, work, Kind::Dir).map(|_| ())
 }
 
-/// "Changing calls: 1, 2, 3, 16, 17 (the whole check), then create 4, 8, 5/6, 15, 7, 9, 18". "Create file or directory: into the
+/// 1, 2, 3, 16, 17 (the whole check), then 4, 8, 5/6, 15, 7, 9. "Create file or directory: into the
 /// first block, in chain order, where used + 18 + length <= 507; else a new block is linked at the end. Then one block for the entry,
 /// size 0, time from the caller."
 fn create(image: &mut [u8], k: u32, cwd: &[u8], path: &[u8], time: u64, work: &mut [u8], kind: Kind) -> Answer<Handle> {
@@ -315,7 +315,7 @@ fn renew(image: &mut [u8], entry: &Entry, size: usize, time: u64) {
     bytes[9..17].copy_from_slice(&time.to_be_bytes());
 }
 
-/// "delete 4, 5/6, 14, 18". "Delete: the rest of the block moves down, its end is zeroed. A block now empty that isn't the first is
+/// 4, 5/6, 14 after the check. "Delete: the rest of the block moves down, its end is zeroed. A block now empty that isn't the first is
 /// unlinked and freed, then the entry's chain; sum and time as for create."
 pub fn delete(image: &mut [u8], k: u32, cwd: &[u8], path: &[u8], time: u64, work: &mut [u8]) -> Answer<()> {
     let geo = checked(image, k, work)?;

@@ -56,8 +56,7 @@ pub enum Refusal {
 }
 
 impl Refusal {
-    /// The number of the refusal. 18, "holding directory's own entry not found, before any store", is never given: the whole check
-    /// is past by then, and the entry was just found on the walk.
+    /// The number of the refusal: 1 to 17. (18 is not used: past the whole check the holding directory's own entry is there.)
     pub fn number(self) -> u32 {
         self as u32
     }

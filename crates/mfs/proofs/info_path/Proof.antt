@@ -1,4 +1,5 @@
 use Rattle.mfs.proofs.Paths.{array-long}
+use Rattle.mfs.proofs.Changes.{path-short}
 use Rattle.mfs.proofs.Opening.{info-as}
 use Rattle.mfs.proofs.Paths.{path-refused, path-fits, info-root-at, info-path-at}
 use borrow.Author.Needs.{needs}
@@ -50,7 +51,7 @@ slice-aggregate-info-full c = search needs
 
 -- src/lib.rt:326:13
 info-full-requires : tie.Need-info-full-requires
-info-full-requires c κs = (search needs, search (path-fits, array-long))
+info-full-requires c κs = (search needs, (search (path-fits, array-long), search (path-short, array-long)))
 
 -- src/lib.rt:314:1
 returns-2 : tie.Need-returns-2

@@ -1,4 +1,5 @@
 use Rattle.mfs.proofs.Paths.{array-long}
+use Rattle.mfs.proofs.Changes.{path-short}
 use Rattle.mfs.proofs.Paths.{list-as, list-refused, path-refused, path-fits, list-path-at, records-path-at}
 use borrow.Author.Needs.{needs}
 use Rattle.mfs.proofs.list_path.Statement.{statement}
@@ -30,7 +31,7 @@ slice-aggregate-list-full c = search needs
 
 -- src/lib.rt:364:25
 list-full-requires : tie.Need-list-full-requires
-list-full-requires c κs = (search needs, search (path-fits, array-long))
+list-full-requires c κs = (search needs, (search (path-fits, array-long), search (path-short, array-long)))
 
 -- src/lib.rt:356:1
 returns : tie.Need-returns

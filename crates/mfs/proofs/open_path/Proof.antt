@@ -1,4 +1,5 @@
 use Rattle.mfs.proofs.Paths.{array-long}
+use Rattle.mfs.proofs.Changes.{path-short}
 use Rattle.mfs.proofs.Opening.{open-as}
 use Rattle.mfs.proofs.Paths.{path-refused, path-fits, open-path-at}
 use borrow.Author.Needs.{needs}
@@ -36,7 +37,7 @@ slice-aggregate-open-full c = search needs
 
 -- src/lib.rt:285:25
 open-full-requires : tie.Need-open-full-requires
-open-full-requires c κs = (search needs, search (path-fits, array-long))
+open-full-requires c κs = (search needs, (search (path-fits, array-long), search (path-short, array-long)))
 
 -- src/lib.rt:277:1
 returns : tie.Need-returns
