@@ -24,16 +24,13 @@ from-append rs (c ∷ l) m h = from-append (step rs c) l m h
 -- ---- around a slash
 
 -- what is due has no room for a slash, so none stands inside a character
-abbrev NoSlash : List Range → Type 0
+abbrev pub NoSlash : List Range → Type 0
 NoSlash [] = Unit {0}
 NoSlash (r ∷ rs) = (inside r slash ≡ false) × NoSlash rs
 
 abbrev NoSlashes : List Row → Type 0
 NoSlashes [] = Unit {0}
 NoSlashes (row r rs ∷ more) = NoSlash rs × NoSlashes more
-
-tail-slash : (a b : ℕ) → slash < a → inside (from-to a b) slash ≡ false
-tail-slash a b h = range-low a b slash h
 
 never-slash : NoSlash never
 unfolding inside
@@ -49,7 +46,7 @@ unfolding begun
 begun-slash [] c h = never-slash
 begun-slash (row r rs ∷ more) c h = pick-case NoSlash (inside r c) rs (begun more c) (λ e. h .0) (λ e. begun-slash more c (h .1))
 
-step-slash : (rs : List Range) (c : ℕ) → NoSlash rs → NoSlash (step rs c)
+pub step-slash : (rs : List Range) (c : ℕ) → NoSlash rs → NoSlash (step rs c)
 unfolding step
 step-slash [] c h = begun-slash table c table-slash
 step-slash (r ∷ rs) c h = pick-case NoSlash (inside r c) rs never (λ e. h .1) (λ e. never-slash)
@@ -68,11 +65,15 @@ slash-whole : begun table slash ≡ []
 unfolding begun inside pick
 slash-whole = refl
 
-from-slash : (rs : List Range) (l m : List ℕ) → NoSlash rs → textFrom rs (l ++ (slash ∷ m)) ≡ textFrom rs l && isText m
+pub from-slash : (rs : List Range) (l m : List ℕ) → NoSlash rs → textFrom rs (l ++ (slash ∷ m)) ≡ textFrom rs l && isText m
 unfolding textFrom step
 from-slash [] [] m h = ap (λ (rs : List Range). textFrom rs m) slash-whole
 from-slash (r ∷ rs) [] m h = ap (λ (qs : List Range). textFrom qs m) (pick-false _ _ (h .0)) ∙ never-text m
 from-slash rs (c ∷ l) m h = from-slash (step rs c) l m (step-slash rs c h)
+
+pub text-none : isText [] ≡ true
+unfolding textFrom
+text-none = refl
 
 -- THE LAW: bytes with a slash in them are text exactly if those before it and those behind it are.
 pub text-slash : (l m : List ℕ) → isText (l ++ (slash ∷ m)) ≡ isText l && isText m
