@@ -10,11 +10,11 @@ use lib.ListN.{length, take, drop, length-take, length-drop}
 use lib.Seq.{take-at, take-take}
 use borrow.Author.Tests.{ltb-false, leb-true, eqb-true, eqb-false, not-false}
 use Rattle.wire.specs.Be.{splice}
-use Rattle.wire.specs.Pick.{same}
+use Rattle.wire.specs.Pick.{pick, same}
 use Rattle.wire.proofs.Laws.{length-splice}
 use Rattle.wire.proofs.Picks.{either, not-both, pick-true, pick-false, same-refl, and-both}
 use Rattle.model.specs.Render.{count}
-use Rattle.text.specs.Text.{Range, step, textFrom, isText, hasByte, isName}
+use Rattle.text.specs.Text.{Range, inside, begun, step, textFrom, isText, hasByte, isName}
 use Rattle.text.proofs.Laws.{NoSlash, step-slash, from-slash}
 use Rattle.model.specs.Volume.{All}
 use Rattle.model.proofs.Counts.{count-same, count-other, count-none}
@@ -74,6 +74,11 @@ module _ (cwd p : List ℕ) (h : badPath cwd p ≡ false) where
       go (inl s) t b = rw (pick-true _ _ s) s
       go (inr s) (inl t) b = rw (pick-false _ _ s) (starts-append cwd _ t)
       go (inr s) (inr t) b = absurd (not-both refl (rw (s, t) at b))
+
+-- `/` is a good path in any working directory
+pub root-good : (cwd : List ℕ) → badPath cwd (slash ∷ []) ≡ false
+unfolding badPath startsSlash realPath textFrom step begun inside pick
+root-good cwd = refl
 
 -- what a buffer then holds
 module _ (bad : Bool) (q l m : List ℕ) (n : ℕ) (h : Stores bad q l m n) (long : length l ≡ pathLimit) where
