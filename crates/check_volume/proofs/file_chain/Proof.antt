@@ -4,7 +4,7 @@ use Rattle.check_volume.proofs.file_chain.Statement.{statement}
 use Rattle.check_volume.proofs.file_chain.Tie as tie
 use Rattle.check_volume.proofs.file_chain.Reads as reads
 use Rattle.check_volume.proofs.file_chain.Lts as lts
-use Rattle.model.proofs.blocks_for.Reads as blocks-for-reads
+use Rattle.limits.proofs.blocks_for.Reads as blocks-for-reads
 use Rattle.check_volume.proofs.cells.Reads as cells-reads
 
 -- src/lib.rt:259:9
