@@ -7,7 +7,7 @@ use Prim.Native.Nat.{ℕ, zero, suc, _+_, _-_, _*_, _^_, _≤_, _<_}
 use native.Mathlib.Omega.{arith}
 use lib.Dec.{eqb}
 use lib.ListN.{length, getD, length-append, getD-replicate}
-use borrow.Author.Tests.{eqb-true, eqb-false, leb-true, not-true}
+use borrow.Author.Tests.{eqb-true}
 use Rattle.wire.specs.Be.{be, bytes}
 use Rattle.wire.specs.Pick.{zeroFrom}
 use Rattle.wire.proofs.Zeros.{zeros-shown}

@@ -73,6 +73,7 @@ text-joined cwd p = go (either (endsSlash cwd))
   where
     whole : (a : List ℕ) → cwd ≡ a ++ (slash ∷ []) → isText (cwd ++ p) ≡ isText cwd && isText p
     whole a e = rw (e, append-assoc, text-slash, text-slash a [], text-none, and-true)
+
     go : (endsSlash cwd ≡ true) ⊎ (endsSlash cwd ≡ false) → isText (cwd ++ (joint cwd ++ p)) ≡ isText cwd && isText p
     go (inl t) = let u = unslashed cwd t in rw (pick-true [] (slash ∷ []) t) (whole (u .0) (u .1))
     go (inr f) = rw (pick-false [] (slash ∷ []) f) (text-slash cwd p)

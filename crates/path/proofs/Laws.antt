@@ -116,6 +116,7 @@ split-from rs (c ∷ l) n h = go (either (eqb c slash)) (split-from [] l tt) (sp
     on : (ss : List (List ℕ)) → eqb c slash ≡ false → Names (step rs c) ss → Names rs (front (c ∷ []) ss)
     on [] f r = absurd r
     on (x ∷ xs) f r = (cons-from rs c x (r .0), rw f (r .1), r .2)
+
     go : (eqb c slash ≡ true) ⊎ (eqb c slash ≡ false) → (isText l ≡ true → Names [] (split l)) → Names (step rs c) (split l) → Names rs (split (c ∷ l))
     go (inl t) q r =
         let e = eqb-true c slash t in

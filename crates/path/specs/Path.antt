@@ -7,7 +7,6 @@ use lib.ListN.{length, take, drop}
 use Rattle.wire.specs.Pick.{pick, same}
 use Rattle.text.specs.Text.{isText}
 use Rattle.model.specs.Answers.{when}
-
 pub use Rattle.text.specs.Text.{slash}
 
 -- a full path has up to 1,024 bytes, and they are text
