@@ -22,7 +22,8 @@ use Rattle.dir_entry.specs.Entry.{header, placeAt, nameAt, slotAt}
 use Rattle.dir_entry.proofs.Slots.{Stands, slot-stands}
 use Rattle.read_dir.specs.Walk.{Walk, item, finished, inArea, shown, entriesFrom, chainFrom, walk}
 use Rattle.read_dir.specs.Walk as walks
-use Rattle.check_names.specs.Names.{nameBytes, distinct, namesIn, ends}
+use Rattle.text.specs.Text.{isName}
+use Rattle.check_names.specs.Names.{distinct, namesIn, ends}
 use Rattle.check_volume.specs.Survey.{Raw, RawBlock, namesOf, allNames, hasSome, Claimed, onSlot, passes, claim, rawsFrom, laterOf, blocksOf}
 use Rattle.check_volume.proofs.SoundLaws.{Each, each-none, each-some, each-then, each-pick, each-test, each-with, Claim, each-claim}
 use Rattle.check_volume.proofs.SoundCells.{part-long}
@@ -77,7 +78,7 @@ each-at P slot.Stop f o h k = k refl
 
 passes-address : (e : DirEntry) (x : Name) → passes e x ≡ true → eqb (e .addr .0) 0 ≡ false
 unfolding passes
-passes-address e x h = not-true (eqb (e .addr .0) 0) (and-both (not (eqb (e .addr .0) 0)) (nameBytes x) h .0)
+passes-address e x h = not-true (eqb (e .addr .0) 0) (and-both (not (eqb (e .addr .0) 0)) (isName x) h .0)
 
 module _ (B D n : ℕ) (I : List ℕ) where
   -- the walk at an entry that passes, and where the entries stop

@@ -19,7 +19,8 @@ use Rattle.dir_entry.specs.declared.Slot.{Slot}
 use Rattle.dir_entry.specs.declared.Slot.the-variants as slot
 use Rattle.dir_entry.specs.Entry.{header, placeAt, nameAt, slotAt}
 use Rattle.read_dir.specs.Walk.{inArea}
-use Rattle.check_names.specs.Names.{nameBytes, distinct}
+use Rattle.text.specs.Text.{isName}
+use Rattle.check_names.specs.Names.{distinct}
 
 -- ---- an entry as its bytes show it: its fixed part and its name; a directory's block of such entries
 
@@ -59,7 +60,7 @@ onSlot slot.Stop f x = x
 
 -- W3: the address is not 0 (that it lies in the area says the claim of its block), and the name's bytes are good
 unfoldable pub passes : DirEntry → Name → Bool
-passes e x = not (eqb (e .addr .0) 0) && nameBytes x
+passes e x = not (eqb (e .addr .0) 0) && isName x
 
 -- W3: the entries of block a from offset o on, and zeros behind the last one.
 unfoldable pub rawsFrom : ℕ → List ℕ → ℕ → ℕ → ℕ → Option (List Raw)

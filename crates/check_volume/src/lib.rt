@@ -112,7 +112,7 @@ fn chain(img: &[u8], work: &mut [u8], s: SuperBlock, a: Addr) -> bool
     false
 }
 
-// Whether an entry's address is not 0 and its name has allowed bytes alone.
+// Whether an entry's address is not 0 and its bytes are a name's.
 fn passes(img: &[u8], a: Addr, o: usize, e: DirEntry) -> bool
     requires { ⌜ blockBytes * a .0 + blockBytes ≤ length (now img) ⌝ }
     requires { ⌜ o + header + e .len ≤ blockBytes - 5 ⌝ }
@@ -126,7 +126,7 @@ fn passes(img: &[u8], a: Addr, o: usize, e: DirEntry) -> bool
         block: a,
         offset: o,
     };
-    check_names::allowed(read_dir::name_of(img, e, p))
+    text::name(read_dir::name_of(img, e, p))
 }
 
 // What stands after the last entry of a block, where o bytes of entries were passed: zeros alone.

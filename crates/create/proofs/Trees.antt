@@ -30,8 +30,9 @@ use Rattle.create_store.specs.declared.Spot.{Spot}
 use Rattle.create_store.specs.declared.Spot.the-variants as spot
 use Rattle.create_store.specs.Create.{spotFor, needed, SpotIn, insertedAt}
 use Rattle.create_store.proofs.Inserted.{inserted-file, inserted-dir, inserted-entry, spot-inside, spot-adds}
-use Rattle.path.specs.Path.{pathBytes, lastName, dirPart, steps}
-use Rattle.path.proofs.Laws.{bytes-all, last-names}
+use Rattle.text.specs.Text.{isText}
+use Rattle.path.specs.Path.{lastName, dirPart, steps}
+use Rattle.path.proofs.Laws.{last-name}
 use Rattle.dir.specs.Hold.{Hold, holdDir}
 use Rattle.thm_path.specs.Held.{HeldAt}
 use Rattle.thm_path.proofs.Finds.{lookup-or, find-is, find-missing}
@@ -282,11 +283,11 @@ module _ (g : Geo) (I : List ℕ) (t : Tree maxDepth) (v : Volume g I maxDepth t
           go (inr a) = absurd (not-accepted 9 x (sym (a .1)))
 
   -- a path's last name that passes is a name
-  good-last : pathBytes l ≡ true → badName last ≡ false → GoodName last
-  good-last b e = let q = name-short last e in record { some-bytes = q .0; few-bytes = q .1; allowed = last-names l (bytes-all l b) }
+  good-last : isText l ≡ true → badName last ≡ false → GoodName last
+  good-last b e = let q = name-short last e in record { some-bytes = q .0; few-bytes = q .1; allowed = last-name l b }
 
   -- The blocks that an accepted create answers: the directory's first, and the new entry's.
-  pub created-block : pathBytes l ≡ true → (x : Site) → siteOf g I k l ≡ accepted x → (s : Some) → find maxDepth way t ≡ some s
+  pub created-block : isText l ≡ true → (x : Site) → siteOf g I k l ≡ accepted x → (s : Some) → find maxDepth way t ≡ some s
       → createdOn g I k l ≡ accepted (record { dir = blocksAt (s .1); block = entryBlock g last (s .1) unused })
   unfolding createdOn freshOf
   created-block b x e s f =
@@ -307,7 +308,7 @@ module _ (g : Geo) (I : List ℕ) (t : Tree maxDepth) (v : Volume g I maxDepth t
 
 -- ==== the accepted calls
 
-module _ (g : Geo) (I : List ℕ) (t : Tree maxDepth) (v : Volume g I maxDepth t) (l : List ℕ) (now : ℕ) (plain : pathBytes l ≡ true) (clock : now < 2 ^ 64) (x : Site) where
+module _ (g : Geo) (I : List ℕ) (t : Tree maxDepth) (v : Volume g I maxDepth t) (l : List ℕ) (now : ℕ) (plain : isText l ≡ true) (clock : now < 2 ^ 64) (x : Site) where
   abbrev names : List Name
   names = steps (dirPart l)
 

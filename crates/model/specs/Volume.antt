@@ -1,10 +1,12 @@
 -- 4. A well-formed volume: W1 to W5. Definitions alone.
 use mathlib.Core.Path.{_≡_}
+use mathlib.Core.Bool.{true}
 use mathlib.Core.List.{List, [], _∷_}
 use Prim.Native.Nat.{ℕ, zero, suc, _+_, _-_, _*_, _/_, _^_, _≤_, _<_, max}
 use lib.ListN.{length, getD}
 use Rattle.wire.specs.Pick.{pick}
 use Rattle.bits.specs.Bit.{bit}
+use Rattle.text.specs.Text.{isName}
 use Rattle.model.specs.Tree.{Name, Cell, Node, file, device, sub, Entry, Block, Below, Tree, called, used, Packed}
 use Rattle.model.specs.Render.{blocksAt, render, blocks, count, Shows, ShowsAll}
 use Rattle.model.specs.Geometry.{Geo, blockSize, mapAt, dataAt, mapBits, setBits, superBytes, Sound}
@@ -14,15 +16,12 @@ abbrev pub All : {A : Type 0} → (A → Type 0) → List A → Type 0
 All P [] = Unit {0}
 All P (x ∷ xs) = P x × All P xs
 
--- ---- W3: "names are 1 to 255 bytes of 0x20 to 0x7E without `/`, distinct in a directory"
-
-abbrev pub NameByte : ℕ → Type 0
-NameByte c = (32 ≤ c) × (c ≤ 126) × (c ≡ 47 → ⊥)
+-- ---- W3: a name has 1 to 255 bytes, well-formed UTF-8 without controls and without `/`; names are distinct in a directory
 
 pub record GoodName (n : Name) : Type 0 where
   pub some-bytes : 1 ≤ length n
   pub few-bytes : length n ≤ 255
-  pub allowed : All NameByte n
+  pub allowed : isName n ≡ true
 
 -- how many entries have that name: of a block's, and of a directory's
 unfoldable pub named : {X : Type 0} → Name → List (Entry X) → ℕ

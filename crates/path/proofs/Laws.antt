@@ -10,58 +10,44 @@ use lib.ListN.{length, take, drop, length-take, length-drop}
 use lib.Seq.{take-at, take-take}
 use borrow.Author.Tests.{ltb-false, leb-true, eqb-true, eqb-false, not-false}
 use Rattle.wire.specs.Be.{splice}
-use Rattle.wire.specs.Pick.{same}
+use Rattle.wire.specs.Pick.{pick, same}
 use Rattle.wire.proofs.Laws.{length-splice}
 use Rattle.wire.proofs.Picks.{either, not-both, pick-true, pick-false, same-refl, and-both}
 use Rattle.model.specs.Render.{count}
-use Rattle.model.specs.Volume.{All, NameByte}
+use Rattle.text.specs.Text.{Range, inside, begun, step, textFrom, isText, hasByte, isName}
+use Rattle.text.proofs.Laws.{NoSlash, step-slash, from-slash}
+use Rattle.model.specs.Volume.{All}
 use Rattle.model.proofs.Counts.{count-same, count-other, count-none}
 use Rattle.model.proofs.Opens.{or-false}
-use Rattle.path.specs.Path.{slash, pathLimit, pathBytes, startsSlash, realPath, badPath, trimmed, untrailed, beforeName, lastName, dirPart, split, unled, steps}
+use Rattle.path.specs.Path.{slash, pathLimit, startsSlash, realPath, badPath, trimmed, untrailed, beforeName, lastName, dirPart, split, unled, steps}
 use Rattle.path.specs.Post.{between, Stores, RealIs, FirstIs}
 use Rattle.path.specs.declared.Real.{Real}
 use Rattle.path.specs.declared.Real.the-variants.{Len, Refused}
 use Rattle.path.proofs.Ends.{drop-take}
 use Rattle.path.proofs.Pieces.{front, split-none, split-slash, split-other}
 
--- ---- every element of a list
+-- whether these bytes are a name, but for their length
+abbrev pub IsName : List ℕ → Type 0
+IsName x = isName x ≡ true
 
-abbrev pub NoSlash : ℕ → Type 0
-NoSlash c = c ≡ slash → ⊥
+-- ---- bytes of text, one by one
 
-abbrev pub PathByte : ℕ → Type 0
-PathByte c = (32 ≤ c) × (c ≤ 126)
+from-cons : (rs : List Range) (c : ℕ) (l : List ℕ) → textFrom rs (c ∷ l) ≡ true → textFrom (step rs c) l ≡ true
+unfolding textFrom
+from-cons rs c l h = h
 
-pub all-map : {A : Type 0} (P Q : A → Type 0) → ((x : A) → P x → Q x) → (l : List A) → All P l → All Q l
-all-map P Q f [] h = tt
-all-map P Q f (x ∷ l) h = (f x (h .0), all-map P Q f l (h .1))
+cons-from : (rs : List Range) (c : ℕ) (l : List ℕ) → textFrom (step rs c) l ≡ true → textFrom rs (c ∷ l) ≡ true
+unfolding textFrom
+cons-from rs c l h = h
 
-pub all-both : {A : Type 0} (P Q R : A → Type 0) → ((x : A) → P x → Q x → R x) → (l : List A) → All P l → All Q l → All R l
-all-both P Q R f [] h k = tt
-all-both P Q R f (x ∷ l) h k = (f x (h .0) (k .0), all-both P Q R f l (h .1) (k .1))
-
-pub all-take : {A : Type 0} (P : A → Type 0) (n : ℕ) (l : List A) → All P l → All P (take n l)
-all-take P zero l h = tt
-all-take P (suc n) [] h = tt
-all-take P (suc n) (x ∷ l) h = (h .0, all-take P n l (h .1))
-
-pub all-drop : {A : Type 0} (P : A → Type 0) (n : ℕ) (l : List A) → All P l → All P (drop n l)
-all-drop P zero l h = h
-all-drop P (suc n) [] h = tt
-all-drop P (suc n) (x ∷ l) h = all-drop P n l (h .1)
+-- text that goes on with a slash may as well end there, and text follows
+behind-slash : (rs : List Range) (c : ℕ) (l : List ℕ) → NoSlash rs → c ≡ slash → textFrom rs (c ∷ l) ≡ true
+    → (textFrom rs [] ≡ true) × (isText l ≡ true)
+behind-slash rs c l n e h =
+    let q : textFrom rs (slash ∷ l) ≡ true = subst (λ (x : ℕ). textFrom rs (x ∷ l) ≡ true) e h in
+    and-both (textFrom rs []) (isText l) (sym (from-slash rs [] l n) ∙ q)
 
 -- ---- an accepted full path
-
-pub bytes-all : (l : List ℕ) → pathBytes l ≡ true → All PathByte l
-unfolding pathBytes
-bytes-all [] e = tt
-bytes-all (c ∷ l) e =
-    let a : leb 32 c && leb c 126 ≡ true = and-both (leb 32 c && leb c 126) (pathBytes l) e .0 in
-    let b = and-both (leb 32 c) (leb c 126) a in
-    ((leb-true 32 c (b .0), leb-true c 126 (b .1)), bytes-all l (and-both (leb 32 c && leb c 126) (pathBytes l) e .1))
-
-name-byte : (c : ℕ) → PathByte c → NoSlash c → NameByte c
-name-byte c h k = (h .0, h .1, k)
 
 starts-append : (a b : List ℕ) → startsSlash a ≡ true → startsSlash (a ++ b) ≡ true
 unfolding startsSlash
@@ -69,18 +55,15 @@ starts-append [] b e = absurd (not-both e refl)
 starts-append (c ∷ a) b e = e
 
 module _ (cwd p : List ℕ) (h : badPath cwd p ≡ false) where
-  real-rest : (ltb pathLimit (length (realPath cwd p)) || not (pathBytes (realPath cwd p))) ≡ false
+  real-rest : (ltb pathLimit (length (realPath cwd p)) || not (isText (realPath cwd p))) ≡ false
   unfolding badPath
   real-rest = or-false (not (startsSlash p) && not (startsSlash cwd)) _ h .1
 
   pub real-short : length (realPath cwd p) ≤ pathLimit
-  real-short = ltb-false pathLimit (length (realPath cwd p)) (or-false _ (not (pathBytes (realPath cwd p))) real-rest .0)
+  real-short = ltb-false pathLimit (length (realPath cwd p)) (or-false _ (not (isText (realPath cwd p))) real-rest .0)
 
-  pub real-bytes : pathBytes (realPath cwd p) ≡ true
+  pub real-bytes : isText (realPath cwd p) ≡ true
   real-bytes = not-false _ (or-false (ltb pathLimit (length (realPath cwd p))) _ real-rest .1)
-
-  pub real-all : All PathByte (realPath cwd p)
-  real-all = bytes-all (realPath cwd p) real-bytes
 
   pub real-starts : startsSlash (realPath cwd p) ≡ true
   unfolding badPath realPath
@@ -91,6 +74,11 @@ module _ (cwd p : List ℕ) (h : badPath cwd p ≡ false) where
       go (inl s) t b = rw (pick-true _ _ s) s
       go (inr s) (inl t) b = rw (pick-false _ _ s) (starts-append cwd _ t)
       go (inr s) (inr t) b = absurd (not-both refl (rw (s, t) at b))
+
+-- `/` is a good path in any working directory
+pub root-good : (cwd : List ℕ) → badPath cwd (slash ∷ []) ≡ false
+unfolding badPath startsSlash realPath textFrom step begun inside pick
+root-good cwd = refl
 
 -- what a buffer then holds
 module _ (bad : Bool) (q l m : List ℕ) (n : ℕ) (h : Stores bad q l m n) (long : length l ≡ pathLimit) where
@@ -110,38 +98,35 @@ real-one cwd p l m m′ Refused Refused h g = (refl, h .kept ∙ sym (g .kept))
 
 -- ---- the pieces
 
-all-front : (P : ℕ → Type 0) (xs : List ℕ) (ss : List (List ℕ)) → All P xs → All (All P) ss → All (All P) (front xs ss)
-unfolding front
-all-front P xs [] h k = (h, tt)
-all-front P xs (s ∷ ss) h k = (both xs h, k .1)
+-- Pieces of which the first goes on where rs is due, and all others are names.
+abbrev Names : List Range → List (List ℕ) → Type 0
+Names rs [] = ⊥
+Names rs (x ∷ xs) = (textFrom rs x ≡ true) × (hasByte slash x ≡ false) × All IsName xs
+
+names-all : (ss : List (List ℕ)) → Names [] ss → All IsName ss
+unfolding isName
+names-all [] h = absurd h
+names-all (x ∷ xs) h = (rw (h .0, h .1), h .2)
+
+split-from : (rs : List Range) (l : List ℕ) → NoSlash rs → textFrom rs l ≡ true → Names rs (split l)
+unfolding hasByte front
+split-from rs [] n h = subst (Names rs) (sym split-none) (h, refl, tt)
+split-from rs (c ∷ l) n h = go (either (eqb c slash)) (split-from [] l tt) (split-from (step rs c) l (step-slash rs c n) (from-cons rs c l h))
   where
-    both : (ys : List ℕ) → All P ys → All P (ys ++ s)
-    both [] g = k .0
-    both (y ∷ ys) g = (g .0, both ys (g .1))
+    on : (ss : List (List ℕ)) → eqb c slash ≡ false → Names (step rs c) ss → Names rs (front (c ∷ []) ss)
+    on [] f r = absurd r
+    on (x ∷ xs) f r = (cons-from rs c x (r .0), rw f (r .1), r .2)
 
--- of each byte of a piece holds what holds of the list's bytes, and it is no slash
-pub split-each : (P : ℕ → Type 0) (l : List ℕ) → All (λ c. NoSlash c → P c) l → All (All P) (split l)
-split-each P [] h = subst (All (All P)) (sym split-none) (tt, tt)
-split-each P (c ∷ l) h = go (either (eqb c slash)) (split-each P l (h .1))
-  where
-    go : (eqb c slash ≡ true) ⊎ (eqb c slash ≡ false) → All (All P) (split l) → All (All P) (split (c ∷ l))
-    go (inl t) r = subst (All (All P)) (sym (split-slash c l (eqb-true c slash t))) (tt, r)
-    go (inr f) r =
-        subst (All (All P)) (sym (split-other c l (eqb-false c slash f)))
-        (all-front P (c ∷ []) (split l) (h .0 (eqb-false c slash f), tt) r)
+    go : (eqb c slash ≡ true) ⊎ (eqb c slash ≡ false) → (isText l ≡ true → Names [] (split l)) → Names (step rs c) (split l) → Names rs (split (c ∷ l))
+    go (inl t) q r =
+        let e = eqb-true c slash t in
+        let b = behind-slash rs c l n e h in
+        subst (Names rs) (sym (split-slash c l e)) (b .0, refl, names-all (split l) (q (b .1)))
+    go (inr f) q r = subst (Names rs) (sym (split-other c l (eqb-false c slash f))) (on (split l) f r)
 
-always : (P : ℕ → Type 0) → ((c : ℕ) → P c) → (l : List ℕ) → All P l
-always P f [] = tt
-always P f (c ∷ l) = (f c, always P f l)
-
-pub split-no-slash : (l : List ℕ) → All (All NoSlash) (split l)
-split-no-slash l = split-each NoSlash l (always (λ c. NoSlash c → NoSlash c) (λ c h. h) l)
-
-pub split-bytes : (P : ℕ → Type 0) (l : List ℕ) → All P l → All (All P) (split l)
-split-bytes P l h = split-each P l (all-map P (λ c. NoSlash c → P c) (λ c p n. p) l h)
-
-pub split-names : (l : List ℕ) → All PathByte l → All (All NameByte) (split l)
-split-names l h = split-each NameByte l (all-map PathByte (λ c. NoSlash c → NameByte c) name-byte l h)
+-- every piece of text is a name, but for its length
+pub split-names : (l : List ℕ) → isText l ≡ true → All IsName (split l)
+split-names l h = names-all (split l) (split-from [] l tt h)
 
 length-front : (xs : List ℕ) (s : List ℕ) (ss : List (List ℕ)) → length (front xs (s ∷ ss)) ≡ suc (length ss)
 unfolding front
@@ -192,42 +177,72 @@ pub steps-from : (full : List ℕ) (end r : ℕ) (b : Bool) → b ≡ same (take
     → steps (take end full) ≡ split (drop r (take end full))
 steps-from full end r b e f u = steps-else (take end full) b e f ∙ ap split (sym (u .rest))
 
-all-unled : (P : ℕ → Type 0) (l : List ℕ) → All P l → All P (unled l)
+unled-text : (l : List ℕ) → isText l ≡ true → isText (unled l) ≡ true
 unfolding unled
-all-unled P [] h = tt
-all-unled P (c ∷ l) h = go (either (eqb c slash)) (all-unled P l (h .1))
+unled-text [] h = h
+unled-text (c ∷ l) h = go (either (eqb c slash)) (unled-text l)
   where
-    go : (eqb c slash ≡ true) ⊎ (eqb c slash ≡ false) → All P (unled l) → All P (unled (c ∷ l))
-    go (inl t) r = subst (All P) (sym (pick-true _ _ t)) r
-    go (inr f) r = subst (All P) (sym (pick-false _ _ f)) h
+    go : (eqb c slash ≡ true) ⊎ (eqb c slash ≡ false) → (isText l ≡ true → isText (unled l) ≡ true) → isText (unled (c ∷ l)) ≡ true
+    go (inl t) r = rw (pick-true (unled l) (c ∷ l) t) (r (behind-slash [] c l tt (eqb-true c slash t) h .1))
+    go (inr f) r = rw (pick-false (unled l) (c ∷ l) f) h
 
-pub steps-names : (d : List ℕ) → All PathByte d → All (All NameByte) (steps d)
+-- the names on the way along text are names, but for their length
+pub steps-names : (d : List ℕ) → isText d ≡ true → All IsName (steps d)
 unfolding steps
 steps-names d h = go (either (same d (slash ∷ [])))
   where
-    go : (same d (slash ∷ []) ≡ true) ⊎ (same d (slash ∷ []) ≡ false) → All (All NameByte) (steps d)
-    go (inl t) = subst (All (All NameByte)) (sym (pick-true _ _ t)) tt
-    go (inr f) = subst (All (All NameByte)) (sym (pick-false _ _ f)) (split-names (unled d) (all-unled PathByte d h))
+    go : (same d (slash ∷ []) ≡ true) ⊎ (same d (slash ∷ []) ≡ false) → All IsName (steps d)
+    go (inl t) = subst (All IsName) (sym (pick-true _ _ t)) tt
+    go (inr f) = subst (All IsName) (sym (pick-false _ _ f)) (split-names (unled d) (unled-text d h))
 
 -- ---- the last name and the directory part
 
-before-clear : (l : List ℕ) → All NoSlash (drop (beforeName l) l)
-unfolding beforeName
-before-clear [] = tt
+before-clear : (l : List ℕ) → hasByte slash (drop (beforeName l) l) ≡ false
+unfolding beforeName hasByte
+before-clear [] = refl
 before-clear (c ∷ l) = go (beforeName l) (eqb c slash) refl refl (before-clear l)
   where
-    go : (k : ℕ) (b : Bool) → beforeName l ≡ k → eqb c slash ≡ b → All NoSlash (drop (beforeName l) l) → All NoSlash (drop (beforeName (c ∷ l)) (c ∷ l))
+    go : (k : ℕ) (b : Bool) → beforeName l ≡ k → eqb c slash ≡ b → hasByte slash (drop (beforeName l) l) ≡ false
+        → hasByte slash (drop (beforeName (c ∷ l)) (c ∷ l)) ≡ false
     go zero true e f r = rw (e, f) (rw e at r)
-    go zero false e f r = rw (e, f) (eqb-false c slash f, rw e at r)
+    go zero false e f r = rw (e, f) (rw f (rw e at r))
     go (suc k) b e f r = rw e (rw e at r)
 
-all-trimmed : (P : ℕ → Type 0) (l : List ℕ) → All P l → All P (trimmed l)
-unfolding trimmed
-all-trimmed P l h = go (either (ltb 1 (length l)))
+-- what is due behind the k bytes before a last name: they are none, or end in a slash
+abbrev behind : ℕ → List Range → List Range
+behind zero rs = rs
+behind (suc k) rs = []
+
+before-text : (rs : List Range) (l : List ℕ) → NoSlash rs → textFrom rs l ≡ true → textFrom (behind (beforeName l) rs) (drop (beforeName l) l) ≡ true
+unfolding beforeName
+before-text rs [] n h = h
+before-text rs (c ∷ l) n h = go (beforeName l) (eqb c slash) refl refl (before-text (step rs c) l (step-slash rs c n) (from-cons rs c l h))
   where
-    go : (ltb 1 (length l) ≡ true) ⊎ (ltb 1 (length l) ≡ false) → All P (trimmed l)
-    go (inl t) = subst (All P) (sym (pick-true _ _ t)) (all-take P (untrailed l) l h)
-    go (inr f) = subst (All P) (sym (pick-false _ _ f)) h
+    go : (k : ℕ) (b : Bool) → beforeName l ≡ k → eqb c slash ≡ b → textFrom (behind (beforeName l) (step rs c)) (drop (beforeName l) l) ≡ true
+        → textFrom (behind (beforeName (c ∷ l)) rs) (drop (beforeName (c ∷ l)) (c ∷ l)) ≡ true
+    go zero true e f r = rw (e, f) (behind-slash rs c l n (eqb-true c slash f) h .1)
+    go zero false e f r = rw (e, f) h
+    go (suc k) b e f r = rw e (rw e at r)
+
+-- without the slashes at its end
+untrailed-text : (rs : List Range) (l : List ℕ) → NoSlash rs → textFrom rs l ≡ true → textFrom rs (take (untrailed l) l) ≡ true
+unfolding untrailed
+untrailed-text rs [] n h = h
+untrailed-text rs (c ∷ l) n h = go (untrailed l) (eqb c slash) refl refl (untrailed-text (step rs c) l (step-slash rs c n) (from-cons rs c l h))
+  where
+    go : (k : ℕ) (b : Bool) → untrailed l ≡ k → eqb c slash ≡ b → textFrom (step rs c) (take (untrailed l) l) ≡ true
+        → textFrom rs (take (untrailed (c ∷ l)) (c ∷ l)) ≡ true
+    go zero true e f r = rw (e, f) (behind-slash rs c l n (eqb-true c slash f) h .0)
+    go zero false e f r = rw (e, f) (cons-from rs c [] (rw e at r))
+    go (suc k) b e f r = rw e (cons-from rs c (take (suc k) l) (rw e at r))
+
+trimmed-text : (l : List ℕ) → isText l ≡ true → isText (trimmed l) ≡ true
+unfolding trimmed
+trimmed-text l h = go (either (ltb 1 (length l)))
+  where
+    go : (ltb 1 (length l) ≡ true) ⊎ (ltb 1 (length l) ≡ false) → isText (trimmed l) ≡ true
+    go (inl t) = rw (pick-true (take (untrailed l) l) l t) (untrailed-text [] l tt h)
+    go (inr f) = rw (pick-false (take (untrailed l) l) l f) h
 
 trimmed-short : (l : List ℕ) → length (trimmed l) ≤ length l
 unfolding trimmed
@@ -237,16 +252,17 @@ trimmed-short l = go (either (ltb 1 (length l)))
     go (inl t) = rw (pick-true _ _ t, length-take) (omega arith)
     go (inr f) = rw (pick-false _ _ f) (omega arith)
 
-pub last-no-slash : (l : List ℕ) → All NoSlash (lastName l)
-unfolding lastName
-last-no-slash l = before-clear (trimmed l)
-
-pub last-bytes : (P : ℕ → Type 0) (l : List ℕ) → All P l → All P (lastName l)
-unfolding lastName
-last-bytes P l h = all-drop P (beforeName (trimmed l)) (trimmed l) (all-trimmed P l h)
-
-pub last-names : (l : List ℕ) → All PathByte l → All NameByte (lastName l)
-last-names l h = all-both PathByte NoSlash NameByte name-byte (lastName l) (last-bytes PathByte l h) (last-no-slash l)
+-- the last name of text is a name, but for its length
+pub last-name : (l : List ℕ) → isText l ≡ true → isName (lastName l) ≡ true
+unfolding lastName isName
+last-name l h =
+    let m : List ℕ = trimmed l in
+    let t : isText (drop (beforeName m) m) ≡ true = whole (beforeName m) (before-text [] m tt (trimmed-text l h)) in
+    rw (t, before-clear m)
+  where
+    whole : (k : ℕ) → textFrom (behind k []) (drop k (trimmed l)) ≡ true → isText (drop k (trimmed l)) ≡ true
+    whole zero r = r
+    whole (suc k) r = r
 
 pub last-short : (l : List ℕ) → length (lastName l) ≤ length l
 unfolding lastName
@@ -260,9 +276,6 @@ dir-take l = go (beforeName (trimmed l)) refl
     go zero e = (0, rw e)
     go (suc zero) e = (1, rw e)
     go (suc (suc k)) e = (suc k, rw e)
-
-pub dir-bytes : (P : ℕ → Type 0) (l : List ℕ) → All P l → All P (dirPart l)
-dir-bytes P l h = subst (All P) (sym (dir-take l .1)) (all-take P (dir-take l .0) (trimmed l) (all-trimmed P l h))
 
 pub dir-short : (l : List ℕ) → length (dirPart l) ≤ length l
 dir-short l =

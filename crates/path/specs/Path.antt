@@ -2,22 +2,16 @@
 use mathlib.Core.Bool.{Bool, true, false, not, _||_, _&&_}
 use mathlib.Core.List.{List, [], _∷_, _++_}
 use Prim.Native.Nat.{ℕ, zero, suc}
-use lib.Dec.{ltb, leb, eqb}
+use lib.Dec.{ltb, eqb}
 use lib.ListN.{length, take, drop}
 use Rattle.wire.specs.Pick.{pick, same}
+use Rattle.text.specs.Text.{isText}
 use Rattle.model.specs.Answers.{when}
+pub use Rattle.text.specs.Text.{slash}
 
--- `/`
-abbrev pub slash : ℕ
-slash = 47
-
--- "full path up to 1,024 bytes of 0x20 to 0x7E"
+-- a full path has up to 1,024 bytes, and they are text
 abbrev pub pathLimit : ℕ
 pathLimit = 1024
-
-unfoldable pub pathBytes : List ℕ → Bool
-pathBytes [] = true
-pathBytes (c ∷ l) = (leb 32 c && leb c 126) && pathBytes l
 
 unfoldable pub startsSlash : List ℕ → Bool
 startsSlash [] = false
@@ -34,7 +28,7 @@ realPath cwd p = pick (startsSlash p) p (cwd ++ (pick (endsSlash cwd) [] (slash 
 
 -- 4: "path length or byte; working directory not starting `/` where needed"
 unfoldable pub badPath : List ℕ → List ℕ → Bool
-badPath cwd p = (not (startsSlash p) && not (startsSlash cwd)) || (ltb pathLimit (length (realPath cwd p)) || not (pathBytes (realPath cwd p)))
+badPath cwd p = (not (startsSlash p) && not (startsSlash cwd)) || (ltb pathLimit (length (realPath cwd p)) || not (isText (realPath cwd p)))
 
 abbrev pub pathRefusal : List ℕ → List ℕ → ℕ
 pathRefusal cwd p = when 4 (badPath cwd p)

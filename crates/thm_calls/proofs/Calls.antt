@@ -25,7 +25,8 @@ use Rattle.dir_entry.specs.declared.Kind.the-variants.{Dir}
 use Rattle.dir_entry.specs.Shown.{kindIs, headOf}
 use Rattle.read_dir.specs.Walk.{Walk, walk}
 use Rattle.read_dir.specs.Finds.{sumFrom, skip, listFrom, recordsFrom}
-use Rattle.path.specs.Path.{slash, startsSlash, pathBytes, realPath, badPath}
+use Rattle.path.specs.Path.{slash, realPath, badPath}
+use Rattle.path.proofs.Laws.{root-good}
 use Rattle.dir.specs.Resolve.{Held, held, onName, entryOf, openDir}
 use Rattle.file.specs.declared.Handle.{Handle}
 use Rattle.file.specs.File.{readRefusal, bytesRead}
@@ -270,11 +271,6 @@ module _ (K : ℕ) (I : List ℕ) (w : WellFormed K I) (cwd p : List ℕ) (good 
       list-all-records = list-records 0 cap ∙ ap (recordsOf (viewAt K I (s .0))) (listed-all 0 cap (entriesOf (s .1)) large)
 
 -- ---- the root's own info
-
--- `/` is a good path in any directory
-root-good : (cwd : List ℕ) → badPath cwd (slash ∷ []) ≡ false
-unfolding badPath startsSlash realPath pathBytes pick
-root-good cwd = refl
 
 -- Info of `/` itself: a directory, its size the sum, time 0, no name.
 pub info-root : (K : ℕ) (I : List ℕ) (w : WellFormed K I) (cwd : List ℕ) → infoReply K I cwd (slash ∷ []) ≡ accepted (about Dir (sum (w .tree)) 0 [])

@@ -2,7 +2,7 @@
 use std::collections::HashSet;
 
 use crate::directory::{entries_of_block, used_of_block, Entry, Kind};
-use crate::path::is_path_byte;
+use crate::path::is_text;
 use crate::volume::{self, Geometry, CAPACITY};
 
 /// 01, "Limits: file up to 2,147,483,647 bytes; directories up to depth 16 (root is 0)".
@@ -86,9 +86,10 @@ fn rest_is_zero(image: &[u8], block: usize) -> bool {
     volume::data(image, block)[used_of_block(image, block)..].iter().all(|&byte| byte == 0)
 }
 
-/// W3: "names are 1 to 255 bytes of 0x20 to 0x7E without `/`, distinct in a directory". A read entry's length is never 0.
+/// W3: a name is 1 to 255 bytes of well-formed UTF-8, without `/` and without bytes below 0x20 or 0x7F; names are distinct in a
+/// directory. A read entry's length is never 0.
 fn names_are_good(entries: &[Entry]) -> bool {
-    let bytes_are_good = |entry: &Entry| entry.name.iter().all(|&byte| is_path_byte(byte) && byte != b'/');
+    let bytes_are_good = |entry: &Entry| is_text(&entry.name) && !entry.name.contains(&b'/');
     let distinct: HashSet<&[u8]> = entries.iter().map(|entry| entry.name.as_slice()).collect();
     entries.iter().all(bytes_are_good) && distinct.len() == entries.len()
 }

@@ -18,15 +18,48 @@ pub fn full_path(cwd: &[u8], path: &[u8]) -> Answer<Vec<u8>> {
         }
     }
     full.extend(path);
-    if full.len() > MAX_PATH || full.iter().any(|&byte| !is_path_byte(byte)) {
+    if full.len() > MAX_PATH || !is_text(&full) {
         return Err(Refusal::BadPath);
     }
     Ok(full)
 }
 
-/// "bytes of 0x20 to 0x7E"
-pub fn is_path_byte(byte: u8) -> bool {
-    (0x20..=0x7e).contains(&byte)
+/// Well-formed UTF-8 by RFC 3629, without bytes below 0x20 and without 0x7F: character by character, by the number that each one stands for.
+pub fn is_text(bytes: &[u8]) -> bool {
+    let mut rest = bytes;
+    while let Some(&first) = rest.first() {
+        let Some(length) = character(rest) else {
+            return false;
+        };
+        if first < 0x20 || first == 0x7f {
+            return false;
+        }
+        rest = &rest[length..];
+    }
+    true
+}
+
+/// How many bytes the character has that stands first, if there is one: no number in more bytes than it needs, no number kept for
+/// UTF-16 (U+D800 to U+DFFF), none above U+10FFFF.
+fn character(bytes: &[u8]) -> Option<usize> {
+    let first = bytes[0];
+    let (length, digits, least) = match first.leading_ones() {
+        0 => return Some(1),
+        2 => (2, first & 0b1_1111, 0x80),
+        3 => (3, first & 0b1111, 0x800),
+        4 => (4, first & 0b111, 0x1_0000),
+        _ => return None,
+    };
+    let mut number = u32::from(digits);
+    for place in 1..length {
+        let byte = *bytes.get(place)?;
+        if byte.leading_ones() != 1 {
+            return None;
+        }
+        number = number << 6 | u32::from(byte & 0b11_1111);
+    }
+    let kept_back = (0xd800..=0xdfff).contains(&number);
+    (least <= number && number <= 0x10_ffff && !kept_back).then_some(length)
 }
 
 /// "trailing slashes go if the length is above 1; the last name follows the last `/`, and the directory part is what precedes it,
