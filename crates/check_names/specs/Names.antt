@@ -9,7 +9,7 @@ use Rattle.read_dir.specs.Walk.{Walk, item, finished, damaged}
 unfoldable pub oneOf : Name → List Name → Bool
 oneOf x ys = any (same x) ys
 
--- "distinct in a directory"
+-- W3: no two are equal
 unfoldable pub distinct : List Name → Bool
 distinct [] = true
 distinct (x ∷ xs) = not (oneOf x xs) && distinct xs

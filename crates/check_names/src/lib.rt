@@ -1,5 +1,5 @@
 // Names in a directory: whether they are distinct.
-// A filter of hashed names answers for most of them at once; only where it says "maybe" are the earlier names searched.
+// A filter of hashed names answers for most of them at once; only where it does not are the earlier names searched.
 use block::Addr;
 use read_dir::ReadDir;
 use read_dir::Step;

@@ -1,4 +1,4 @@
--- The marks in the lent work buffer, one bit a block from D on, and what the code's answers say of the survey. Definitions alone.
+-- The marks in the work buffer, from block D on, and what the code's answers say of the survey. Definitions alone.
 use mathlib.Core.Path.{_≡_}
 use mathlib.Core.Bool.{Bool, true, false}
 use mathlib.Core.Option.{Option, none, some}

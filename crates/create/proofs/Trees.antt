@@ -262,7 +262,7 @@ module _ (g : Geo) (I : List ℕ) (t : Tree maxDepth) (v : Volume g I maxDepth t
           bad (inr b) = absurd (omega (arith, a .0, when-false 8 b))
       name (inr a) = dirs (then-refused (holdDir (blockSize g) (dataAt g) (g .n) I (dirPart l)) (siteIn g I k last) j (a .1))
 
-  -- "9 fewer clear indexes in reach than blocks to add": exactly where 15 and 7 are not given and fewer blocks are free than are added.
+  -- R9: exactly where 15 and 7 are not given and fewer blocks are free than are taken.
   pub no-room : (h : Hold) (s : Some) → holdDir (blockSize g) (dataAt g) (g .n) I (dirPart l) ≡ accepted h → find maxDepth way t ≡ some s
       → (siteIn g I k last h ≡ refused 9) ↔ ((tooDeep k h ≡ false) × Absent last (s .1) × (length unused < toCreate (entryRoom g) last (s .1)))
   no-room h s e f =

@@ -1,4 +1,4 @@
--- Deleting by a full path, on an opened volume: the refusals in their order, and the image. Definitions alone.
+-- Deleting by a full path, on an opened volume: the refusals in the order O10, and the image. Definitions alone.
 -- O10: 5/6, 14 (4 comes before, with the path)
 use mathlib.Core.Bool.{Bool, not, _&&_}
 use mathlib.Core.List.{List}
@@ -24,7 +24,7 @@ pub record Doomed : Type 0 where
   pub place : Place
   pub own : Own
 
--- "14 directory to delete has entries": by W4 its size says so
+-- R14: by W4 a directory's size says whether it has entries
 unfoldable pub hasEntries : DirEntry → Bool
 hasEntries e = isDir (e .kind) && not (eqb (e .size) 0)
 
@@ -37,7 +37,7 @@ module _ (g : Geo) (I : List ℕ) where
   unfoldable pub doomedIn : List ℕ → Hold → Reply Doomed
   doomedIn x h = onPlaced (findIn x (walk (blockSize g) (dataAt g) (g .n) I (h .dir))) (doomedAt h)
 
-  -- At the full path l: "An empty last name gives 5 without a walk", 5/6 on the way, then these.
+  -- R5, R6: at the full path l: 5 for an empty last name, before any walk; 5 or 6 on the way; then these.
   unfoldable pub doomedOf : List ℕ → Reply Doomed
   doomedOf l = onName (lastName l) (andThen (holdDir (blockSize g) (dataAt g) (g .n) I (dirPart l)) (doomedIn (lastName l)))
 
@@ -45,7 +45,7 @@ module _ (g : Geo) (I : List ℕ) where
   unfoldable pub deletedOn : List ℕ → Reply (Unit {0})
   deletedOn l = andThen (doomedOf l) (λ d. accepted tt)
 
-  -- The image afterwards: the entry is gone, or all is as it was.
+  -- C11: the image afterwards: the entry is gone, or all is as it was.
   abbrev pub imageAt : ℕ → Reply Doomed → List ℕ
   imageAt time (accepted d) = removed g I (d .dir) (d .entry) (d .place) (d .own) time
   imageAt time (refused r) = I

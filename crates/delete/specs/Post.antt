@@ -11,7 +11,7 @@ abbrev pub markedSays : Marked → Reply Doomed
 markedSays (marked.At d e p o) = accepted (record { dir = d .0; entry = e; place = p; own = o })
 markedSays (marked.Refused r) = refused (refusalNumber r)
 
--- "delete ... answer plain success"
+-- C11: plain success, or the refusal
 abbrev pub deletedSays : Deleted → Reply (Unit {0})
 deletedSays deleted.Done = accepted tt
 deletedSays (deleted.Refused r) = refused (refusalNumber r)

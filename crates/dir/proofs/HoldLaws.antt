@@ -230,7 +230,7 @@ module _ (s : SuperBlock) (I : List ℕ) (fit : Fit s I) where
   pub held-inside : (d : List ℕ) (w : Holds) (h : Holding) → holdsSays w ≡ holdDir 512 (s .area .0) (s .blocks) I d → w ≡ holds.At h → OwnIn I (h .own)
   held-inside d w h q g = hold-inside d (holdOf h) (sym q ∙ ap holdsSays g)
 
-  -- ---- the paper's numbers for the struct's
+  -- ---- the numbers of the rules for the struct's
 
   pub hold-numbers : (d : List ℕ) → holdDir 512 (s .area .0) (s .blocks) I d ≡ holdDir (blockSize (geoOf s)) (dataAt (geoOf s)) (geoOf s .n) I d
   hold-numbers d = ap (λ (D : ℕ). holdDir 512 D (s .blocks) I d) (fit .area)

@@ -16,7 +16,7 @@ use Rattle.own_entry.specs.declared.Own.the-variants as own
 use Rattle.path.specs.Path.{steps}
 use Rattle.dir.specs.Resolve.{onName}
 
--- A holding directory: its first address, where its own entry stands, and its depth. The root is at depth 0 and has no own entry.
+-- C13: a holding directory: its first address, where its own entry stands, and its depth. The root is at depth 0 and has none.
 pub record Hold : Type 0 where
   pub dir : ℕ
   pub own : Own
@@ -25,7 +25,7 @@ pub record Hold : Type 0 where
 abbrev pub rootHold : ℕ → Hold
 rootHold D = record { dir = D; own = own.Root; depth = 0 }
 
--- An entry that was looked for and its place: 5 where there is none; damage on the walk is 17.
+-- R5: an entry that was looked for and its place: 5 where there is none; damage on the walk is 17.
 abbrev pub onPlaced : {A : Type 0} → Found → (DirEntry → Place → Reply A) → Reply A
 onPlaced (At e p) f = f e p
 onPlaced Missing f = refused 5
@@ -45,6 +45,6 @@ module _ (B D n : ℕ) (I : List ℕ) where
   holdFrom [] h = accepted h
   holdFrom (x ∷ xs) h = andThen (entered h x) (holdFrom xs)
 
-  -- "the directory part", which holds the last name
+  -- P4: the directory that a path's directory part leads to, which holds the last name
   abbrev pub holdDir : List ℕ → Reply Hold
   holdDir d = holdFrom (steps d) (rootHold D)

@@ -1,4 +1,4 @@
--- Create, delete and write on any image, in 01's words. Definitions alone.
+-- Create, delete and write on any image. Definitions alone.
 -- The order (O8 to O11): 1, 2, 3, 16, 17, then create 4, 8, 5/6, 15, 7, 9; delete 4, 5/6, 14; write 13, 11, 10, 9.
 use mathlib.Core.Path.{_≡_}
 use mathlib.Core.List.{List, [], _∷_}

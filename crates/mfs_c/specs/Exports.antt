@@ -24,7 +24,7 @@ use Rattle.mfs.specs.Reading.{About, Counts, openSays, Opens, infoSays, Informs
 use Rattle.mfs.specs.Checking.{Checks}
 use Rattle.mfs.specs.Changing.{CreatesFile, CreatesDir, Deletes, Writes}
 
--- The version of the exports: their names, their parameters and what these mean. It goes up by one where a program that was compiled
+-- C17: the version of the exports: names, parameters and what these mean. It goes up by one where a program that was compiled
 -- against the exports as they were could no longer call them as they are.
 abbrev pub abiVersion : ℕ
 abiVersion = 1

@@ -1,4 +1,4 @@
-// The public calls for programs in C and Rust, on numbers, byte slices and arrays of fixed size. Each answers 0, or 01's number of
+// The public calls for programs in C and Rust, on numbers, byte slices and arrays of fixed size. Each answers 0, or the number of
 // its refusal; a refusal leaves every out parameter as it was. include/mfs_c.h declares them.
 use block::Addr;
 use file::Counted;

@@ -1,4 +1,4 @@
--- Text: well-formed UTF-8 by RFC 3629, without bytes below 0x20 and without 0x7F. A name is text without `/`. Definitions alone.
+-- P7: text is well-formed UTF-8 by RFC 3629, without bytes below 0x20 and without 0x7F. A name is text without `/`. Definitions alone.
 use mathlib.Core.Bool.{Bool, true, false, not, _||_, _&&_}
 use mathlib.Core.List.{List, [], _∷_}
 use Prim.Native.Nat.{ℕ}
@@ -20,8 +20,8 @@ abbrev pub tail : Range
 tail = from-to 0x80 0xBF
 
 -- The table of RFC 3629, section 4, row by row; its first row, 0x00 to 0x7F, without the controls and 0x7F.
--- No row begins with 0x80 to 0xC1 or with 0xF5 and above; E0 and F0 have no longer form of a shorter character, ED has no surrogate,
--- and F4 has nothing above U+10FFFF.
+-- No row begins with 0x80 to 0xC1 or from 0xF5 on; 0xE0 and 0xF0 have no longer form of a shorter character, 0xED no surrogate,
+-- and 0xF4 nothing above U+10FFFF.
 abbrev pub table : List Row
 table =
     row (from-to 0x20 0x7E) [] ∷
@@ -71,6 +71,6 @@ unfoldable pub hasByte : ℕ → List ℕ → Bool
 hasByte a [] = false
 hasByte a (c ∷ l) = eqb c a || hasByte a l
 
--- whether these bytes may be a name; that a name has 1 to 255 bytes is said apart
+-- W3: whether these bytes may be a name; that a name has 1 to 255 bytes is said apart
 unfoldable pub isName : List ℕ → Bool
 isName l = isText l && not (hasByte slash l)

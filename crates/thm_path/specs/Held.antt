@@ -10,7 +10,7 @@ use Rattle.own_entry.specs.Own.{OwnOf}
 use Rattle.dir.specs.Hold.{Hold}
 
 -- That is the directory that the names p lead to, from the root of a tree of d levels: it begins at its address, it is as deep as
--- there are names ("root is 0"), these and its own levels are the tree's, and "The holding directory's own entry, if it has one", is the tree's.
+-- there are names (the root is at 0), these and its own levels are the tree's, and so is its own entry, if it has one.
 pub record HeldAt (B d : ℕ) (p : List Name) (t : Tree d) (h : Hold) : Type 0 where
   pub there : Some
   pub found : find d p t ≡ some there

@@ -1,11 +1,11 @@
 //! Paths: from what a call is given to pieces of names.
 use crate::{Answer, Refusal};
 
-/// 01, "Limits: full path up to 1,024 bytes".
+/// F13: the longest full path.
 const MAX_PATH: usize = 1024;
 
-/// "a path not starting with `/` is the working directory, a `/` if that doesn't end in one, then the path". 4: "path length or
-/// byte; working directory not starting `/` where needed". The limit is on this full path (reading 8).
+/// P1: the full path, by the working directory where the path is not full. R4, P2: its length and
+/// bytes, and a needed working directory's first byte. The limit is on this full path (reading 8).
 pub fn full_path(cwd: &[u8], path: &[u8]) -> Answer<Vec<u8>> {
     let mut full = Vec::new();
     if !path.starts_with(b"/") {
@@ -24,7 +24,7 @@ pub fn full_path(cwd: &[u8], path: &[u8]) -> Answer<Vec<u8>> {
     Ok(full)
 }
 
-/// Well-formed UTF-8 by RFC 3629, without bytes below 0x20 and without 0x7F: character by character, by the number that each one stands for.
+/// P7: character by character, by the number that each one stands for; no byte below 0x20, no 0x7F.
 pub fn is_text(bytes: &[u8]) -> bool {
     let mut rest = bytes;
     while let Some(&first) = rest.first() {
@@ -62,8 +62,8 @@ fn character(bytes: &[u8]) -> Option<usize> {
     (least <= number && number <= 0x10_ffff && !kept_back).then_some(length)
 }
 
-/// "trailing slashes go if the length is above 1; the last name follows the last `/`, and the directory part is what precedes it,
-/// or `/`": directory part and last name.
+/// P3: without slashes at its end, cut at the last slash that is left:
+/// directory part and last name.
 pub fn split(full: &[u8]) -> (&[u8], &[u8]) {
     let mut end = full.len();
     if full.len() > 1 {
@@ -80,8 +80,8 @@ pub fn split(full: &[u8]) -> (&[u8], &[u8]) {
     }
 }
 
-/// "The directory part is opened by dropping leading slashes and splitting at `/`; an empty piece is not found; `/` itself is the
-/// root."
+/// P4: the names on the way, empty ones among them; none for the
+/// root.
 pub fn pieces(directory: &[u8]) -> Vec<&[u8]> {
     if directory == b"/" {
         return Vec::new();
