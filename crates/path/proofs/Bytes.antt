@@ -3,7 +3,7 @@ use mathlib.Core.Path.{_≡_, refl, sym, ap, _∙_, subst}
 use mathlib.Core.Bool.{Bool, true, false, not, _||_, _&&_, or-true, and-true, and-false}
 use mathlib.Core.Logic.{_⊎_, inl, inr}
 use mathlib.Core.List.{List, [], _∷_, _++_, append-assoc}
-use Prim.Native.Nat.{ℕ, zero, suc, _+_, _-_, _≤_, _<_}
+use Prim.Native.Nat.{ℕ, suc, _+_, _-_, _≤_, _<_}
 use native.Mathlib.Nat.{zero-add}
 use native.Mathlib.Omega.{arith}
 use lib.Dec.{ltb, leb, eqb}
@@ -12,7 +12,7 @@ use lib.Seq.{take-length}
 use borrow.Author.Tests.{lt-leb, lt-ltb, le-ltb, leb-true, leb-false, eq-eqb, ne-eqb, eqb-true}
 use Rattle.wire.specs.Be.{splice}
 use Rattle.wire.specs.Pick.{pick}
-use Rattle.wire.proofs.Laws.{length-splice, splice-append}
+use Rattle.wire.proofs.Numbers.{length-splice, splice-append}
 use Rattle.wire.proofs.Picks.{either, not-both, pick-true, pick-false}
 use Rattle.text.specs.Text.{isText}
 use Rattle.text.proofs.Laws.{text-slash, text-none}
@@ -81,7 +81,7 @@ text-joined cwd p = go (either (endsSlash cwd))
 -- ---- a path that starts with a slash
 
 module _ (cwd p : List ℕ) (h : startsSlash p ≡ true) where
-  pub real-plain : realPath cwd p ≡ p
+  real-plain : realPath cwd p ≡ p
   unfolding realPath
   real-plain = pick-true _ _ h
 
@@ -92,7 +92,7 @@ module _ (cwd p : List ℕ) (h : startsSlash p ≡ true) where
 -- ---- a path that doesn't, with k slashes before it
 
 module _ (cwd p : List ℕ) (k : ℕ) (h : startsSlash p ≡ false) (g : replicate k slash ≡ joint cwd) where
-  pub real-joined : realPath cwd p ≡ cwd ++ (replicate k slash ++ p)
+  real-joined : realPath cwd p ≡ cwd ++ (replicate k slash ++ p)
   unfolding realPath
   real-joined = pick-false _ _ h ∙ rw g
 

@@ -1,25 +1,15 @@
 -- What callers need of text: one text after another, and text around a `/`.
-use mathlib.Core.Path.{_≡_, refl, sym, ap, _∙_, subst}
-use mathlib.Core.Bool.{Bool, true, false, not, _||_, _&&_, and-true, and-false}
-use mathlib.Core.Logic.{_⊎_, inl, inr}
-use mathlib.Core.List.{List, [], _∷_, _++_, append-assoc}
-use Prim.Native.Nat.{ℕ, zero, suc, _≤_, _<_}
+use mathlib.Core.Path.{_≡_, refl, ap, _∙_}
+use mathlib.Core.Bool.{true, false, _&&_}
+use mathlib.Core.List.{List, [], _∷_, _++_}
+use Prim.Native.Nat.{ℕ, zero, suc}
 use native.Mathlib.Omega.{arith}
-use lib.Dec.{eqb, leb}
-use lib.ListN.{replicate}
 use Rattle.wire.specs.Pick.{pick}
-use Rattle.wire.proofs.Picks.{either, not-both, and-both, both-and, pick-true, pick-false, pick-case}
-use Rattle.text.specs.Text.{Range, from-to, inside, Row, row, table, never, begun, isDone, step, textFrom, isText, slash, hasByte, isName}
-use Rattle.text.proofs.Rows.{range-low, range-high}
+use Rattle.wire.proofs.Picks.{pick-false, pick-case}
+use Rattle.text.specs.Text.{Range, from-to, inside, Row, row, table, never, begun, step, textFrom, isText, slash}
+use Rattle.text.proofs.Rows.{range-high}
 
 -- ---- one text after another
-
--- bytes behind text are text exactly if the whole is
-pub from-append : (rs : List Range) (l m : List ℕ) → textFrom rs l ≡ true → textFrom rs (l ++ m) ≡ isText m
-unfolding textFrom
-from-append [] [] m h = refl
-from-append (r ∷ rs) [] m h = absurd (not-both h refl)
-from-append rs (c ∷ l) m h = from-append (step rs c) l m h
 
 -- ---- around a slash
 

@@ -1,9 +1,9 @@
 -- What is due after a byte, by the rows of the table; x is what the code holds.
 use mathlib.Core.Path.{_≡_, refl, sym, ap, _∙_}
-use mathlib.Core.Bool.{Bool, true, false, _&&_, and-false}
+use mathlib.Core.Bool.{true, false, and-false}
 use mathlib.Core.Logic.{_⊎_, inl, inr}
 use mathlib.Core.List.{List, [], _∷_}
-use Prim.Native.Nat.{ℕ, zero, suc, _+_, _-_, _≤_, _<_}
+use Prim.Native.Nat.{ℕ, zero, suc, _-_, _≤_, _<_}
 use native.Mathlib.Omega.{arith}
 use lib.Dec.{leb}
 use lib.ListN.{replicate}
@@ -16,11 +16,11 @@ use Rattle.text.specs.declared.Due.{Due}
 -- ---- a range
 
 module _ (a b c : ℕ) where
-  pub range-in : a ≤ c → c ≤ b → inside (from-to a b) c ≡ true
+  range-in : a ≤ c → c ≤ b → inside (from-to a b) c ≡ true
   unfolding inside
   range-in h k = rw (le-leb a c h, le-leb c b k)
 
-  pub range-low : c < a → inside (from-to a b) c ≡ false
+  range-low : c < a → inside (from-to a b) c ≡ false
   unfolding inside
   range-low h = rw (lt-leb a c h)
 
