@@ -22,11 +22,9 @@ module _ (x : ℕ) (m : List ℕ) (good : Character x) where
   go-one : x < 0x80 → isText (encoded x ++ m) ≡ isText m
   unfolding ranges
   go-one h =
-      let n : x < 0x7F = small (good .no-delete) in
+      let d = good .no-delete in
+      let n : x < 0x7F = omega arith in
       rw (encoded-one x h) (one-on 0 0 x m (one-byte x [] refl (good .no-control) n))
-    where
-      small : (x ≡ 0x7F → ⊥) → x < 0x7F
-      small d = omega arith
 
   go-two : 0x80 ≤ x → x < 0x800 → isText (encoded x ++ m) ≡ isText m
   go-two p q =
@@ -77,7 +75,9 @@ module _ (x : ℕ) (m : List ℕ) (good : Character x) where
         (omega arith) (omega arith) (omega arith))
 
     go-four : isText (encoded x ++ m) ≡ isText m
-    go-four = go (either (eqb (x / 262144) 0)) (either (eqb (x / 262144) 4)) (good .last)
+    go-four =
+        let l = good .last in
+        go (either (eqb (x / 262144) 0)) (either (eqb (x / 262144) 4)) (omega arith)
       where
         go : Tested (eqb (x / 262144) 0) → Tested (eqb (x / 262144) 4)
             → x ≤ 0x10FFFF → isText (encoded x ++ m) ≡ isText m
