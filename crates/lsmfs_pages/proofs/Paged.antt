@@ -52,7 +52,7 @@ first-alone zero = refl
 first-alone (suc k) = refl
 
 root-call : (K : ℕ) (I : List ℕ) → pathCall K I root root ≡ openRefusal K I
-unfolding pathCall when
+unfolding pathCall pick when
 root-call K I = ap (λ (b : Bool). firstOf (openRefusal K I ∷ (when 4 b ∷ []))) (root-good root) ∙ first-alone (openRefusal K I)
 
 -- ---- what a listing of it answers and gives

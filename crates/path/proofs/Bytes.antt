@@ -111,7 +111,8 @@ bad-byte : (cwd p : List ℕ) → isText (realPath cwd p) ≡ false → badPath 
 unfolding badPath
 bad-byte cwd p h = simp (h, or-true)
 
-good-joined : (cwd p : List ℕ) → startsSlash cwd ≡ true → length (realPath cwd p) ≤ pathLimit → isText (realPath cwd p) ≡ true → badPath cwd p ≡ false
+good-joined : (cwd p : List ℕ) → startsSlash cwd ≡ true → length (realPath cwd p) ≤ pathLimit → isText (realPath cwd p) ≡ true
+    → badPath cwd p ≡ false
 unfolding badPath
 good-joined cwd p h k m = rw (h, le-ltb pathLimit (length (realPath cwd p)) k, m) (go (startsSlash p))
   where
@@ -164,7 +165,8 @@ module _ (l p : List ℕ) where
   pub plain-byte : (t : Bool) → t ≡ isText p → t ≡ false → PathIs (ltb pathLimit (length p) || not (isText p)) p l l Refused
   plain-byte t e h = record { refused = rw (← e, h) (or-true (ltb pathLimit (length p))); kept = refl }
 
-  pub plain-good : (m : List ℕ) (t : Bool) → t ≡ isText p → t ≡ true → length p ≤ pathLimit → m ≡ splice l 0 (take (length p) (drop 0 p))
+  pub plain-good : (m : List ℕ) (t : Bool) → t ≡ isText p → t ≡ true → length p ≤ pathLimit
+      → m ≡ splice l 0 (take (length p) (drop 0 p))
       → PathIs (ltb pathLimit (length p) || not (isText p)) p l m (Len (length p))
   plain-good m t e h k x =
       record { good = rw (← e, h, le-ltb pathLimit (length p) k); long = refl; fits = k; stored = copied l p m 0 x }
@@ -184,7 +186,11 @@ module _ (cwd p l : List ℕ) (h : startsSlash p ≡ false) where
     joined-first e f = record { refused = bad-byte cwd p (rw (joined-bytes cwd p k h g, ← e, f)); kept = refl }
 
     pub joined-second : t ≡ isText p → t ≡ false → RealIs cwd p l l Refused
-    joined-second e f = record { refused = bad-byte cwd p (rw (joined-bytes cwd p k h g, ← e, f) (and-false (isText cwd))); kept = refl }
+    joined-second e f = record {
+      refused = bad-byte cwd p
+          (rw (joined-bytes cwd p k h g, ← e, f) (and-false (isText cwd)));
+      kept = refl;
+    }
 
   pub joined-good : (k : ℕ) → replicate k slash ≡ joint cwd → (m : List ℕ) (s t u v : Bool) → s ≡ startsSlash cwd → s ≡ true
       → t ≡ leb (length cwd + (k + length p)) pathLimit → t ≡ true → u ≡ isText cwd → u ≡ true → v ≡ isText p → v ≡ true
@@ -192,7 +198,8 @@ module _ (cwd p l : List ℕ) (h : startsSlash p ≡ false) where
   joined-good k g m s t u v es fs et ft eu fu ev fv x =
       let q : length cwd + (k + length p) ≤ pathLimit = leb-true (length cwd + (k + length p)) pathLimit (sym et ∙ ft) in
       record {
-        good = good-joined cwd p (sym es ∙ fs) (rw (joined-length cwd p k h g) q) (rw (joined-bytes cwd p k h g, ← eu, ← ev, fu, fv));
+        good = good-joined cwd p (sym es ∙ fs) (rw (joined-length cwd p k h g) q)
+            (rw (joined-bytes cwd p k h g, ← eu, ← ev, fu, fv));
         long = sym (joined-length cwd p k h g);
         fits = q;
         stored = rw (real-joined cwd p k h g) x;

@@ -19,7 +19,8 @@ use Rattle.text.proofs.Laws.{NoSlash, step-slash, from-slash}
 use Rattle.model.specs.Volume.{All}
 use Rattle.model.proofs.Counts.{count-same, count-other, count-none}
 use Rattle.model.proofs.Opens.{or-false}
-use Rattle.path.specs.Path.{slash, pathLimit, startsSlash, realPath, badPath, trimmed, untrailed, beforeName, lastName, dirPart, split, unled, steps}
+use Rattle.path.specs.Path.{slash, pathLimit, startsSlash, realPath, badPath, trimmed, untrailed, beforeName, lastName}
+use Rattle.path.specs.Path.{dirPart, split, unled, steps}
 use Rattle.path.specs.Post.{Stores, FirstIs}
 use Rattle.path.proofs.Pieces.{front, split-none, split-slash, split-other}
 
@@ -88,13 +89,15 @@ names-all (x ∷ xs) h = (rw (h .0, h .1), h .2)
 split-from : (rs : List Range) (l : List ℕ) → NoSlash rs → textFrom rs l ≡ true → Names rs (split l)
 unfolding hasByte front
 split-from rs [] n h = subst (Names rs) (sym split-none) (h, refl, tt)
-split-from rs (c ∷ l) n h = go (either (eqb c slash)) (split-from [] l tt) (split-from (step rs c) l (step-slash rs c n) (from-cons rs c l h))
+split-from rs (c ∷ l) n h = go (either (eqb c slash)) (split-from [] l tt)
+    (split-from (step rs c) l (step-slash rs c n) (from-cons rs c l h))
   where
     on : (ss : List (List ℕ)) → eqb c slash ≡ false → Names (step rs c) ss → Names rs (front (c ∷ []) ss)
     on [] f r = absurd r
     on (x ∷ xs) f r = (cons-from rs c x (r .0), rw f (r .1), r .2)
 
-    go : (eqb c slash ≡ true) ⊎ (eqb c slash ≡ false) → (isText l ≡ true → Names [] (split l)) → Names (step rs c) (split l) → Names rs (split (c ∷ l))
+    go : (eqb c slash ≡ true) ⊎ (eqb c slash ≡ false) → (isText l ≡ true → Names [] (split l)) → Names (step rs c) (split l)
+        → Names rs (split (c ∷ l))
     go (inl t) q r =
         let e = eqb-true c slash t in
         let b = behind-slash rs c l n e h in
@@ -114,7 +117,8 @@ split-count : (l : List ℕ) → length (split l) ≡ suc (count slash l)
 split-count [] = rw (split-none, count-none)
 split-count (c ∷ l) = go (either (eqb c slash)) (split l) refl (split-count l)
   where
-    go : (eqb c slash ≡ true) ⊎ (eqb c slash ≡ false) → (ss : List (List ℕ)) → split l ≡ ss → length (split l) ≡ suc (count slash l)
+    go : (eqb c slash ≡ true) ⊎ (eqb c slash ≡ false) → (ss : List (List ℕ)) → split l ≡ ss
+        → length (split l) ≡ suc (count slash l)
         → length (split (c ∷ l)) ≡ suc (count slash (c ∷ l))
     go (inl t) ss e r =
         let x = eqb-true c slash t in
@@ -144,7 +148,8 @@ unfolding unled
 unled-text [] h = h
 unled-text (c ∷ l) h = go (either (eqb c slash)) (unled-text l)
   where
-    go : (eqb c slash ≡ true) ⊎ (eqb c slash ≡ false) → (isText l ≡ true → isText (unled l) ≡ true) → isText (unled (c ∷ l)) ≡ true
+    go : (eqb c slash ≡ true) ⊎ (eqb c slash ≡ false) → (isText l ≡ true → isText (unled l) ≡ true)
+        → isText (unled (c ∷ l)) ≡ true
     go (inl t) r = rw (pick-true (unled l) (c ∷ l) t) (r (behind-slash [] c l tt (eqb-true c slash t) h .1))
     go (inr f) r = rw (pick-false (unled l) (c ∷ l) f) h
 
@@ -166,12 +171,15 @@ abbrev behind : ℕ → List Range → List Range
 behind zero rs = rs
 behind (suc k) rs = []
 
-before-text : (rs : List Range) (l : List ℕ) → NoSlash rs → textFrom rs l ≡ true → textFrom (behind (beforeName l) rs) (drop (beforeName l) l) ≡ true
+before-text : (rs : List Range) (l : List ℕ) → NoSlash rs → textFrom rs l ≡ true
+    → textFrom (behind (beforeName l) rs) (drop (beforeName l) l) ≡ true
 unfolding beforeName
 before-text rs [] n h = h
-before-text rs (c ∷ l) n h = go (beforeName l) (eqb c slash) refl refl (before-text (step rs c) l (step-slash rs c n) (from-cons rs c l h))
+before-text rs (c ∷ l) n h = go (beforeName l) (eqb c slash) refl refl
+    (before-text (step rs c) l (step-slash rs c n) (from-cons rs c l h))
   where
-    go : (k : ℕ) (b : Bool) → beforeName l ≡ k → eqb c slash ≡ b → textFrom (behind (beforeName l) (step rs c)) (drop (beforeName l) l) ≡ true
+    go : (k : ℕ) (b : Bool) → beforeName l ≡ k → eqb c slash ≡ b
+        → textFrom (behind (beforeName l) (step rs c)) (drop (beforeName l) l) ≡ true
         → textFrom (behind (beforeName (c ∷ l)) rs) (drop (beforeName (c ∷ l)) (c ∷ l)) ≡ true
     go zero true e f r = rw (e, f) (behind-slash rs c l n (eqb-true c slash f) h .1)
     go zero false e f r = rw (e, f) h
@@ -181,7 +189,8 @@ before-text rs (c ∷ l) n h = go (beforeName l) (eqb c slash) refl refl (before
 untrailed-text : (rs : List Range) (l : List ℕ) → NoSlash rs → textFrom rs l ≡ true → textFrom rs (take (untrailed l) l) ≡ true
 unfolding untrailed
 untrailed-text rs [] n h = h
-untrailed-text rs (c ∷ l) n h = go (untrailed l) (eqb c slash) refl refl (untrailed-text (step rs c) l (step-slash rs c n) (from-cons rs c l h))
+untrailed-text rs (c ∷ l) n h = go (untrailed l) (eqb c slash) refl refl
+    (untrailed-text (step rs c) l (step-slash rs c n) (from-cons rs c l h))
   where
     go : (k : ℕ) (b : Bool) → untrailed l ≡ k → eqb c slash ≡ b → textFrom (step rs c) (take (untrailed l) l) ≡ true
         → textFrom rs (take (untrailed (c ∷ l)) (c ∷ l)) ≡ true

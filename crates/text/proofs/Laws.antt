@@ -1,4 +1,4 @@
--- What callers need of text: one text after another, and text around a `/`.
+-- What callers need of text: bytes around a `/`, which never stands inside a character.
 use mathlib.Core.Path.{_≡_, refl, ap, _∙_}
 use mathlib.Core.Bool.{true, false, _&&_}
 use mathlib.Core.List.{List, [], _∷_, _++_}
@@ -8,8 +8,6 @@ use Rattle.wire.specs.Pick.{pick}
 use Rattle.wire.proofs.Picks.{pick-false, pick-case}
 use Rattle.text.specs.Text.{Range, from-to, inside, Row, row, table, never, begun, step, textFrom, isText, slash}
 use Rattle.text.proofs.Rows.{range-high}
-
--- ---- one text after another
 
 -- ---- around a slash
 
@@ -28,8 +26,25 @@ never-slash = (refl, tt)
 
 table-slash : NoSlashes table
 unfolding inside
-table-slash =
-    (tt, ((refl, tt), ((refl, (refl, tt)), ((refl, (refl, tt)), ((refl, (refl, tt)), ((refl, (refl, tt)), ((refl, (refl, (refl, tt))), ((refl, (refl, (refl, tt))), ((refl, (refl, (refl, tt))), tt)))))))))
+table-slash = (
+  tt,
+  (
+    (refl, tt),
+    (
+      (refl, (refl, tt)),
+      (
+        (refl, (refl, tt)),
+        (
+          (refl, (refl, tt)),
+          (
+            (refl, (refl, tt)),
+            ((refl, (refl, (refl, tt))), ((refl, (refl, (refl, tt))), ((refl, (refl, (refl, tt))), tt))),
+          ),
+        ),
+      ),
+    ),
+  ),
+)
 
 begun-slash : (t : List Row) (c : ℕ) → NoSlashes t → NoSlash (begun t c)
 unfolding begun
@@ -42,7 +57,7 @@ step-slash [] c h = begun-slash table c table-slash
 step-slash (r ∷ rs) c h = pick-case NoSlash (inside r c) rs never (λ e. h .1) (λ e. never-slash)
 
 -- nothing is text where a byte is due that there is not
-never-text : (l : List ℕ) → textFrom never l ≡ false
+pub never-text : (l : List ℕ) → textFrom never l ≡ false
 unfolding textFrom step inside
 never-text [] = refl
 never-text (c ∷ l) = ap (λ (rs : List Range). textFrom rs l) (pick-false _ _ (none c)) ∙ never-text l
