@@ -211,10 +211,11 @@ static void other_bytes_are_no_record(void)
 
 static void every_number_has_its_words(void)
 {
-    const char *none = mfs_refusal_text(MFS_LOST_DIR + 1);
+    const char *none = mfs_refusal_text(18);
     uint32_t number, other;
+    EXPECT(same_text(none, "no refusal has that number"));
     EXPECT(same_text(none, mfs_refusal_text(UINT32_MAX)));
-    for (number = MFS_OK; number <= MFS_LOST_DIR; number++) {
+    for (number = MFS_OK; number <= MFS_DAMAGED; number++) {
         EXPECT(!same_text(mfs_refusal_text(number), none));
         for (other = MFS_OK; other < number; other++) {
             EXPECT(!same_text(mfs_refusal_text(number), mfs_refusal_text(other)));

@@ -128,8 +128,6 @@ static inline const char *mfs_refusal_text(uint32_t number)
         return "the work buffer has less than one bit for each block of the data area";
     case MFS_DAMAGED:
         return "the volume is damaged";
-    case MFS_LOST_DIR:
-        return "the holding directory's own entry is missing";
     default:
         return "no refusal has that number";
     }

@@ -52,8 +52,7 @@ typedef enum mfs_refusal {
     MFS_NOT_EMPTY = 14,   /* delete: the directory has entries */
     MFS_TOO_DEEP = 15,    /* the new directory would be at depth 17 */
     MFS_SHORT_WORK = 16,  /* work buffer shorter than ceil((n - D) / 8) bytes */
-    MFS_DAMAGED = 17,     /* check, changing calls: not well formed; others: damage on the way */
-    MFS_LOST_DIR = 18     /* holding directory's own entry missing; never after a passed check */
+    MFS_DAMAGED = 17      /* check, changing calls: not well formed; others: damage on the way */
 } mfs_refusal;
 
 /* What an entry is. */
@@ -192,7 +191,7 @@ uint32_t mfs_c_seek_end(uint32_t number[4], const uint8_t name[255], size_t len,
 /*
  * Creates a file of 0 bytes at a path and opens it: number, name and len become its handle. The
  * holding directory's own entry gets its new size and the time.
- * Refusals: 1, 2, 3, 16, 17, 4, 8, the first of 5, 6 on the way along the path, 7, 9, 18.
+ * Refusals: 1, 2, 3, 16, 17, 4, 8, the first of 5, 6 on the way along the path, 7, 9.
  */
 MFS_NONNULL MFS_MUST_USE
 uint32_t mfs_c_create_file(uint8_t *img, size_t img_len, uint32_t k,
@@ -204,7 +203,7 @@ uint32_t mfs_c_create_file(uint8_t *img, size_t img_len, uint32_t k,
 /*
  * Creates an empty directory at a path. The holding directory's own entry gets its new size and the
  * time.
- * Refusals: 1, 2, 3, 16, 17, 4, 8, the first of 5, 6 on the way along the path, 15, 7, 9, 18.
+ * Refusals: 1, 2, 3, 16, 17, 4, 8, the first of 5, 6 on the way along the path, 15, 7, 9.
  */
 MFS_NONNULL MFS_MUST_USE
 uint32_t mfs_c_create_dir(uint8_t *img, size_t img_len, uint32_t k,
@@ -215,7 +214,7 @@ uint32_t mfs_c_create_dir(uint8_t *img, size_t img_len, uint32_t k,
 /*
  * Deletes the file, the device or the empty directory at a path. The holding directory's own entry
  * gets its new size and the time.
- * Refusals: 1, 2, 3, 16, 17, 4, the first of 5, 6 on the way along the path, 14, 18.
+ * Refusals: 1, 2, 3, 16, 17, 4, the first of 5, 6 on the way along the path, 14.
  */
 MFS_NONNULL MFS_MUST_USE
 uint32_t mfs_c_delete(uint8_t *img, size_t img_len, uint32_t k,

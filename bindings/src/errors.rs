@@ -52,13 +52,13 @@ macro_rules! errors {
         in_order!(refusals!(Stale), " (the handle's own fields), ", refusals!(BadSeek))
     };
     (create_file) => {
-        in_order!(errors!(@create), "; then ", refusals!(Exists, NoRoom, LostDir))
+        in_order!(errors!(@create), "; then ", refusals!(Exists, NoRoom))
     };
     (create_dir) => {
-        in_order!(errors!(@create), "; then ", refusals!(TooDeep, Exists, NoRoom, LostDir))
+        in_order!(errors!(@create), "; then ", refusals!(TooDeep, Exists, NoRoom))
     };
     (delete) => {
-        in_order!(errors!(@checked), ", ", refusals!(BadPath), errors!(@way), "; then ", refusals!(NotEmpty, LostDir))
+        in_order!(errors!(@checked), ", ", refusals!(BadPath), errors!(@way), "; then ", refusals!(NotEmpty))
     };
     (write) => {
         in_order!(

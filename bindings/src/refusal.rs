@@ -45,8 +45,6 @@ pub enum Refusal {
     ShortWork,
     /// 17: the volume is damaged.
     Damaged,
-    /// 18: the holding directory's own entry is not found. Never given on a volume that passes the check.
-    LostDir,
     /// A number that these bindings have no name for.
     Unknown(u32),
     /// No call was made: the library has exports of this version, and these bindings are for [`EXPORTS_VERSION`].
@@ -55,7 +53,7 @@ pub enum Refusal {
 
 impl Refusal {
     /// Every refusal that has a name and a number, in the order of the numbers.
-    pub const ALL: [Refusal; 18] = [
+    pub const ALL: [Refusal; 17] = [
         Refusal::BadImage,
         Refusal::NotMfs,
         Refusal::BadCount,
@@ -73,7 +71,6 @@ impl Refusal {
         Refusal::TooDeep,
         Refusal::ShortWork,
         Refusal::Damaged,
-        Refusal::LostDir,
     ];
 
     /// The number of the refusal. [`OtherVersion`](Refusal::OtherVersion) is none of the library's, and gives `u32::MAX`.
@@ -97,13 +94,12 @@ impl Refusal {
             Refusal::TooDeep => 15,
             Refusal::ShortWork => 16,
             Refusal::Damaged => 17,
-            Refusal::LostDir => 18,
             Refusal::Unknown(number) => number,
             Refusal::OtherVersion(_) => u32::MAX,
         }
     }
 
-    /// The refusal of a number: none for 0, [`Unknown`](Refusal::Unknown) for one without a name.
+    /// The refusal of a number: none for 0, [`Unknown`](Refusal::Unknown) for one without a name, as 18 has none now.
     #[must_use]
     pub fn from_number(number: u32) -> Option<Refusal> {
         if number == 0 {
@@ -135,7 +131,6 @@ impl fmt::Display for Refusal {
             Refusal::TooDeep => "the new directory would be at depth 17",
             Refusal::ShortWork => "the work buffer has less than one bit for each block of the data area",
             Refusal::Damaged => "the volume is damaged",
-            Refusal::LostDir => "the holding directory's own entry is missing",
             Refusal::Unknown(number) => return write!(f, "refused by number {number}, which these bindings do not know"),
             Refusal::OtherVersion(library) => {
                 return write!(f, "the library's exports have version {library}, these bindings call version {EXPORTS_VERSION}")
@@ -152,7 +147,7 @@ impl From<Refusal> for std::io::Error {
     fn from(refusal: Refusal) -> std::io::Error {
         use std::io::ErrorKind;
         let kind = match refusal {
-            Refusal::NotMfs | Refusal::BadCount | Refusal::Damaged | Refusal::LostDir => ErrorKind::InvalidData,
+            Refusal::NotMfs | Refusal::BadCount | Refusal::Damaged => ErrorKind::InvalidData,
             Refusal::NotFound => ErrorKind::NotFound,
             Refusal::Exists => ErrorKind::AlreadyExists,
             Refusal::NoRoom => ErrorKind::StorageFull,

@@ -65,7 +65,7 @@ fn numbers_lead_back_to_their_refusals() {
 
 #[test]
 fn a_number_without_a_name_is_a_value() {
-    for number in [19, 256 + 1, u32::MAX] {
+    for number in [18, 19, 256 + 1, u32::MAX] {
         let unknown = Refusal::from_number(number).unwrap();
         assert_eq!(unknown, Refusal::Unknown(number));
         assert_eq!(unknown.number(), number);

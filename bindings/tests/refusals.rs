@@ -1,6 +1,4 @@
 //! Each refusal by its number, on the calls that give it. Every refused call here is also seen to leave image, handle and buffer.
-//!
-//! 18 has no test: no image that passes the check gets it.
 mod common;
 
 use common::*;

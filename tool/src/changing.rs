@@ -70,15 +70,7 @@ pub fn mkdir(call: &Call) -> Result<(), Failure> {
 
 pub fn make(change: &mut Change, path: &[u8]) -> Result<(), Failure> {
     let made = change.image.volume().create_dir(path);
-    made.map_err(|refusal| match change.image.refused(refusal, path) {
-        Failure::Refused { subject, number: 5, .. } => Failure::Refused {
-            subject,
-            number: 5,
-            reason: "a directory on the way is not there".to_string(),
-            advice: "use -p to make those, too".to_string(),
-        },
-        other => other,
-    })?;
+    made.map_err(|refusal| change.image.not_created(refusal, path, "use -p to make those, too"))?;
     change.did("mkdir", path, None)
 }
 

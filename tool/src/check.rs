@@ -59,7 +59,10 @@ fn explain(image: &Reading, number: u32, out: &mut Output) -> Result<(), Failure
         let object = || Object::new().text("image", &image.name).number("directories", dirs);
         return out.either(
             || object().number("files", files).number("devices", devices),
-            || format!("  {dirs} directories, {files} files, {devices} devices"),
+            || {
+                let [dirs, files] = [(dirs, "directory"), (files, "file")].map(|(n, one)| human::count(u64::from(n), one));
+                format!("  {dirs}, {files}, {}", human::count(u64::from(devices), "device"))
+            },
         );
     }
     let found = walk.findings.len() as u64;

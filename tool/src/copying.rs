@@ -138,7 +138,7 @@ fn put_bytes(change: &mut Change, path: &[u8], bytes: &[u8]) -> Result<(), Failu
         deleted.map_err(|refusal| change.image.refused(refusal, path))?;
     }
     let opened = if keeps { change.image.view().open(path) } else { change.image.volume().create_file(path) };
-    let mut file = opened.map_err(|refusal| change.image.refused(refusal, path))?;
+    let mut file = opened.map_err(|refusal| change.image.not_created(refusal, path, "'mfs mkdir -p' makes it"))?;
     if !bytes.is_empty() {
         let written = change.image.volume().write(&mut file, bytes);
         written.map_err(|refusal| change.image.refused(refusal, path))?;

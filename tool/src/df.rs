@@ -24,9 +24,6 @@ pub fn df(call: &Call) -> Result<(), Failure> {
     let percent = (usage.used * 100).div_ceil(usage.size.max(1));
     let reach = human::size(in_reach * BLOCK as u64);
     out.line(&format!("{size:>8} {used:>8} {free:>8} {reach:>9} {percent:>4}%  {}", image.name))?;
-    out.line(&format!(
-        "{} in reach of allocation",
-        if in_reach == 1 { "1 block".to_string() } else { format!("{in_reach} blocks") }
-    ))?;
+    out.line(&format!("{} in reach of allocation", human::count(in_reach, "block")))?;
     out.end()
 }

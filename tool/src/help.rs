@@ -179,10 +179,11 @@ pub fn command(name: &str) -> Option<&'static Command> {
 
 const OPTIONS: &str = "\
 Options, anywhere on the line:
-  -k BLOCK|auto   the superblock's block; auto, if it is left out, looks for it and says what it took
+  -k BLOCK|auto   the superblock's block; auto looks for it and says what it took, and so it is if -k is left out,
+                  but without a word where it is block 8
   --code 0|auto   the card's size code: 0 is blocks of 512 bytes, and the only one yet
   --json          one object a line
-  -q, --quiet     no remarks and no progress bar
+  -q, --quiet     no progress bar, and no remark but that a change was rolled back
   --no-progress   no progress bar";
 
 const CODES: &str = "\

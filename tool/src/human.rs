@@ -69,10 +69,13 @@ fn push_escaped(shown: &mut String, bytes: &[u8]) {
     }
 }
 
-/// "1 block", "2 blocks".
+/// "1 block", "2 blocks", "2 directories".
 pub fn count(number: u64, one: &str) -> String {
-    let plural = if number == 1 { "" } else { "s" };
-    format!("{number} {one}{plural}")
+    match (number, one.strip_suffix('y')) {
+        (1, _) => format!("1 {one}"),
+        (_, Some(stem)) => format!("{number} {stem}ies"),
+        (_, None) => format!("{number} {one}s"),
+    }
 }
 
 #[cfg(test)]
@@ -91,6 +94,12 @@ mod tests {
         let meant = ["1970-01-01 00:00:00", "2000-02-29 00:00:00", "2000-03-01 00:00:00", "2023-11-14 22:13:20"];
         assert_eq!(shown[..4], meant);
         assert_eq!(shown[4..], ["9999-12-31 23:59:59", "18446744073709551615"]);
+    }
+
+    #[test]
+    fn one_is_not_many() {
+        let shown = [count(1, "block"), count(0, "block"), count(1, "directory"), count(2, "directory")];
+        assert_eq!(shown, ["1 block", "0 blocks", "1 directory", "2 directories"]);
     }
 
     #[test]

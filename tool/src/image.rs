@@ -33,6 +33,9 @@ impl Reading {
         let name = path.display().to_string();
         let failed = |error| Failure::host(&name, error);
         let real = path.canonicalize().map_err(failed)?;
+        if real.is_dir() {
+            return Err(Failure::host(&name, "is a folder, and no image"));
+        }
         let mut file = File::open(&real).map_err(failed)?;
         lock(&file, Hold::Shared, &name, out)?;
         if undo::log_of(&real).exists() {
@@ -128,6 +131,17 @@ impl Changing {
 
     pub fn refused(&self, refusal: Refusal, path: &[u8]) -> Failure {
         advice::failure(refusal, &self.map, self.k, &self.name, path)
+    }
+
+    /// As `refused`, for a call that was to create something: not found is then a directory on the way.
+    pub fn not_created(&self, refusal: Refusal, path: &[u8], advice: &str) -> Failure {
+        match self.refused(refusal, path) {
+            Failure::Refused { subject, number: 5, .. } => {
+                let reason = "a directory on the way is not there".to_string();
+                Failure::Refused { subject, number: 5, reason, advice: advice.to_string() }
+            }
+            other => other,
+        }
     }
 
     /// Stores what has changed among the given blocks, or with `--dry-run` only counts it.

@@ -126,8 +126,7 @@ pub fn tree(call: &Call) -> Result<(), Failure> {
     tree.dir(&path, "", &mut out)?;
     let [dirs, others] = tree.counts;
     if !out.json {
-        let dirs = if dirs == 1 { "1 directory".to_string() } else { format!("{dirs} directories") };
-        out.line(&format!("\n{dirs}, {}", human::count(others, "file")))?;
+        out.line(&format!("\n{}, {}", human::count(dirs, "directory"), human::count(others, "file")))?;
     }
     out.end()
 }
@@ -205,6 +204,9 @@ fn entry_info(image: &Reading, path: &[u8], out: &mut Output) -> Result<(), Fail
     }
     out.line(&format!("{}: {}", human::name(path), entry.kind.word()))?;
     out.line(&format!("{:>10}  bytes ({})", entry.size, human::size(u64::from(entry.size))))?;
-    out.line(&format!("{:>10}  last changed ({} UTC)", entry.time, human::time(entry.time)))?;
+    // The root has no entry of its own, and so no time.
+    if path != b"/" {
+        out.line(&format!("{:>10}  last changed ({} UTC)", entry.time, human::time(entry.time)))?;
+    }
     first.map_or(Ok(()), |first| out.line(&format!("{first:>10}  first block")))
 }

@@ -60,9 +60,13 @@ impl Output {
 
     /// A remark, on the standard error.
     pub fn note(&self, subject: &str, text: &str) {
-        if self.quiet {
-            return;
+        if !self.quiet {
+            self.warn(subject, text);
         }
+    }
+
+    /// What must be said, also where remarks are not wanted.
+    pub fn warn(&self, subject: &str, text: &str) {
         if self.json {
             say(&Object::new().text("note", text).text("subject", subject).line());
         } else {

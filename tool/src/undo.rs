@@ -115,17 +115,17 @@ impl Log {
         if body.len() < HEAD || &body[..8] != MARK || digest(body) != u64::from_be_bytes(*end) {
             return None;
         }
-        let (records, rest) = body[HEAD..].as_chunks::<RECORD>();
+        let records = body[HEAD..].chunks_exact(RECORD);
         let count = number(&body[16..]);
-        if !rest.is_empty() || records.len() as u64 != count {
+        if !records.remainder().is_empty() || records.len() as u64 != count {
             return None;
         }
-        let record = |r: &[u8; RECORD]| Record {
+        let record = |r: &[u8]| Record {
             offset: number(&r[..8]) * BLOCK as u64,
             new_digest: number(&r[8..]),
             old: r[16..].try_into().expect("a block"),
         };
-        Some(Log { image_len: number(&body[8..]), records: records.iter().map(record).collect() })
+        Some(Log { image_len: number(&body[8..]), records: records.map(record).collect() })
     }
 
     /// Whether each block is the old or the new one. Otherwise the image is not the one that the log was written for.
@@ -177,7 +177,7 @@ pub fn roll_back(image: &mut File, path: &Path, name: &str, out: &Output) -> Res
     };
     fs::remove_file(&log).map_err(of_log)?;
     sync_folder_of(&log).map_err(of_log)?;
-    out.note(name, &said);
+    out.warn(name, &said);
     Ok(())
 }
 

@@ -8,7 +8,7 @@ use Rattle.model.specs.Geometry.{Geo, blockSize, mapAt, dataAt, reach, usedCoun
 use Rattle.model.specs.Calls.{clearFrom}
 use Rattle.super_block.specs.Super.{counted}
 
--- 01: "Index x has its bit in bitmap block a + x/4096, byte (x mod 4096)/8, bit x mod 8 counted from the lowest". The bitmap blocks stand side
+-- F5: the bit of index x. The rule gives its bitmap block, the byte there and the place in that; but the bitmap blocks stand side
 -- by side, so that is bit x of the bytes from block a on (`mark-place` in proofs/).
 unfoldable pub mark : Geo → List ℕ → ℕ → ℕ
 mark g I x = bit I (blockSize g * mapAt g) x
@@ -21,7 +21,7 @@ marked g I x v = withBit I (blockSize g * mapAt g) x v
 unfoldable pub clears : Geo → List ℕ → List ℕ
 clears g I = clearFrom (λ b. mark g I (b - dataAt g)) (dataAt g) (reach g)
 
--- 01: "A new block is the lowest clear index within reach": its address.
+-- F6: the address of the block that is taken next.
 unfoldable pub fresh : Geo → List ℕ → ℕ
 fresh g I = getD (clears g I) 0 0
 
@@ -32,15 +32,15 @@ more g I = counted g I (usedCount g I + 1)
 unfoldable pub fewer : Geo → List ℕ → List ℕ
 fewer g I = counted g I (usedCount g I - 1)
 
--- 01: "its 512 bytes become zero, its bit is set and the used count grows by 1".
+-- F6: the block of index x is taken: zeroed, marked and counted.
 unfoldable pub taken : Geo → List ℕ → ℕ → List ℕ
 taken g I x = more g (marked g (zeroed (blockSize g) I (dataAt g + x) 1) x 1)
 
--- 01: "Freeing clears the bit, lowers the count and leaves the block's bytes." (L5 wipes them.)
+-- F7: it is given back; its bytes stay.
 unfoldable pub freed : Geo → List ℕ → ℕ → List ℕ
 freed g I x = fewer g (marked g I x 0)
 
--- There is room for k blocks: so many indexes in reach are clear, and the used count can grow by as many.
+-- R9, its other side: so many indexes in reach are clear, and the used count can grow by as many.
 pub record Room (g : Geo) (I : List ℕ) (k : ℕ) : Type 0 where
   pub clear : k ≤ length (clears g I)
   pub count : usedCount g I + k ≤ g .n

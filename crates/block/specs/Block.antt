@@ -5,7 +5,7 @@ use Prim.Native.Nat.{ℕ, _+_, _*_, _≤_, _<_}
 use lib.ListN.{length, getD}
 use Rattle.wire.specs.Be.{be, bytes, splice, zeros}
 
--- 01: "an image is a lent slice of 512-byte blocks"
+-- F1: the bytes of a block
 abbrev pub blockBytes : ℕ
 blockBytes = 512
 
@@ -13,7 +13,7 @@ blockBytes = 512
 unfoldable pub cell : ℕ → List ℕ → ℕ → ℕ → ℕ
 cell B I a o = getD I (B * a + o) 0
 
--- 01: "Linked block: bytes 0-3 next address (0 ends)"
+-- F8: the next address, in the block's first four bytes
 unfoldable pub next : ℕ → List ℕ → ℕ → ℕ
 next B I a = be 4 I (B * a)
 
@@ -29,7 +29,7 @@ zeroed B I a k = splice I (B * a) (zeros (B * k))
 abbrev pub Off : ℕ → ℕ → ℕ → ℕ → ℕ → Type 0
 Off a o n b p = b ≡ a → o ≤ p → p < o + n → ⊥
 
--- The frame: J has I's length, and I's byte at each block b and offset o with P b o.
+-- C14: the frame: J has I's length, and I's byte at each block b and offset o with P b o.
 pub record Kept (B : ℕ) (P : ℕ → ℕ → Type 0) (I J : List ℕ) : Type 0 where
   pub size : length J ≡ length I
   pub at : (b o : ℕ) → P b o → o < B → cell B J b o ≡ cell B I b o

@@ -5,7 +5,7 @@ use Prim.Native.Nat.{ℕ, zero, suc, _+_, _*_, _%_, _≤_, _<_}
 use native.Mathlib.Decide.{decLt}
 use native.Mathlib.Numerals.{add-one}
 use native.Mathlib.Omega.{arith}
-use lib.IntN.{ℤ, pos, negsuc, negℤ, _-ℤ_, +ℤ-idl}
+use lib.IntN.{ℤ, pos, negℤ, _-ℤ_, +ℤ-idl}
 use lib.Signed.{mag}
 use mir.Syntax.{w32, w64}
 use mir.Val.{SFits, ofZ, toZ}
@@ -28,11 +28,12 @@ pub digest-none : (l : List ℕ) → digestOf 0 l ≡ 0
 unfolding digestOf
 digest-none l = refl
 
-pub digest-more : (i : ℕ) (l : List ℕ) → digestOf (i + 1) l ≡ (digestOf i l * 257 + getD l i 0) % 4294967291
+digest-more : (i : ℕ) (l : List ℕ) → digestOf (i + 1) l ≡ (digestOf i l * 257 + getD l i 0) % 4294967291
 unfolding digestOf
 digest-more i l = rw add-one
 
-pub digest-step : (i : ℕ) (l : List ℕ) (d b : ℕ) → d ≡ digestOf i l → b ≡ getD l i 0 → (d * 257 + b) % 4294967291 ≡ digestOf (i + 1) l
+pub digest-step : (i : ℕ) (l : List ℕ) (d b : ℕ) → d ≡ digestOf i l → b ≡ getD l i 0
+    → (d * 257 + b) % 4294967291 ≡ digestOf (i + 1) l
 digest-step i l d b p q = rw (digest-more, ← p, ← q)
 
 pub digest-done : (i : ℕ) (l : List ℕ) (d : ℕ) → d ≡ digestOf i l → i ≤ length l → length l ≤ i → d ≡ digestOf (length l) l
@@ -64,7 +65,8 @@ SownTo seed l n = (j : ℕ) → j < n → getD l j 0 ≡ (seed + 7 * j) % 251
 pub sown-none : (seed : ℕ) (l : List ℕ) → SownTo seed l 0
 sown-none seed l j h = absurd (omega arith)
 
-pub sown-more : (seed b : ℕ) (l : List ℕ) (n : ℕ) → SownTo seed l n → n < length l → b ≡ (seed + 7 * n) % 251 → SownTo seed (set l n b) (n + 1)
+pub sown-more : (seed b : ℕ) (l : List ℕ) (n : ℕ) → SownTo seed l n → n < length l
+    → b ≡ (seed + 7 * n) % 251 → SownTo seed (set l n b) (n + 1)
 sown-more seed b l n h room e j q = go (decLt j n)
   where
     go : Dec (j < n) → getD (set l n b) j 0 ≡ (seed + 7 * j) % 251

@@ -1,26 +1,30 @@
-// cases: follows a script of calls, one line a step, and prints what each call answers; the file stdout holds what that must be. The script is
-// text on standard input, 524,288 bytes at most. A step is a word, of which the first letter counts, and its fields, one space before each. A title
-// and `: ` may stand before the step: it is printed on a line of its own, and what is answered from there on follows it. A line that starts with `#`
-// is printed as it is. Numbers are decimal. Bytes are text in `"`, or pairs of hexadecimal digits; `*N` makes the last byte N of its kind;
-// `.` is no byte. A letter in parentheses says what the call takes beside the image and K: (s) is a slot, 0 to 3, for a handle.
-//   Volume BYTES K             the image is the first BYTES bytes of 2,201,600, which stay as they are, and K for what follows
+// cases: follows a script of calls, one line a step, and prints what each call answers; the file stdout holds what that must
+// be. The script is text on standard input, 524,288 bytes at most. A step is a word, of which the first letter counts, and its
+// fields, one space before each. A title and `: ` may stand before the step: the title is printed on a line of its own, and
+// what is answered from there on follows it. A line that starts with `#` is printed as it is. Numbers are decimal. A string is
+// text in `"` or pairs of hexadecimal digits; `*N` makes the last byte N times itself; `.` is no byte. S is a slot for a
+// handle, 0 to 3.
+//   Volume BYTES K             the image is the first BYTES of 2,201,600 bytes, which stay as they are, and K for what follows
 //   Put AT STRING              these bytes stand at byte AT of the image
 //   Base · Go back             the image is kept, 65,536 bytes at most · and is again what was kept
-//   Quota N                    creates, deletes and writes are lent N bytes of work buffer, 1024 at most; each byte is 165 at first
-//   Handle (s) NAME DIR LEN ADDR SIZE POSITION      a made up handle
-//   Keep (s) (s)               the second slot holds what the first one does
+//   Quota N                    creates, deletes and writes are lent N bytes of work buffer, 1024 at most, each 165 at first
+//   Handle S NAME DIR LEN ADDR SIZE POSITION        a made up handle
+//   Keep S S                   the second slot holds what the first one does
 //   Accept BYTES               what the length of an image alone decides
-//   Format · Usage · Nonzero   the calls; and how many bytes of the image are not zero
-//   Open (s) CWD PATH · Info CWD PATH · Create (s) CWD PATH TIME · Mkdir CWD PATH TIME · Delete CWD PATH TIME
+//   Format · Usage · Nonzero   the calls, and how many bytes of the image are not zero
+//   Open S CWD PATH · Info CWD PATH · Create S CWD PATH TIME · Mkdir CWD PATH TIME · Delete CWD PATH TIME
 //   List CWD PATH FROM LEN     into LEN of 4096 bytes of 255; `changed` counts those that are not 255 then
-//   Read (s) LEN               into LEN of 4096 dots; the first 8 are printed
-//   Seek (s) HOW OFFSET        HOW 0 start, 1 current, 2 end; OFFSET may have a minus
-//   Write (s) STRING TIME
-//   Test LEN FROM TIMES        the check, once or twice, with LEN of 520 bytes of work buffer; 16 are shown from byte FROM: `0` for a zero, `=` for 165
-//   Effect                     whether a byte of the image changed since the title, how many blocks are in use, and what the check answers
-// A small letter is a line of the recorded list, with the answers of the original after its fields. The line is printed up to there, and then what
-// is answered here: 1 and the values where the call was accepted, 0 where it was refused. So the list is to be printed as it stands.
-//   v BLOCKS K                                  a new image of BLOCKS blocks of zeros (4300 at most), and K for what follows; no handles
+//   Read S LEN                 into LEN of 4096 dots; the first 8 are printed
+//   Seek S HOW OFFSET          HOW 0 start, 1 current, 2 end; OFFSET may have a minus
+//   Write S STRING TIME
+//   Test LEN FROM TIMES        the check, once or twice, with LEN of 520 bytes of work buffer, each 165 at first; 16 of them are
+//                              shown from byte FROM: `0` for a zero, `=` for 165, `?` for any other
+//   Jot MORE                   what lsmfs writes of the image, on lines of its own; MORE is 1 where its input goes on after it
+//   Effect                     whether a byte of the image changed since the title, the blocks in use, what the check answers
+// A step with a small letter is a line of the recorded list, with the answers of the original after its fields. The line is
+// printed up to there, and then what is answered here: 1 and the values where the call was accepted, 0 where it was refused.
+// So the list is to be printed as it stands.
+//   v BLOCKS K                                  a new image of BLOCKS blocks of zeros (4300 at most), and K; no handles
 //   p BLOCK OFFSET HEX                          these bytes stand at byte 512 * BLOCK + OFFSET of the image (OFFSET 0 to 511)
 //   f X · u X SIZE USED FREE                    format; usage
 //   o SLOT CWD PATH X ADDR SIZE                 open into slot 0 to 3; a refused open leaves the slot
@@ -34,6 +38,10 @@
 //   g DIGEST                                    the digest of the whole image now
 // DIGEST of bytes: from 0, for each byte d = (d * 257 + byte) mod 4,294,967,291. A step that cannot be read is answered `unread`.
 use block::Addr;
+use call_read::Listing;
+use call_read::OpenOut;
+use call_volume::Answer;
+use call_volume::Space;
 use dir_entry::Kind;
 use file::Counted;
 use file::Handle;
@@ -41,10 +49,6 @@ use file::Outcome;
 use file::SeekFrom;
 use file::WriteOut;
 use limits::Refusal;
-use mfs::Answer;
-use mfs::Listing;
-use mfs::OpenOut;
-use mfs::Space;
 use super_block::Opened;
 use super_block::SuperBlock;
 ghost use mathlib.Core.Path.{_≡_};
@@ -249,8 +253,9 @@ fn sow(buf: &mut [u8], seed: u64)
     }
 }
 
-// ---- the fields of a line: it is lent with its newline, and a field is ended by one space or by the newline. A place is the index of a field's first
-// byte. No field stands at 0, so 0 is the place behind a field that cannot be read, and nothing can be read there.
+// ---- the fields of a line: it is lent with its newline, and a field is ended by one space or by the newline. A place is the
+// index of a field's first byte. No field stands at 0, so 0 is the place behind a field that cannot be read, and nothing can
+// be read there.
 
 // A number, whether a minus stands before it, and the place of the next field.
 struct Number {
@@ -272,7 +277,8 @@ struct Text {
     next: usize,
 }
 
-// A part of a string: so many bytes of that value, and the place after it, 0 where it cannot be read; and whether text in quotes goes on there.
+// A part of a string: so many bytes of that value, the place after it, 0 where it cannot be read, and whether text in quotes
+// goes on there.
 struct Piece {
     byte: u8,
     times: usize,
@@ -576,7 +582,7 @@ fn numbers_after(letter: u8) -> usize
     ensures { λ r. ⌜ r ≤ 5 ⌝ }
 {
     match letter {
-        b'c' | b'C' | b'm' | b'M' | b'd' | b'D' | b'r' | b'R' | b'W' | b'A' | b'Q' => 1,
+        b'c' | b'C' | b'm' | b'M' | b'd' | b'D' | b'r' | b'R' | b'W' | b'A' | b'Q' | b'J' => 1,
         b'l' | b'L' | b's' | b'S' | b'v' | b'V' => 2,
         b'w' | b'T' => 3,
         b'H' => 5,
@@ -998,6 +1004,32 @@ fn accept(len: u64, k: u32) {
     }
 }
 
+// The first n bytes, which are whole lines, on lines of their own.
+fn put_lines(text: &[u8], n: usize) {
+    if 0 < n {
+        put(b"\n");
+        put_first(text, n - 1);
+    }
+}
+
+// What lsmfs writes from entry number i on; the number after it.
+fn jot_page(img: &[u8], k: u32, more: bool, i: u32) -> u32 {
+    let mut out = [0u8; 3072];
+    let s = lsmfs_pages::say(img, k, more, i, &mut out);
+    put_lines(&out, s.len);
+    s.next
+}
+
+// Page after page, as lsmfs does.
+fn jot(img: &[u8], k: u32, more: bool) {
+    let mut i: u32 = 0;
+    let mut next = jot_page(img, k, more, 0);
+    while i < next {
+        i = next;
+        next = jot_page(img, k, more, i);
+    }
+}
+
 // What is no call, on the image.
 fn image_step(img: &mut [u8], base: &mut [u8], letter: u8, b: &[u8], p: Row) {
     let n = img.len();
@@ -1011,7 +1043,8 @@ fn image_step(img: &mut [u8], base: &mut [u8], letter: u8, b: &[u8], p: Row) {
 
 // ---- steps
 
-// What the lines so far leave: how many bytes the image has, its K, the length of the work buffer, the image's digest at the last title, the handles.
+// What the lines so far leave: how many bytes the image has, its K, the length of the work buffer, the image's digest at the last
+// title, the handles.
 struct State {
     len: usize,
     k: u32,
@@ -1071,6 +1104,7 @@ fn image_call(img: &mut [u8], s: State, letter: u8, a: &[u8], b: &[u8], v: Row, 
         b'T' => test(img, k, v),
         b'E' => effect(img, k, s.before),
         b'A' => accept(v.n[0], k),
+        b'J' => jot(img, k, v.n[0] == 1),
         _ => path_call(img, k, letter, a, b, v, work),
     }
 }
@@ -1243,7 +1277,7 @@ fn follow_all(list: &[u8], img: &mut [u8], base: &mut [u8], text: &mut [u8]) {
     put(b"\n");
 }
 
-// Reads the script into the buffer and follows it. One that fills the buffer and goes on is cut, and what it lacks is missing in what is printed.
+// Reads the script into the buffer and follows it. One that is too long is cut, and what it lacks is missing in what is printed.
 fn run(list: &mut [u8], img: &mut [u8], base: &mut [u8], text: &mut [u8]) {
     put(b"What the steps answer");
     let n = io::read_full(0, list);

@@ -12,7 +12,7 @@ use Rattle.wire.specs.Pick.{same, zeroFrom}
 use Rattle.wire.proofs.Picks.{same-eq, same-agree, and-both}
 use Rattle.wire.proofs.Zeros.{zeros-shown, zeros-pass}
 use Rattle.bits.specs.Bit.{bit}
-use Rattle.bits.proofs.Laws.{bit-ext, bit-zero}
+use Rattle.bits.proofs.Bits.{bit-ext, bit-zero}
 use Rattle.model.specs.Geometry.{Geo, blockSize, mapAt, dataAt, mapBits, Sound}
 use Rattle.model.specs.Steps.{Bytes}
 use Rattle.model.proofs.Areas.{area}
@@ -45,10 +45,10 @@ byte-clear I from i b h = byte-agrees I [] from i b no-bytes (λ k q. h k q ∙ 
 
 -- the marks have room in the bitmap, and the bitmap in the image
 module _ (g : Geo) (len : ℕ) (s : Sound g len) where
-  pub marks-room : markLong g ≤ mapLong g
+  marks-room : markLong g ≤ mapLong g
   marks-room = omega (arith, area g len s .enough)
 
-  pub map-inside : mapFrom g + mapLong g ≤ len
+  map-inside : mapFrom g + mapLong g ≤ len
   map-inside =
       let a = area g len s in
       let k : mapAt g + (dataAt g - mapAt g) ≡ dataAt g = omega (arith, a .maps) in
@@ -56,7 +56,7 @@ module _ (g : Geo) (len : ℕ) (s : Sound g len) where
       let l : dataAt g ≤ g .n = omega (arith, a .some-data) in
       omega (arith, mul-le-mul-left (blockSize g) l, mul-comm (blockSize g) (g .n), s .inside-image)
 
--- ---- W5: "a bit is set exactly for each block reached from the root, bits past the data are clear"
+-- ---- W5: the bits are the marks, and clear past the data
 
 -- f x is how often the block of index x is reached; W has the marks.
 module _ (g : Geo) (I W : List ℕ) (s : Sound g (length I)) (room : markLong g ≤ length W) (f : ℕ → ℕ)

@@ -6,7 +6,7 @@ use lib.ListN.{take, drop}
 use Rattle.wire.specs.Pick.{same, zeroFrom}
 use Rattle.model.specs.Geometry.{Geo, blockSize, mapAt, dataAt}
 
--- 01, "ceil((n-D)/8) bytes": how many bytes of the work buffer hold marks.
+-- C3, R16: how many bytes of the work buffer hold marks: a bit for each block of the data area.
 abbrev pub markBytes : ℕ → ℕ → ℕ
 markBytes D n = (n - D + 7) / 8
 
@@ -20,6 +20,6 @@ mapLong g = blockSize g * (dataAt g - mapAt g)
 abbrev pub markLong : Geo → ℕ
 markLong g = markBytes (dataAt g) (g .n)
 
--- W5, "a bit is set exactly for each block reached from the root, bits past the data are clear": the bitmap I has the marks W, then zeros.
+-- W5: the bitmap of I has the marks W, which are those of the blocks that were reached, then zeros.
 unfoldable pub agreed : Geo → List ℕ → List ℕ → Bool
 agreed g I W = same (take (markLong g) (drop (mapFrom g) I)) (take (markLong g) W) && zeroFrom I (mapFrom g + markLong g) (mapLong g - markLong g)

@@ -1,5 +1,5 @@
-// W1's "rest zero" and W5 of a volume, decided on the bytes of its image: the superblock's last bytes, the bitmap against the marks
-// of a walk, and the used count. The marks stand in a lent work buffer, one bit a block: bit x is that of address D + x.
+// The zeros of W1, and W5, decided on the bytes of a volume's image: the superblock's last bytes, the bitmap against the marks
+// of a walk, and the used count. The marks stand in the work buffer: bit x is that of address D + x.
 // What the answers say of the definitions of a volume is in proofs/Top.antt and proofs/Marks.antt.
 use super_block::SuperBlock;
 ghost use mathlib.Core.Path.{_≡_};
@@ -56,7 +56,7 @@ pub fn agrees(img: &[u8], s: SuperBlock, work: &[u8]) -> bool
     wire::zero_bytes(img, past, end - past)
 }
 
-// Whether the used count is D plus the number of set bits.
+// W5: whether the used count is the true one.
 pub fn count_right(img: &[u8], s: SuperBlock) -> bool
     requires { ⌜ Fit s (now img) ⌝ }
     ensures { λ r. ⌜ r ≡ eqb (usedCount (geoOf s) (now (img .entry))) (dataAt (geoOf s) + setBits (now (img .entry)) (geoOf s)) ⌝ }

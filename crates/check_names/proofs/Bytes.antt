@@ -1,47 +1,17 @@
--- How `allowed` and `hash` go along the bytes of a name: what is left to do is what was to be done.
+-- How `hash` goes along the bytes of a name: what is left to do is what was to be done.
 use mathlib.Core.Path.{_≡_, sym, ap, _∙_}
-use mathlib.Core.Bool.{true, false}
 use mathlib.Core.List.{[], _∷_}
 use Prim.Native.Nat.{ℕ, _+_, _*_, _%_, _≤_, _<_}
 use native.Mathlib.Numerals.{add-one}
 use native.Mathlib.Omega.{arith}
 use lib.ListN.{length, getD, drop, drop-of-length-le}
 use lib.Seq.{drop-cons}
-use borrow.Author.Tests.{le-leb, lt-leb, eq-eqb, ne-eqb}
 use Rattle.model.specs.Tree.{Name}
-use Rattle.check_names.specs.Names.{nameBytes}
 use Rattle.check_names.specs.Filter.{stirred, hashFrom, hashOf}
 
 -- at byte i
 next-byte : (x : Name) (i : ℕ) → i < length x → drop i x ≡ getD x i 0 ∷ drop (i + 1) x
 next-byte x i h = rw add-one (drop-cons x i 0 h)
-
--- ---- the rule on bytes
-
-module _ (x : Name) (i : ℕ) (v : nameBytes (drop i x) ≡ nameBytes x) where
-  module _ (h : i < length x) where
-    at-byte : nameBytes (getD x i 0 ∷ drop (i + 1) x) ≡ nameBytes x
-    at-byte = ap nameBytes (sym (next-byte x i h)) ∙ v
-
-    pub byte-low : getD x i 0 < 32 → false ≡ nameBytes x
-    unfolding nameBytes
-    byte-low l = rw (lt-leb 32 (getD x i 0) l) at at-byte
-
-    pub byte-high : 32 ≤ getD x i 0 → 126 < getD x i 0 → false ≡ nameBytes x
-    unfolding nameBytes
-    byte-high l k = rw (le-leb 32 (getD x i 0) l, lt-leb (getD x i 0) 126 k) at at-byte
-
-    pub byte-slash : 32 ≤ getD x i 0 → getD x i 0 ≤ 126 → getD x i 0 ≡ 47 → false ≡ nameBytes x
-    unfolding nameBytes
-    byte-slash l k e = rw (le-leb 32 (getD x i 0) l, le-leb (getD x i 0) 126 k, eq-eqb (getD x i 0) 47 e) at at-byte
-
-    pub byte-fine : 32 ≤ getD x i 0 → getD x i 0 ≤ 126 → (getD x i 0 ≡ 47 → ⊥) → nameBytes (drop (i + 1) x) ≡ nameBytes x
-    unfolding nameBytes
-    byte-fine l k e = rw (le-leb 32 (getD x i 0) l, le-leb (getD x i 0) 126 k, ne-eqb (getD x i 0) 47 e) at at-byte
-
-  pub bytes-done : length x ≤ i → true ≡ nameBytes x
-  unfolding nameBytes
-  bytes-done h = sym (ap nameBytes (drop-of-length-le x h)) ∙ v
 
 -- ---- the hash
 

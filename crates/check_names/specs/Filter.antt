@@ -1,5 +1,5 @@
--- The filter that `distinct` borrows: two bits for each name that was met, so that W3 "distinct in a directory" is decided without a
--- comparison of every two names. No sentence of 01 speaks of it: it comes back as it was lent. Definitions alone.
+-- The filter that `distinct` borrows: two bits for each name that was met, so that W3 is decided without a
+-- comparison of every two names. No rule speaks of it: it comes back as it was lent. Definitions alone.
 use mathlib.Core.Path.{_≡_}
 use mathlib.Core.Logic.{_≢_}
 use mathlib.Core.Bool.{Bool, true, _&&_}

@@ -1,5 +1,5 @@
-// Names in a directory: the rule on their bytes, and whether they are distinct.
-// A filter of hashed names answers for most of them at once; only where it says "maybe" are the earlier names searched.
+// Names in a directory: whether they are distinct.
+// A filter of hashed names answers for most of them at once; only where it does not are the earlier names searched.
 use block::Addr;
 use read_dir::ReadDir;
 use read_dir::Step;
@@ -10,7 +10,7 @@ ghost use lib.ListN.{length, take};
 ghost use Rattle.block.specs.Block.{blockBytes};
 ghost use Rattle.super_block.specs.Super.{Fit};
 ghost use Rattle.read_dir.specs.Walk.{walk};
-ghost use Rattle.check_names.specs.Names.{nameBytes, oneOf, distinct, namesIn, ends};
+ghost use Rattle.check_names.specs.Names.{oneOf, distinct, namesIn, ends};
 ghost use Rattle.check_names.specs.Filter.{hashOf, filterBytes, clear, filtered, noted, wiped, Covers, Only};
 
 // The odd factor of the hash.
@@ -24,27 +24,6 @@ const LOW: u32 = 131072;
 
 // The quotient by it is the highest 17: another.
 const HIGH: u32 = 32768;
-
-// Whether a name is made of allowed bytes.
-pub fn allowed(name: &[u8]) -> bool
-    ensures { λ r. ⌜ r ≡ nameBytes (now (name .entry)) ⌝ }
-{
-    let mut i: usize = 0;
-    while i < name.len() {
-        let c = name[i];
-        if c < 32 {
-            return false;
-        }
-        if 126 < c {
-            return false;
-        }
-        if c == 47 {
-            return false;
-        }
-        i += 1;
-    }
-    true
-}
 
 // The hash of a name: its bytes one after the other, each added and then spread by an odd factor.
 fn hash(name: &[u8]) -> u32

@@ -1,25 +1,24 @@
 -- The entries of a directory's block that an image shows are those that the check reads.
-use mathlib.Core.Path.{_≡_, refl, ap, _∙_}
+use mathlib.Core.Path.{_≡_, ap, _∙_}
 use mathlib.Core.Bool.{true}
 use mathlib.Core.Option.{Option, some}
 use mathlib.Core.List.{List, [], _∷_}
 use Prim.Native.Nat.{ℕ, zero, suc, _+_, _-_, _*_, _≤_}
 use native.Mathlib.Omega.{arith}
 use lib.ListN.{length}
-use borrow.Author.Tests.{le-leb, ne-eqb}
+use borrow.Author.Tests.{ne-eqb}
 use Rattle.check_volume.proofs.Holds.{reads, stops}
 use Rattle.wire.proofs.Picks.{pick-true}
 use Rattle.wire.proofs.Zeros.{zeros-pass}
 use Rattle.model.specs.Tree.{Name, Entry, then, weight, used}
 use Rattle.model.specs.Render.{View, padded, entryBytes, entriesBytes, Shows}
-use Rattle.model.specs.Volume.{All, NameByte}
+use Rattle.model.specs.Volume.{All}
 use Rattle.dir_entry.specs.declared.DirEntry.{DirEntry}
 use Rattle.dir_entry.specs.declared.Slot.{Slot}
-use Rattle.dir_entry.specs.declared.Slot.the-variants as slot
 use Rattle.dir_entry.specs.Entry.{placeAt, nameAt}
 use Rattle.dir_entry.specs.Shown.{headOf}
 use Rattle.dir_entry.proofs.Shown.{Legible, less-left, first-shown, zero-at, block-stops, slot-is, name-is}
-use Rattle.check_names.specs.Names.{nameBytes}
+use Rattle.text.specs.Text.{isName}
 use Rattle.check_volume.specs.Survey.{Raw, passes, onSlot, rawsFrom}
 
 -- ---- an entry as its bytes show it
@@ -31,17 +30,11 @@ unfoldable pub rawsOf : {X : Type 0} → View X → List (Entry X) → List Raw
 rawsOf v [] = []
 rawsOf v (e ∷ es) = rawOf v e ∷ rawsOf v es
 
--- ---- names
+-- ---- one entry
 
--- Allowed bytes pass the test.
-pub name-passes : (x : Name) → All NameByte x → nameBytes x ≡ true
-unfolding nameBytes
-name-passes [] a = refl
-name-passes (c ∷ x) a = rw (le-leb 32 c (a .0 .0), le-leb c 126 (a .0 .1), ne-eqb c 47 (a .0 .2)) (name-passes x (a .1))
-
-entry-passes : (e : DirEntry) (x : Name) → (e .addr .0 ≡ 0 → ⊥) → All NameByte x → passes e x ≡ true
+entry-passes : (e : DirEntry) (x : Name) → (e .addr .0 ≡ 0 → ⊥) → isName x ≡ true → passes e x ≡ true
 unfolding passes
-entry-passes e x r a = rw (ne-eqb (e .addr .0) 0 r) (name-passes x a)
+entry-passes e x r a = rw (ne-eqb (e .addr .0) 0 r) a
 
 -- ---- one block
 

@@ -15,7 +15,7 @@ use Rattle.dir_entry.specs.declared.Slot.{Slot}
 use Rattle.dir_entry.specs.declared.Slot.the-variants as slot
 use Rattle.dir_entry.specs.Entry.{header, placeAt, nameAt, slotAt}
 use Rattle.dir_entry.proofs.Slots.{slot-stands}
-use Rattle.check_names.specs.Names.{nameBytes}
+use Rattle.text.specs.Text.{isName}
 use Rattle.check_volume.specs.Survey.{Raw, hasSome, passes, onSlot, rawsFrom}
 use Rattle.check_volume.specs.Steps.{heldAt, restAt}
 use Rattle.check_volume.specs.declared.Held.{Held}
@@ -29,11 +29,11 @@ use Rattle.check_volume.specs.Steps.{isTotal}
 module _ (e : DirEntry) (x : List ℕ) where
   pub passes-zero : (a : ℕ) → a ≡ e .addr .0 → a ≡ 0 → false ≡ passes e x
   unfolding passes
-  passes-zero a q z = sym (ap (λ (b : Bool). not b && nameBytes x) (eq-eqb (e .addr .0) 0 (sym q ∙ z)))
+  passes-zero a q z = sym (ap (λ (b : Bool). not b && isName x) (eq-eqb (e .addr .0) 0 (sym q ∙ z)))
 
-  pub passes-name : (a : ℕ) (r : Bool) (y : List ℕ) → a ≡ e .addr .0 → (a ≡ 0 → ⊥) → y ≡ x → r ≡ nameBytes y → r ≡ passes e x
+  pub passes-name : (a : ℕ) (r : Bool) (y : List ℕ) → a ≡ e .addr .0 → (a ≡ 0 → ⊥) → y ≡ x → r ≡ isName y → r ≡ passes e x
   unfolding passes
-  passes-name a r y q z h g = g ∙ ap nameBytes h ∙ sym (ap (λ (b : Bool). not b && nameBytes x) (ne-eqb (e .addr .0) 0 (λ w. z (q ∙ w))))
+  passes-name a r y q z h g = g ∙ ap isName h ∙ sym (ap (λ (b : Bool). not b && isName x) (ne-eqb (e .addr .0) 0 (λ w. z (q ∙ w))))
 
 -- ---- after the last entry
 
@@ -93,7 +93,7 @@ module _ (B : ℕ) (I : List ℕ) (a : ℕ) where
       ap (λ (z : Option (List Raw)). pick (passes e (nameAt I (placeAt B a o) (e .len))) (then z (λ rs. some (record { head = e; name = nameAt I (placeAt B a o) (e .len) } ∷ rs))) none)
       (raws-bound f k (o + header + e .len) w five (omega arith) (omega arith)))
 
-  pub raws-step : (o : ℕ) → o ≤ B - 5 → 5 ≤ B → rawsFrom B I B a o ≡ onSlot (slotAt B I a o) (reads B o) (stops o)
+  raws-step : (o : ℕ) → o ≤ B - 5 → 5 ≤ B → rawsFrom B I B a o ≡ onSlot (slotAt B I a o) (reads B o) (stops o)
   raws-step o l five = go B refl
     where
       go : (f : ℕ) → f ≡ B → rawsFrom B I B a o ≡ onSlot (slotAt B I a o) (reads B o) (stops o)

@@ -1,13 +1,13 @@
 -- The blocks of entries that the check finds: the image shows the entries' bytes, then zeros.
 use mathlib.Core.Path.{_≡_, refl, sym, ap, _∙_, subst}
-use mathlib.Core.Bool.{true, not, _&&_}
+use mathlib.Core.Bool.{true, not}
 use mathlib.Core.Option.{Option, some}
 use mathlib.Core.List.{List, [], _∷_, _++_}
 use Prim.Native.Nat.{ℕ, zero, suc, _+_, _-_, _*_, _^_, _≤_, _<_}
 use native.Mathlib.Omega.{arith}
-use lib.Dec.{leb, eqb}
+use lib.Dec.{eqb}
 use lib.ListN.{length, getD, length-append, getD-replicate}
-use borrow.Author.Tests.{eqb-true, eqb-false, leb-true, not-true}
+use borrow.Author.Tests.{eqb-true}
 use Rattle.wire.specs.Be.{be, bytes}
 use Rattle.wire.specs.Pick.{zeroFrom}
 use Rattle.wire.proofs.Zeros.{zeros-shown}
@@ -15,7 +15,7 @@ use Rattle.wire.proofs.Picks.{and-both}
 use Rattle.block.specs.Block.{next}
 use Rattle.model.specs.Tree.{Name}
 use Rattle.model.specs.Render.{padded, Shows}
-use Rattle.model.specs.Volume.{All, NameByte, GoodName}
+use Rattle.model.specs.Volume.{All, GoodName}
 use Rattle.model.specs.Steps.{Bytes}
 use Rattle.model.proofs.Commit.{shows-both}
 use Rattle.model.proofs.Full.{length-padded, padded-none, padded-after}
@@ -27,26 +27,16 @@ use Rattle.dir_entry.specs.declared.Slot.the-variants as slot
 use Rattle.dir_entry.specs.Entry.{header, entryAt, headBytes, placeAt, nameAt, slotAt}
 use Rattle.dir_entry.proofs.Heads.{head-shown, length-head}
 use Rattle.dir_entry.proofs.Slots.{Stands, slot-stands}
-use Rattle.check_names.specs.Names.{nameBytes}
+use Rattle.text.specs.Text.{isName}
 use Rattle.check_volume.specs.Survey.{Raw, passes, RawBlock, hasSome, Claimed, onSlot, claim, rawsFrom, laterOf, blocksOf}
 use Rattle.check_volume.proofs.SoundLaws.{Each, each-none, each-some, each-then, each-pick, each-test, each-with, Claims, claims-none, claims-both, Claim, each-claim}
 use Rattle.check_volume.proofs.SoundCells.{part-shown, part-long}
 
 -- ---- one entry
 
--- a name that passes the test has allowed bytes alone
-pub name-allowed : (x : Name) → nameBytes x ≡ true → All NameByte x
-unfolding nameBytes
-name-allowed [] h = tt
-name-allowed (c ∷ x) h =
-    let p = and-both ((leb 32 c && leb c 126) && not (eqb c 47)) (nameBytes x) h in
-    let q = and-both (leb 32 c && leb c 126) (not (eqb c 47)) (p .0) in
-    let r = and-both (leb 32 c) (leb c 126) (q .0) in
-    ((leb-true 32 c (r .0), leb-true c 126 (r .1), eqb-false c 47 (not-true (eqb c 47) (q .1))), name-allowed x (p .1))
-
-passes-bytes : (e : DirEntry) (x : Name) → passes e x ≡ true → nameBytes x ≡ true
+passes-bytes : (e : DirEntry) (x : Name) → passes e x ≡ true → isName x ≡ true
 unfolding passes
-passes-bytes e x h = and-both (not (eqb (e .addr .0) 0)) (nameBytes x) h .1
+passes-bytes e x h = and-both (not (eqb (e .addr .0) 0)) (isName x) h .1
 
 -- An entry's fixed part and name that can stand in a block.
 pub record GoodRaw (r : Raw) : Type 0 where
@@ -90,7 +80,7 @@ module _ (B D n : ℕ) (I : List ℕ) (all-bytes : Bytes I) (a : ℕ) (whole : B
   abbrev rawAt : ℕ → DirEntry → Raw
   rawAt o e = record { head = e; name = nameAt I (placeAt B a o) (e .len) }
 
-  raw-good : (o : ℕ) (e : DirEntry) → Stands B I a o e → nameBytes (nameAt I (placeAt B a o) (e .len)) ≡ true → GoodRaw (rawAt o e)
+  raw-good : (o : ℕ) (e : DirEntry) → Stands B I a o e → isName (nameAt I (placeAt B a o) (e .len)) ≡ true → GoodRaw (rawAt o e)
   unfolding entryAt
   raw-good o e s h =
       let p : ℕ = placeAt B a o in
@@ -102,7 +92,7 @@ module _ (B D n : ℕ) (I : List ℕ) (all-bytes : Bytes I) (a : ℕ) (whole : B
       let t : e .time ≡ be 8 I (p + 9) = ap (λ (d : DirEntry). d .time) x in
       let y : e .len < 256 = omega (arith, all-bytes (p + 17)) in
       record {
-        good-name = record { some-bytes = omega (arith, s .some); few-bytes = omega arith; allowed = name-allowed (nameAt I p (e .len)) h };
+        good-name = record { some-bytes = omega (arith, s .some); few-bytes = omega arith; allowed = h };
         len = sym l;
         size = subst (λ (j : ℕ). j < 2 ^ 32) (sym z) (be-fits 4 I (p + 5) all-bytes);
         time = subst (λ (j : ℕ). j < 2 ^ 64) (sym t) (be-fits 8 I (p + 9) all-bytes);
@@ -125,7 +115,7 @@ module _ (B D n : ℕ) (I : List ℕ) (all-bytes : Bytes I) (a : ℕ) (whole : B
       let q : p + 18 + e .len ≤ length I = omega (arith, s .offset, s .ends) in
       length-append (headBytes e) (nameAt I p (e .len)) ∙ omega (arith, length-head e, part-long I (p + 18) (e .len) q)
 
-  raws-more : (o : ℕ) (e : DirEntry) (rs : List Raw) → Stands B I a o e → nameBytes (nameAt I (placeAt B a o) (e .len)) ≡ true
+  raws-more : (o : ℕ) (e : DirEntry) (rs : List Raw) → Stands B I a o e → isName (nameAt I (placeAt B a o) (e .len)) ≡ true
       → RawsFound B I a (o + header + e .len) rs → RawsFound B I a o (rawAt o e ∷ rs)
   unfolding rawsBytes rawsUsed
   raws-more o e rs s h f =
@@ -146,7 +136,7 @@ module _ (B D n : ℕ) (I : List ℕ) (all-bytes : Bytes I) (a : ℕ) (whole : B
       }
 
   -- Whatever `rawsFrom` finds stands there so.
-  pub raws-found : (f o : ℕ) → o ≤ B - 5 → Each (RawsFound B I a o) (rawsFrom B I f a o)
+  raws-found : (f o : ℕ) → o ≤ B - 5 → Each (RawsFound B I a o) (rawsFrom B I f a o)
   unfolding rawsFrom
   raws-found zero o l = each-none (RawsFound B I a o)
   raws-found (suc f) o l =

@@ -17,7 +17,7 @@ pub record Finds (B D n : ℕ) (I : List ℕ) (d a : ℕ) (seen : List ℕ) (c :
   pub root : blocksAt (c .found) ≡ a
   -- exactly its blocks were claimed
   pub claimed : (i : ℕ) → count i (c .seen) ≡ count i seen + count i (blocks B d (c .found))
-  -- W2, "every chain stays in D..n-1"
+  -- W2: every claimed block lies in the data area
   pub range : (i : ℕ) → 1 ≤ count i (blocks B d (c .found)) → (D ≤ i) × (i < n)
-  -- "no two chains share a block": no block was claimed twice
+  -- W2: no block was claimed twice
   pub once : (i : ℕ) → count i seen ≤ 1 → count i (c .seen) ≤ 1

@@ -1,8 +1,8 @@
--- The marks in the lent work buffer, one bit a block from D on, and what the code's answers say of the survey. Definitions alone.
+-- The marks in the work buffer, from block D on, and what the code's answers say of the survey. Definitions alone.
 use mathlib.Core.Path.{_≡_}
 use mathlib.Core.Bool.{Bool, true, false}
 use mathlib.Core.Option.{Option, none, some}
-use mathlib.Core.List.{List, []}
+use mathlib.Core.List.{List}
 use Prim.Native.Nat.{ℕ, _+_, _*_, _≤_, _<_}
 use lib.ListN.{length, getD}
 use Rattle.bits.specs.Bit.{bit}
@@ -11,7 +11,7 @@ use Rattle.check_bitmap.specs.Tally.{markBytes}
 use Rattle.model.specs.Tree.{then}
 use Rattle.check_volume.specs.Survey.{Claimed}
 
--- 01, "It marks blocks in a lent work buffer, one bit a block": bit x says how often block D + x is claimed.
+-- C3: the marks in the work buffer: bit x says how often block D + x is claimed.
 abbrev pub Marks : ℕ → ℕ → List ℕ → List ℕ → Type 0
 Marks D n W seen = (x : ℕ) → x < 8 * markBytes D n → bit W 0 x ≡ count (D + x) seen
 

@@ -5,7 +5,6 @@ use mathlib.Core.List.{List}
 use Prim.Native.Nat.{ℕ, zero, suc, _-_}
 use lib.Dec.{eqb}
 use Rattle.wire.specs.Pick.{pick, zeroFrom}
-use Rattle.block.specs.Block.{next}
 use Rattle.model.specs.Tree.{Below, then, sum}
 use Rattle.dir_entry.specs.declared.DirEntry.{DirEntry}
 use Rattle.read_dir.specs.Walk.{Walk, item, finished, damaged, walk}
@@ -25,11 +24,11 @@ unfoldable pub heldAt : ℕ → Option (List Raw) → Held
 heldAt o none = held.Damaged
 heldAt o (some rs) = pick (eqb o 0 && not (hasSome rs)) held.Nothing held.Entries
 
--- W3, "bytes after a block's last entry are zero": what a block holds, where its entries stop at byte p of the image, its offset o.
+-- W3: what a block holds, where its entries stop at byte p of the image, its offset o: zeros behind that, or damage.
 unfoldable pub restAt : List ℕ → ℕ → ℕ → ℕ → Held
 restAt I k p o = pick (zeroFrom I p (k - o)) (pick (eqb o 0) held.Nothing held.Entries) held.Damaged
 
--- W4, "each directory block but the first has an entry": whether a block that holds this may stand there.
+-- W4: whether a block that holds this may stand there: a later one is not empty.
 abbrev pub mayStand : Bool → Held → Bool
 mayStand later held.Damaged = false
 mayStand later held.Nothing = not later
@@ -42,7 +41,7 @@ through f (item e a o x w) seen = then (f e seen) (through f w)
 through f finished seen = some seen
 through f damaged seen = none
 
--- W4, "a directory entry's size is the sum"
+-- W4: the size in a directory's entry is the sum
 unfoldable pub isTotal : ℕ → Summed → Bool
 isTotal size (summed.Total t) = eqb size t
 isTotal size summed.Damaged = false

@@ -1,6 +1,5 @@
 -- The check of W2 to W4 as a function on the bytes of any image: the tree that stands at an address, or nothing. Definitions alone.
 -- B is the block size, D the data area's first address and n the volume's blocks.
-use mathlib.Core.Path.{_≡_}
 use mathlib.Core.Bool.{Bool, true, false, not, _&&_}
 use mathlib.Core.Option.{Option, none, some}
 use mathlib.Core.List.{List, [], _∷_, _++_}
@@ -19,7 +18,8 @@ use Rattle.dir_entry.specs.declared.Slot.{Slot}
 use Rattle.dir_entry.specs.declared.Slot.the-variants as slot
 use Rattle.dir_entry.specs.Entry.{header, placeAt, nameAt, slotAt}
 use Rattle.read_dir.specs.Walk.{inArea}
-use Rattle.check_names.specs.Names.{nameBytes, distinct}
+use Rattle.text.specs.Text.{isName}
+use Rattle.check_names.specs.Names.{distinct}
 
 -- ---- an entry as its bytes show it: its fixed part and its name; a directory's block of such entries
 
@@ -57,11 +57,11 @@ unfoldable pub onSlot : {X : Type 0} → Slot → (DirEntry → X) → X → X
 onSlot (slot.Entry e) f x = f e
 onSlot slot.Stop f x = x
 
--- W3, "every entry's address is in D..n-1, so 0 is damage" (that it is in there says the claim of its block), and the name's bytes
+-- W3: the address is not 0 (that it lies in the area says the claim of its block), and the name's bytes are good
 unfoldable pub passes : DirEntry → Name → Bool
-passes e x = not (eqb (e .addr .0) 0) && nameBytes x
+passes e x = not (eqb (e .addr .0) 0) && isName x
 
--- W3: the entries of block a from offset o on; "bytes after a block's last entry are zero".
+-- W3: the entries of block a from offset o on, and zeros behind the last one.
 unfoldable pub rawsFrom : ℕ → List ℕ → ℕ → ℕ → ℕ → Option (List Raw)
 rawsFrom B I zero a o = none
 rawsFrom B I (suc f) a o =
@@ -71,7 +71,7 @@ rawsFrom B I (suc f) a o =
     (pick (zeroFrom I (placeAt B a o) (B - 4 - o)) (some []) none)
 
 module _ (B D n : ℕ) (I : List ℕ) where
-  -- W2, "stays in D..n-1 ... no two chains share a block": block a is claimed, if it is in the area and not claimed yet.
+  -- W2: block a is claimed, if it is in the area and not claimed yet.
   unfoldable pub claim : ℕ → List ℕ → Option (List ℕ)
   claim a seen = pick (inArea B D n I a && eqb (count a seen) 0) (some (a ∷ seen)) none
 
@@ -79,20 +79,20 @@ module _ (B D n : ℕ) (I : List ℕ) where
   abbrev pub bodyAt : ℕ → List ℕ
   bodyAt a = take (B - 4) (drop (B * a + 4) I)
 
-  -- W4, "a file ... has max(1, ceil(size/508)) blocks": a chain of exactly k blocks from a on, which then ends.
+  -- W4: of a file: a chain of exactly k blocks from a on, which then ends.
   unfoldable pub cellsOf : ℕ → ℕ → List ℕ → Option (Claimed (List Cell))
   cellsOf zero a seen = pick (eqb a 0) (some (record { found = []; seen = seen })) none
   cellsOf (suc k) a seen =
       then (claim a seen) (λ s. withFound (λ cs. record { at = a; body = bodyAt a } ∷ cs) (cellsOf k (next B I a) s))
 
-  -- "A device's chain has any length": at least one block, and at most k.
+  -- W4: of a device: a chain of at least one block, and at most k.
   unfoldable pub chainOf : ℕ → ℕ → List ℕ → Option (Claimed (List Cell))
   chainOf zero a seen = none
   chainOf (suc k) a seen =
       then (claim a seen) (λ s. withFound (λ cs. record { at = a; body = bodyAt a } ∷ cs)
       (pick (eqb (next B I a) 0) (some (record { found = []; seen = s })) (chainOf k (next B I a) s)))
 
-  -- W4, "each directory block but the first has an entry": the blocks of a directory's chain, at most k, from a later one on; and
+  -- W4: the blocks of a directory's chain, at most k, from a later one on, where each must have an entry; and
   -- from the first on, at most n-D.
   unfoldable pub laterOf : ℕ → ℕ → List ℕ → Option (Claimed (List RawBlock))
   laterOf zero a seen = pick (eqb a 0) (some (record { found = []; seen = seen })) none
@@ -107,7 +107,7 @@ module _ (B D n : ℕ) (I : List ℕ) where
   -- ---- what the entries stand for; `below` is the check of a subdirectory, and `size` its sum
 
   module _ {X : Type 0} (below : ℕ → List ℕ → Option (Claimed X)) (size : X → ℕ) where
-    -- "a directory entry's size is the sum"
+    -- W4: the size in a directory's entry is its sum
     unfoldable pub subOf : DirEntry → List ℕ → Option (Claimed (Node X))
     subOf e seen = then (below (e .addr .0) seen) (λ c. pick (eqb (e .size) (size (c .found))) (some (record { found = sub (c .found); seen = c .seen })) none)
 
@@ -129,7 +129,7 @@ module _ (B D n : ℕ) (I : List ℕ) where
     unfoldable pub checkDir : ℕ → List ℕ → Option (Claimed (List (Block X)))
     checkDir a seen = then (blocksOf a seen) (λ c. pick (distinct (allNames (c .found))) (dirOf (c .found) (c .seen)) none)
 
-  -- "an entry that is a directory is walked in its turn, depth falling": a directory with d levels below it. At the last level no
+  -- C3, W4: subdirectories in their turn, the levels falling: a directory with d levels below it. At the last level no
   -- directory may stand.
   unfoldable pub survey : (d : ℕ) → ℕ → List ℕ → Option (Claimed (Tree d))
   survey zero a seen = checkDir {X = Below zero} (λ _ _. none) (λ x. absurd x) a seen

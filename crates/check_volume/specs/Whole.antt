@@ -1,4 +1,4 @@
--- W1 to W5 as one test on the bytes of an image whose superblock gives the numbers g. Definitions alone.
+-- C3: W1 to W5 as one test on the bytes of an image whose superblock gives the numbers g. Definitions alone.
 use mathlib.Core.Bool.{Bool, true, false, _&&_}
 use mathlib.Core.Option.{Option, none, some}
 use mathlib.Core.List.{List, []}
@@ -12,7 +12,7 @@ use Rattle.model.specs.Volume.{maxDepth}
 use Rattle.check_volume.specs.Survey.{survey}
 use Rattle.check_volume.specs.Marks.{seenOf}
 
--- W5, "a bit is set exactly for each block reached from the root, bits past the data are clear": bit x is f x, for the first k.
+-- W5: bit x is f x, for the first k bits.
 unfoldable pub bitsAre : List ℕ → ℕ → (ℕ → ℕ) → ℕ → Bool
 bitsAre I from f zero = true
 bitsAre I from f (suc k) = eqb (bit I from k) (f k) && bitsAre I from f k
@@ -22,7 +22,7 @@ unfoldable pub bitsOf : Geo → List ℕ → Option (List ℕ) → Bool
 bitsOf g I none = false
 bitsOf g I (some seen) = bitsAre I (blockSize g * mapAt g) (λ x. count (dataAt g + x) seen) (mapBits g)
 
--- W1 "rest zero"; W2 to W4 by the survey from the root on; W5, its last part "the used count is D plus the number of set bits".
+-- W1: the superblock's zeros; W2 to W4: the survey from the root on; W5: the bits of what was claimed, and the used count.
 unfoldable pub whole : Geo → List ℕ → Bool
 whole g I =
     zeroFrom I (blockSize g * g .K + 18) (blockSize g - 18)

@@ -1,7 +1,7 @@
 // The whole check of a volume: W1 to W5 decided on the bytes of an image.
-// specs/Survey.antt says what it computes; the marks of claimed blocks stand in a lent work buffer, one bit a block.
-// A directory's blocks are claimed and its names tested in one pass before its entries are walked; walking a directory calls walking an
-// entry, which calls back for a subdirectory, the depth falling.
+// specs/Survey.antt says what it computes; the marks of claimed blocks stand in the work buffer.
+// A directory's blocks are claimed and its names tested in one pass before its entries are walked. Two functions call each other:
+// one for a directory, one for an entry of it; each directory entered leaves one level less.
 use block::Addr;
 use block::LinkedBlock;
 use dir_entry::DirEntry;
@@ -21,7 +21,7 @@ ghost use lib.ListN.{length};
 ghost use Rattle.wire.specs.Be.{zeros, splice};
 ghost use Rattle.wire.specs.Pick.{pick};
 ghost use Rattle.model.specs.Volume.{fileLimit, blocksFor, maxDepth};
-ghost use Rattle.block.specs.Block.{blockBytes, next};
+ghost use Rattle.block.specs.Block.{blockBytes};
 ghost use Rattle.super_block.specs.Super.{geoOf, Fit};
 ghost use Rattle.check_bitmap.specs.Tally.{markBytes};
 ghost use Rattle.dir_entry.specs.Entry.{header, placeAt, nameAt};
@@ -112,7 +112,7 @@ fn chain(img: &[u8], work: &mut [u8], s: SuperBlock, a: Addr) -> bool
     false
 }
 
-// Whether an entry's address is not 0 and its name has allowed bytes alone.
+// Whether an entry's address is not 0 and its bytes are a name's.
 fn passes(img: &[u8], a: Addr, o: usize, e: DirEntry) -> bool
     requires { ⌜ blockBytes * a .0 + blockBytes ≤ length (now img) ⌝ }
     requires { ⌜ o + header + e .len ≤ blockBytes - 5 ⌝ }
@@ -126,7 +126,7 @@ fn passes(img: &[u8], a: Addr, o: usize, e: DirEntry) -> bool
         block: a,
         offset: o,
     };
-    check_names::allowed(read_dir::name_of(img, e, p))
+    text::name(read_dir::name_of(img, e, p))
 }
 
 // What stands after the last entry of a block, where o bytes of entries were passed: zeros alone.

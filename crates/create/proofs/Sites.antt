@@ -10,7 +10,7 @@ use borrow.Author.Tests.{lt-ltb, le-ltb, eq-eqb, ne-eqb, leb-true, ltb-false, eq
 use Rattle.wire.proofs.Picks.{pick-case}
 use Rattle.model.specs.Answers.{Reply, accepted, refused, andThen, when, given}
 use Rattle.limits.specs.Refusals.{refusalNumber}
-use Rattle.model.specs.Geometry.{Geo, countAt, dataAt}
+use Rattle.model.specs.Geometry.{Geo, countAt}
 use Rattle.model.specs.Volume.{WellFormed, maxDepth}
 use Rattle.limits.specs.declared.Refusal.{Refusal}
 use Rattle.model.proofs.Opens.{when-true, when-false, or-false}
@@ -20,7 +20,7 @@ use Rattle.super_block.specs.declared.SuperBlock.{SuperBlock}
 use Rattle.super_block.specs.Super.{geoOf, Fit}
 use Rattle.super_block.proofs.Fits.{well-volume}
 use Rattle.bitmap_block.specs.Bitmap.{clears, Room}
-use Rattle.bitmap_block.proofs.Steps.{volume-clears, volume-room}
+use Rattle.bitmap_block.proofs.Stores.{volume-clears, volume-room}
 use Rattle.dir_entry.specs.declared.DirEntry.{DirEntry}
 use Rattle.dir_entry.specs.declared.Kind.{Kind}
 use Rattle.dir_entry.specs.declared.Kind.the-variants.{Dir}
@@ -31,21 +31,17 @@ use Rattle.read_dir.specs.declared.Place.{Place}
 use Rattle.read_dir.specs.Walk.{inArea, walk}
 use Rattle.read_dir.specs.Finds.{findIn}
 use Rattle.read_dir.proofs.Unroll.{area-true}
-use Rattle.own_entry.specs.declared.Own.{Own}
-use Rattle.own_entry.specs.Own.{OwnIn}
 use Rattle.create_store.specs.declared.Spot.{Spot}
 use Rattle.create_store.specs.declared.Spot.the-variants as spot
 use Rattle.create_store.specs.Create.{usedAt, spotFrom, spotFor, needed, SpotIn, inserted, insertedAt}
 use Rattle.path.specs.Path.{lastName, dirPart}
 use Rattle.path.specs.Post.{between, PartsIs}
 use Rattle.path.specs.declared.Parts.{Parts}
-use Rattle.dir.specs.Hold.{Hold, holdDir, ownOf}
-use Rattle.dir.specs.Post.{holdOf, holdsSays, HoldsIn, ownedSays}
+use Rattle.dir.specs.Hold.{Hold, holdDir}
+use Rattle.dir.specs.Post.{holdOf, holdsSays}
 use Rattle.dir.specs.declared.Holding.{Holding}
 use Rattle.dir.specs.declared.Holds.{Holds}
 use Rattle.dir.specs.declared.Holds.the-variants as holds
-use Rattle.dir.specs.declared.Owned.{Owned}
-use Rattle.dir.specs.declared.Owned.the-variants as owned
 use Rattle.create.specs.Creating.{Site, Fresh, badName, tooDeep, existsNumber, spotNumber, noRoom, siteAt, siteIn, siteOf, freshOf, createdOn, imageAt, createdImage}
 use Rattle.create.specs.Post.{sitedSays, SitedIn}
 use Rattle.create.specs.declared.Sited.{Sited}
@@ -102,12 +98,9 @@ module _ (s : SuperBlock) (I : List ℕ) (p : Spot) (k : ℕ) (needs : k ≡ nee
 
 -- ---- the site at a spot
 
-module _ (s : SuperBlock) (I : List ℕ) (fit : Fit s I) (full : List ℕ) (h : Holding) (p q : Spot) (k : ℕ) (e : p ≡ q) (needs : k ≡ needed p) where
-  abbrev owning : Own → Reply Site
-  owning o = accepted (record { dir = h .dir .0; spot = q; own = o })
-
+module _ (s : SuperBlock) (I : List ℕ) (h : Holding) (p q : Spot) (k : ℕ) (e : p ≡ q) (needs : k ≡ needed p) where
   abbrev told : Reply Site
-  told = andThen (ownOf 512 (dataAt (geoOf s)) (s .blocks) I (holdOf full h)) owning
+  told = accepted (record { dir = h .dir .0; spot = q; own = h .own })
 
   spot-number : (y : Spot) → needed y ≡ 0 → spotNumber y ≡ 17
   spot-number (spot.In y) z = absurd (omega arith)
@@ -119,99 +112,80 @@ module _ (s : SuperBlock) (I : List ℕ) (fit : Fit s I) (full : List ℕ) (h : 
   spot-none (spot.After y) z = refl
   spot-none spot.Damaged z = absurd (z refl)
 
-  pub site-damaged : k ≡ 0 → refused 17 ≡ siteAt (geoOf s) I (holdOf full h) q
+  pub site-damaged : k ≡ 0 → refused 17 ≡ siteAt (geoOf s) I (holdOf h) q
   unfolding siteAt
   site-damaged z = sym (given-some 17 _ (omega arith) (spot-number q (omega (arith, ap needed e))))
 
   module _ (m : ℕ) (some : k ≡ 0 → ⊥) (is : m ≡ length (clears (geoOf s) I)) where
-    at-spot : siteAt (geoOf s) I (holdOf full h) q ≡ given (when 9 (noRoom (geoOf s) I (needed q))) told
+    at-spot : siteAt (geoOf s) I (holdOf h) q ≡ given (when 9 (noRoom (geoOf s) I (needed q))) told
     unfolding siteAt
     at-spot = given-none _ (spot-none q (λ z. some (omega (arith, ap needed e))))
 
-    pub site-full : m < k → refused 9 ≡ siteAt (geoOf s) I (holdOf full h) q
+    pub site-full : m < k → refused 9 ≡ siteAt (geoOf s) I (holdOf h) q
     unfolding noRoom
     site-full l = sym (at-spot ∙ given-some 9 told (omega arith) (when-true 9 (lt-ltb (length (clears (geoOf s) I)) (needed q) (omega (arith, ap needed e)))))
 
-    module _ (o : Owned) (enough : k ≤ m) (own-is : ownedSays o ≡ ownOf 512 (s .area .0) (s .blocks) I (holdOf full h)) where
-      at-own : siteAt (geoOf s) I (holdOf full h) q ≡ andThen (ownedSays o) owning
-      unfolding noRoom
-      at-own =
-          at-spot
-          ∙ given-none told (when-false 9 (le-ltb (length (clears (geoOf s) I)) (needed q) (omega (arith, ap needed e))))
-          ∙ ap (λ (D : ℕ). andThen (ownOf 512 D (s .blocks) I (holdOf full h)) owning) (sym (fit .area))
-          ∙ ap (λ (r : Reply Own). andThen r owning) (sym own-is)
-
-      pub site-owned : (w : Own) → o ≡ owned.At w → accepted (record { dir = h .dir .0; spot = p; own = w }) ≡ siteAt (geoOf s) I (holdOf full h) q
-      site-owned w g =
-          ap (λ (y : Spot). let z : Reply Site = accepted (record { dir = h .dir .0; spot = y; own = w }) in z) e ∙ sym (at-own ∙ and-then-ok w owning (ap ownedSays g))
-
-      pub site-lost : o ≡ owned.Lost → refused 18 ≡ siteAt (geoOf s) I (holdOf full h) q
-      site-lost g = sym (at-own ∙ and-then-no 18 owning (ap ownedSays g))
+    pub site-free : k ≤ m → accepted (record { dir = h .dir .0; spot = p; own = h .own }) ≡ siteAt (geoOf s) I (holdOf h) q
+    unfolding noRoom
+    site-free enough =
+        ap (λ (y : Spot). let z : Reply Site = accepted (record { dir = h .dir .0; spot = y; own = h .own }) in z) e
+        ∙ sym (at-spot ∙ given-none told (when-false 9 (le-ltb (length (clears (geoOf s) I)) (needed q) (omega (arith, ap needed e)))))
 
 -- ---- the site in a directory
 
-module _ (s : SuperBlock) (I : List ℕ) (fit : Fit s I) (full : List ℕ) (h : Holding) (k : Kind) (x : List ℕ) (b : Bool) (t : b ≡ (isDir k && leb maxDepth (h .depth))) where
-  pub in-deep : b ≡ true → refused 15 ≡ siteIn (geoOf s) I k x (holdOf full h)
+module _ (s : SuperBlock) (I : List ℕ) (fit : Fit s I) (h : Holding) (k : Kind) (x : List ℕ) (b : Bool) (t : b ≡ (isDir k && leb maxDepth (h .depth))) where
+  pub in-deep : b ≡ true → refused 15 ≡ siteIn (geoOf s) I k x (holdOf h)
   unfolding siteIn tooDeep
   in-deep y = sym (given-some 15 _ (omega arith) (when-true 15 (sym t ∙ y)))
 
   module _ (f : Found) (shallow : b ≡ false) (q : f ≡ findIn x (walk 512 (s .area .0) (s .blocks) I (h .dir .0))) where
-    looked : siteIn (geoOf s) I k x (holdOf full h) ≡ given (existsNumber f) (siteAt (geoOf s) I (holdOf full h) (spotFor 512 (s .area .0) (s .blocks) I (h .dir .0) (length x)))
+    looked : siteIn (geoOf s) I k x (holdOf h) ≡ given (existsNumber f) (siteAt (geoOf s) I (holdOf h) (spotFor 512 (s .area .0) (s .blocks) I (h .dir .0) (length x)))
     unfolding siteIn tooDeep
     looked =
         given-none _ (when-false 15 (sym t ∙ shallow))
-        ∙ ap (λ (D : ℕ). given (existsNumber (findIn x (walk 512 D (s .blocks) I (h .dir .0)))) (siteAt (geoOf s) I (holdOf full h) (spotFor 512 D (s .blocks) I (h .dir .0) (length x)))) (sym (fit .area))
-        ∙ ap (λ (y : Found). given (existsNumber y) (siteAt (geoOf s) I (holdOf full h) (spotFor 512 (s .area .0) (s .blocks) I (h .dir .0) (length x)))) (sym q)
+        ∙ ap (λ (D : ℕ). given (existsNumber (findIn x (walk 512 D (s .blocks) I (h .dir .0)))) (siteAt (geoOf s) I (holdOf h) (spotFor 512 D (s .blocks) I (h .dir .0) (length x)))) (sym (fit .area))
+        ∙ ap (λ (y : Found). given (existsNumber y) (siteAt (geoOf s) I (holdOf h) (spotFor 512 (s .area .0) (s .blocks) I (h .dir .0) (length x)))) (sym q)
 
-    pub in-exists : (e : DirEntry) (p : Place) → f ≡ found.At e p → refused 7 ≡ siteIn (geoOf s) I k x (holdOf full h)
+    pub in-exists : (e : DirEntry) (p : Place) → f ≡ found.At e p → refused 7 ≡ siteIn (geoOf s) I k x (holdOf h)
     in-exists e p g = sym (looked ∙ given-some 7 _ (omega arith) (ap existsNumber g))
 
-    pub in-damaged : f ≡ found.Damaged → refused 17 ≡ siteIn (geoOf s) I k x (holdOf full h)
+    pub in-damaged : f ≡ found.Damaged → refused 17 ≡ siteIn (geoOf s) I k x (holdOf h)
     in-damaged g = sym (looked ∙ given-some 17 _ (omega arith) (ap existsNumber g))
 
-    pub in-free : (r : Reply Site) → f ≡ found.Missing → r ≡ siteAt (geoOf s) I (holdOf full h) (spotFor 512 (s .area .0) (s .blocks) I (h .dir .0) (length x))
-        → r ≡ siteIn (geoOf s) I k x (holdOf full h)
+    pub in-free : (r : Reply Site) → f ≡ found.Missing → r ≡ siteAt (geoOf s) I (holdOf h) (spotFor 512 (s .area .0) (s .blocks) I (h .dir .0) (length x))
+        → r ≡ siteIn (geoOf s) I k x (holdOf h)
     in-free r g e = e ∙ sym (looked ∙ given-none _ (ap existsNumber g))
 
 -- ---- the stores at a site
 
-module _ (g : Geo) (I : List ℕ) (d : ℕ) (r : Sited) (S : Reply Site) (e : sitedSays d r ≡ S) where
+module _ (g : Geo) (I : List ℕ) (h : Holding) (r : Sited) (S : Reply Site) (e : sitedSays (holdOf h) r ≡ S) where
   pub create-refused : (j : Refusal) → r ≡ sited.Refused j → refused (refusalNumber j) ≡ freshOf g I S
   unfolding freshOf
-  create-refused j q = sym (and-then-no (refusalNumber j) _ (sym e ∙ ap (sitedSays d) q))
+  create-refused j q = sym (and-then-no (refusalNumber j) _ (sym e ∙ ap (sitedSays (holdOf h)) q))
 
   pub create-leaves : (k : Kind) (x : List ℕ) (time : ℕ) (j : Refusal) → r ≡ sited.Refused j → I ≡ imageAt g I k x time S
-  create-leaves k x time j q = ap (imageAt g I k x time) (sym (ap (sitedSays d) q) ∙ e)
+  create-leaves k x time j q = ap (imageAt g I k x time) (sym (ap (sitedSays (holdOf h)) q) ∙ e)
 
-  module _ (p : Spot) (o : Own) (q : r ≡ sited.At p o) where
-    pub create-block : (a : ℕ) → a ≡ insertedAt g I p → accepted (record { dir = d; block = a }) ≡ freshOf g I S
+  module _ (p : Spot) (q : r ≡ sited.At p) where
+    pub create-block : (a : ℕ) → a ≡ insertedAt g I p → accepted (record { dir = h .dir .0; block = a }) ≡ freshOf g I S
     unfolding freshOf
-    create-block a h =
-        ap (λ (b : ℕ). let z : Reply Fresh = accepted (record { dir = d; block = b }) in z) h
-        ∙ sym (and-then-ok (record { dir = d; spot = p; own = o }) (λ y. accepted (record { dir = y .dir; block = insertedAt g I (y .spot) })) (sym e ∙ ap (sitedSays d) q))
+    create-block a w =
+        ap (λ (b : ℕ). let z : Reply Fresh = accepted (record { dir = h .dir .0; block = b }) in z) w
+        ∙ sym (and-then-ok (record { dir = h .dir .0; spot = p; own = h .own }) (λ y. accepted (record { dir = y .dir; block = insertedAt g I (y .spot) })) (sym e ∙ ap (sitedSays (holdOf h)) q))
 
-    pub create-stores : (k : Kind) (x : List ℕ) (time : ℕ) (J : List ℕ) → J ≡ inserted g I d p o k x time → J ≡ imageAt g I k x time S
-    create-stores k x time J h = h ∙ ap (imageAt g I k x time) (sym (ap (sitedSays d) q) ∙ e)
+    pub create-stores : (k : Kind) (x : List ℕ) (time : ℕ) (J : List ℕ)
+        → J ≡ inserted g I (h .dir .0) p (h .own) k x time → J ≡ imageAt g I k x time S
+    create-stores k x time J w = w ∙ ap (imageAt g I k x time) (sym (ap (sitedSays (holdOf h)) q) ∙ e)
 
 -- what the stores ask
-module _ (s : SuperBlock) (I : List ℕ) (len : ℕ) (r : Sited) (h : SitedIn s I len r) (p : Spot) (o : Own) (q : r ≡ sited.At p o) where
+module _ (s : SuperBlock) (I : List ℕ) (len : ℕ) (r : Sited) (h : SitedIn s I len r) (p : Spot) (q : r ≡ sited.At p) where
   pub asked-room : Room (geoOf s) I (needed p)
   asked-room = subst (SitedIn s I len) q h .0
 
   pub asked-spot : SpotIn 512 (s .area .0) (s .blocks) len p
   asked-spot = subst (SitedIn s I len) q h .1
 
-  pub asked-own : OwnIn I o
-  asked-own = subst (SitedIn s I len) q h .2
-
 -- ---- at a path
-
-module _ (len : ℕ) (hs : Holds) (h : Holding) (i : HoldsIn len hs) (q : hs ≡ holds.At h) where
-  pub held-from : h .from ≤ h .to
-  held-from = subst (HoldsIn len) q i .0
-
-  pub held-to : h .to ≤ len
-  held-to = subst (HoldsIn len) q i .1
 
 pub short-name : (b : Bool) (x : List ℕ) → b ≡ badName x → b ≡ false → length x ≤ 255
 short-name b x t y = name-short x (sym t ∙ y) .1
@@ -235,8 +209,8 @@ module _ (s : SuperBlock) (I : List ℕ) (k : Kind) (full : List ℕ) (len time 
   unfolding createdImage
   path-bad-leaves y = ap (imageAt (geoOf s) I k (lastName path) time) (sym (bad y))
 
-  module _ (fit : Fit s I) (hs : Holds) (good : b ≡ false) (held : holdsSays full hs ≡ holdDir 512 (s .area .0) (s .blocks) I (take (ps .dir) full)) where
-    site-held : siteOf (geoOf s) I k path ≡ andThen (holdsSays full hs) (siteIn (geoOf s) I k (lastName path))
+  module _ (fit : Fit s I) (hs : Holds) (good : b ≡ false) (held : holdsSays hs ≡ holdDir 512 (s .area .0) (s .blocks) I (take (ps .dir) full)) where
+    site-held : siteOf (geoOf s) I k path ≡ andThen (holdsSays hs) (siteIn (geoOf s) I k (lastName path))
     unfolding siteOf
     site-held =
         given-none _ (when-false 8 (sym named ∙ good))
@@ -246,7 +220,7 @@ module _ (s : SuperBlock) (I : List ℕ) (k : Kind) (full : List ℕ) (len time 
 
     module _ (j : Refusal) (q : hs ≡ holds.Refused j) where
       no-site : siteOf (geoOf s) I k path ≡ refused (refusalNumber j)
-      no-site = site-held ∙ and-then-no (refusalNumber j) _ (ap (holdsSays full) q)
+      no-site = site-held ∙ and-then-no (refusalNumber j) _ (ap (holdsSays) q)
 
       pub path-refused : refused (refusalNumber j) ≡ createdOn (geoOf s) I k path
       unfolding createdOn freshOf
@@ -257,20 +231,20 @@ module _ (s : SuperBlock) (I : List ℕ) (k : Kind) (full : List ℕ) (len time 
       path-leaves = ap (imageAt (geoOf s) I k (lastName path) time) (sym no-site)
 
     module _ (h : Holding) (q : hs ≡ holds.At h) where
-      a-site : siteOf (geoOf s) I k path ≡ siteIn (geoOf s) I k (between full (ps .from) (ps .to)) (holdOf full h)
+      a-site : siteOf (geoOf s) I k path ≡ siteIn (geoOf s) I k (between full (ps .from) (ps .to)) (holdOf h)
       a-site =
           site-held
-          ∙ and-then-ok (holdOf full h) (siteIn (geoOf s) I k (lastName path)) (ap (holdsSays full) q)
-          ∙ ap (λ (x : List ℕ). siteIn (geoOf s) I k x (holdOf full h)) (sym (parts .name))
+          ∙ and-then-ok (holdOf h) (siteIn (geoOf s) I k (lastName path)) (ap (holdsSays) q)
+          ∙ ap (λ (x : List ℕ). siteIn (geoOf s) I k x (holdOf h)) (sym (parts .name))
 
-      pub path-done : (r : Reply Fresh) → r ≡ freshOf (geoOf s) I (siteIn (geoOf s) I k (between full (ps .from) (ps .to)) (holdOf full h)) → r ≡ createdOn (geoOf s) I k path
+      pub path-done : (r : Reply Fresh) → r ≡ freshOf (geoOf s) I (siteIn (geoOf s) I k (between full (ps .from) (ps .to)) (holdOf h)) → r ≡ createdOn (geoOf s) I k path
       unfolding createdOn
       path-done r e = e ∙ ap (freshOf (geoOf s) I) (sym a-site)
 
       pub path-stored : (J : List ℕ)
-          → J ≡ imageAt (geoOf s) I k (between full (ps .from) (ps .to)) time (siteIn (geoOf s) I k (between full (ps .from) (ps .to)) (holdOf full h)) → J ≡ createdImage (geoOf s) I k path time
+          → J ≡ imageAt (geoOf s) I k (between full (ps .from) (ps .to)) time (siteIn (geoOf s) I k (between full (ps .from) (ps .to)) (holdOf h)) → J ≡ createdImage (geoOf s) I k path time
       unfolding createdImage
       path-stored J e =
           e
-          ∙ ap (λ (x : List ℕ). imageAt (geoOf s) I k x time (siteIn (geoOf s) I k (between full (ps .from) (ps .to)) (holdOf full h))) (parts .name)
+          ∙ ap (λ (x : List ℕ). imageAt (geoOf s) I k x time (siteIn (geoOf s) I k (between full (ps .from) (ps .to)) (holdOf h))) (parts .name)
           ∙ ap (imageAt (geoOf s) I k (lastName path) time) (sym a-site)

@@ -2,7 +2,7 @@
 use mathlib.Core.Path.{_≡_, refl, sym, ap, _∙_, subst}
 use mathlib.Core.Bool.{Bool, true, false, _&&_}
 use mathlib.Core.Logic.{_⊎_, inl, inr, _↔_}
-use mathlib.Core.Option.{none, some}
+use mathlib.Core.Option.{some}
 use mathlib.Core.List.{List, [], _∷_}
 use Prim.Native.Nat.{ℕ, zero, suc, _+_, _^_, _≤_, _<_}
 use native.Mathlib.Omega.{arith}
@@ -18,26 +18,24 @@ use Rattle.model.specs.Geometry.{Geo, blockSize, dataAt}
 use Rattle.model.specs.Volume.{maxDepth, GoodName, Volume}
 use Rattle.model.specs.Calls.{freeBlocks, entryRoom, toCreate, entryBlock, TreeCreatesFile, TreeCreatesDir}
 use Rattle.model.proofs.Opens.{when-true, when-false, when-none, first-of-one}
-use Rattle.model.proofs.Lists.{not-some}
-use Rattle.model.proofs.Replies.{not-accepted, accepted-one, given-none, given-some, given-accepted, given-refused, then-accepted, then-refused, and-then-ok, and-then-no}
-use Rattle.bitmap_block.proofs.Steps.{volume-clears}
+use Rattle.model.proofs.Replies.{not-accepted, accepted-one, given-none, given-some, given-accepted, given-refused, then-accepted, then-refused, and-then-ok}
+use Rattle.bitmap_block.proofs.Stores.{volume-clears}
 use Rattle.dir_entry.specs.declared.Kind.{Kind}
 use Rattle.dir_entry.specs.declared.Kind.the-variants.{Dir, File}
 use Rattle.dir_entry.specs.Entry.{isDir}
 use Rattle.read_dir.specs.Walk.{walk}
 use Rattle.read_dir.specs.Finds.{findIn}
-use Rattle.own_entry.specs.declared.Own.{Own}
-use Rattle.own_entry.specs.Own.{OwnOf}
 use Rattle.create_store.specs.declared.Spot.{Spot}
 use Rattle.create_store.specs.declared.Spot.the-variants as spot
 use Rattle.create_store.specs.Create.{spotFor, needed, SpotIn, insertedAt}
 use Rattle.create_store.proofs.Inserted.{inserted-file, inserted-dir, inserted-entry, spot-inside, spot-adds}
-use Rattle.path.specs.Path.{pathBytes, lastName, dirPart, steps}
-use Rattle.path.proofs.Laws.{bytes-all, last-names}
-use Rattle.dir.specs.Hold.{Hold, holdDir, ownOf}
+use Rattle.text.specs.Text.{isText}
+use Rattle.path.specs.Path.{lastName, dirPart, steps}
+use Rattle.path.proofs.FullPaths.{last-name}
+use Rattle.dir.specs.Hold.{Hold, holdDir}
 use Rattle.thm_path.specs.Held.{HeldAt}
 use Rattle.thm_path.proofs.Finds.{lookup-or, find-is, find-missing}
-use Rattle.thm_path.proofs.Holding.{hold-is, own-is, hold-refused, hold-some}
+use Rattle.thm_path.proofs.Holding.{hold-is, hold-refused, hold-some}
 use Rattle.create.specs.Creating.{Site, Fresh, badName, tooDeep, existsNumber, spotNumber, noRoom, siteAt, siteIn, siteOf, freshOf, createdOn, imageAt, createdImage}
 use Rattle.create.specs.OnTree.{treeRefusal}
 use Rattle.create.proofs.Sites.{name-short}
@@ -139,12 +137,8 @@ module _ (g : Geo) (I : List ℕ) (t : Tree maxDepth) (v : Volume g I maxDepth t
   abbrev at : Spot
   at = spotFor (blockSize g) (dataAt g) (g .n) I (h .dir) (length n)
 
-  -- the directory's own entry
-  pub own : (o : Own) × (ownOf (blockSize g) (dataAt g) (g .n) I h ≡ accepted o) × OwnOf (blockSize g) maxDepth p t o
-  own = own-is g I maxDepth t _ p (v .laid) h q
-
   abbrev site : Site
-  site = record { dir = h .dir; spot = at; own = own .0 }
+  site = record { dir = h .dir; spot = at; own = h .own }
 
   deep-is : tooDeep k h ≡ (isDir k && eqb (dir .0) 0)
   unfolding tooDeep
@@ -170,11 +164,10 @@ module _ (g : Geo) (I : List ℕ) (t : Tree maxDepth) (v : Volume g I maxDepth t
   unfolding siteAt
   at-is =
       given-none _ (spot-known (blockSize g) (dataAt g) (g .n) (length n) at (spot-inside g I maxDepth t n at v p dir (q .found) (h .dir) (q .starts) refl))
-      ∙ ap (λ (b : Bool). given (when 9 b) (andThen (ownOf (blockSize g) (dataAt g) (g .n) I h) (λ o. accepted (record { dir = h .dir; spot = at; own = o })))) room-is
-      ∙ ap (given (when 9 (ltb (length free) (toCreate (entryRoom g) n (dir .1))))) (and-then-ok (own .0) (λ o. accepted (record { dir = h .dir; spot = at; own = o })) (own .1))
+      ∙ ap (λ (b : Bool). given (when 9 b) (accepted site)) room-is
 
-  -- The tree's refusal if there is one, and else the site: never 17 or 18.
-  pub site-is : siteIn g I k n h ≡ given (treeRefusal g free k n dir) (accepted site)
+  -- The tree's refusal if there is one, and else the site: never 17.
+  site-is : siteIn g I k n h ≡ given (treeRefusal g free k n dir) (accepted site)
   unfolding siteIn
   site-is =
       ap (λ (b : Bool). given (when 15 b) (given (existsNumber (findIn n (walk (blockSize g) (dataAt g) (g .n) I (h .dir)))) (siteAt g I h at))) deep-is
@@ -230,17 +223,7 @@ module _ (g : Geo) (I : List ℕ) (t : Tree maxDepth) (v : Volume g I maxDepth t
             ∙ ap (λ (d : Some). given (treeRefusal g unused k last d) (accepted (site g I t v way (r .0) q k last))) (one-there s (r .0) q f)),
       )
 
-  -- Where it has none: 8, then 5 or 6.
-  pub answer-none : find maxDepth way t ≡ none → (j : ℕ) × ((j ≡ 5) ⊎ (j ≡ 6)) × (siteOf g I k l ≡ given (when 8 (badName last)) (refused j))
-  unfolding siteOf
-  answer-none f = go (holdDir (blockSize g) (dataAt g) (g .n) I (dirPart l)) refl
-    where
-      go : (r : Reply Hold) → holdDir (blockSize g) (dataAt g) (g .n) I (dirPart l) ≡ r → (j : ℕ) × ((j ≡ 5) ⊎ (j ≡ 6)) × (siteOf g I k l ≡ given (when 8 (badName last)) (refused j))
-      go (accepted h) e = absurd (not-some f (held h e .found))
-      go (refused j) e =
-          (j, hold-refused g I maxDepth t _ way (v .laid) j e .1, ap (given (when 8 (badName last))) (and-then-no j (siteIn g I k last) e))
-
-  -- A refusal is 8, 5 or 6, or 15, 7 or 9,
+  -- A refusal is 8, 5 or 6, or 15, 7 or 9: damage, 17, is never met.
   pub refused-is : (j : ℕ) → siteOf g I k l ≡ refused j → (j ≡ 8) ⊎ (((j ≡ 5) ⊎ (j ≡ 6)) ⊎ InDir j)
   unfolding siteOf
   refused-is j e = name (given-refused (when 8 (badName last)) _ j e)
@@ -268,19 +251,7 @@ module _ (g : Geo) (I : List ℕ) (t : Tree maxDepth) (v : Volume g I maxDepth t
           bad (inr b) = absurd (omega (arith, a .0, when-false 8 b))
       name (inr a) = dirs (then-refused (holdDir (blockSize g) (dataAt g) (g .n) I (dirPart l)) (siteIn g I k last) j (a .1))
 
-  -- so that on a volume neither 17 nor 18 is ever given.
-  pub never-lost : (j : ℕ) → siteOf g I k l ≡ refused j → (j ≡ 17 → ⊥) × (j ≡ 18 → ⊥)
-  never-lost j e = go (refused-is j e)
-    where
-      go : (j ≡ 8) ⊎ (((j ≡ 5) ⊎ (j ≡ 6)) ⊎ InDir j) → (j ≡ 17 → ⊥) × (j ≡ 18 → ⊥)
-      go (inl a) = (λ z. omega arith, λ z. omega arith)
-      go (inr (inl (inl a))) = (λ z. omega arith, λ z. omega arith)
-      go (inr (inl (inr a))) = (λ z. omega arith, λ z. omega arith)
-      go (inr (inr (inl a))) = (λ z. omega arith, λ z. omega arith)
-      go (inr (inr (inr (inl a)))) = (λ z. omega arith, λ z. omega arith)
-      go (inr (inr (inr (inr a)))) = (λ z. omega arith, λ z. omega arith)
-
-  -- "9 fewer clear indexes in reach than blocks to add": exactly where 15 and 7 are not given and fewer blocks are free than are added.
+  -- R9: exactly where 15 and 7 are not given and fewer blocks are free than are taken.
   pub no-room : (h : Hold) (s : Some) → holdDir (blockSize g) (dataAt g) (g .n) I (dirPart l) ≡ accepted h → find maxDepth way t ≡ some s
       → (siteIn g I k last h ≡ refused 9) ↔ ((tooDeep k h ≡ false) × Absent last (s .1) × (length unused < toCreate (entryRoom g) last (s .1)))
   no-room h s e f =
@@ -301,11 +272,11 @@ module _ (g : Geo) (I : List ℕ) (t : Tree maxDepth) (v : Volume g I maxDepth t
           go (inr a) = absurd (not-accepted 9 x (sym (a .1)))
 
   -- a path's last name that passes is a name
-  good-last : pathBytes l ≡ true → badName last ≡ false → GoodName last
-  good-last b e = let q = name-short last e in record { some-bytes = q .0; few-bytes = q .1; allowed = last-names l (bytes-all l b) }
+  good-last : isText l ≡ true → badName last ≡ false → GoodName last
+  good-last b e = let q = name-short last e in record { some-bytes = q .0; few-bytes = q .1; allowed = last-name l b }
 
   -- The blocks that an accepted create answers: the directory's first, and the new entry's.
-  pub created-block : pathBytes l ≡ true → (x : Site) → siteOf g I k l ≡ accepted x → (s : Some) → find maxDepth way t ≡ some s
+  pub created-block : isText l ≡ true → (x : Site) → siteOf g I k l ≡ accepted x → (s : Some) → find maxDepth way t ≡ some s
       → createdOn g I k l ≡ accepted (record { dir = blocksAt (s .1); block = entryBlock g last (s .1) unused })
   unfolding createdOn freshOf
   created-block b x e s f =
@@ -315,11 +286,10 @@ module _ (g : Geo) (I : List ℕ) (t : Tree maxDepth) (v : Volume g I maxDepth t
       let d = q .there in
       let m = good-last b (r .named) in
       let z = tree-none g unused k last d (r .tests) in
-      let o = own g I t v way h q k last in
       let w : siteOf g I k l ≡ accepted (site g I t v way h q k last) = e ∙ ap accepted (r .here) in
       let first : h .dir ≡ blocksAt (s .1) = sym (q .starts) ∙ ap (λ (y : Some). blocksAt (y .1)) (one-there s h q f) in
       let second : insertedAt g I (at g I t v way h q k last) ≡ entryBlock g last (s .1) unused
-      = inserted-entry g I maxDepth t v way last 0 (o .0) (o .2) m (omega arith) d (q .found) (h .dir) (q .starts) (at g I t v way h q k last) refl (z .1) (z .2)
+      = inserted-entry g I maxDepth t v way last 0 (h .own) (q .own) m (omega arith) d (q .found) (h .dir) (q .starts) (at g I t v way h q k last) refl (z .1) (z .2)
       ∙ ap (λ (y : Some). entryBlock g last (y .1) unused) (one-there s h q f) in
       and-then-ok (site g I t v way h q k last) (λ (y : Site). let u : Reply Fresh = accepted (record { dir = y .dir; block = insertedAt g I (y .spot) }) in u) w
       ∙ ap (λ (a : ℕ). let u : Reply Fresh = accepted (record { dir = a; block = insertedAt g I (at g I t v way h q k last) }) in u) first
@@ -327,7 +297,7 @@ module _ (g : Geo) (I : List ℕ) (t : Tree maxDepth) (v : Volume g I maxDepth t
 
 -- ==== the accepted calls
 
-module _ (g : Geo) (I : List ℕ) (t : Tree maxDepth) (v : Volume g I maxDepth t) (l : List ℕ) (now : ℕ) (plain : pathBytes l ≡ true) (clock : now < 2 ^ 64) (x : Site) where
+module _ (g : Geo) (I : List ℕ) (t : Tree maxDepth) (v : Volume g I maxDepth t) (l : List ℕ) (now : ℕ) (plain : isText l ≡ true) (clock : now < 2 ^ 64) (x : Site) where
   abbrev names : List Name
   names = steps (dirPart l)
 
@@ -339,9 +309,8 @@ module _ (g : Geo) (I : List ℕ) (t : Tree maxDepth) (v : Volume g I maxDepth t
       let h = r .hold in
       let q = r .at in
       let z = tree-none g (freeBlocks g maxDepth t) File (lastName l) (q .there) (r .tests) in
-      let o = own g I t v names h q File (lastName l) in
       subst (λ (y : Reply Site). TreeCreatesFile g maxDepth names (lastName l) now t I (imageAt g I File (lastName l) now y)) (sym (e ∙ ap accepted (r .here)))
-      (inserted-file g I maxDepth t v names (lastName l) now (o .0) (o .2) (good-last g I t v File l plain (r .named)) clock (q .there) (q .found) (h .dir) (q .starts)
+      (inserted-file g I maxDepth t v names (lastName l) now (h .own) (q .own) (good-last g I t v File l plain (r .named)) clock (q .there) (q .found) (h .dir) (q .starts)
       (at g I t v names h q File (lastName l)) refl (z .1) (z .2))
 
   -- An accepted create of a directory is the model's.
@@ -352,8 +321,7 @@ module _ (g : Geo) (I : List ℕ) (t : Tree maxDepth) (v : Volume g I maxDepth t
       let h = r .hold in
       let q = r .at in
       let z = tree-none g (freeBlocks g maxDepth t) Dir (lastName l) (q .there) (r .tests) in
-      let o = own g I t v names h q Dir (lastName l) in
       let some-level : q .there .0 ≡ 0 → ⊥ = eqb-false (q .there .0) 0 (z .0) in
       subst (λ (y : Reply Site). TreeCreatesDir g maxDepth names (lastName l) now t I (imageAt g I Dir (lastName l) now y)) (sym (e ∙ ap accepted (r .here)))
-      (inserted-dir g I maxDepth t v names (lastName l) now (o .0) (o .2) (good-last g I t v Dir l plain (r .named)) clock (q .there) (q .found) (h .dir) (q .starts)
+      (inserted-dir g I maxDepth t v names (lastName l) now (h .own) (q .own) (good-last g I t v Dir l plain (r .named)) clock (q .there) (q .found) (h .dir) (q .starts)
       (at g I t v names h q Dir (lastName l)) refl (z .1) (z .2) (omega arith))

@@ -1,5 +1,5 @@
--- Creating by a full path, on an opened volume: the refusals in 01's order, and the image. Definitions alone.
--- "create 4, 8, 5/6, 15, 7, 9, 18" (4 comes before, with the path)
+-- Creating by a full path, on an opened volume: the refusals in the order O9, and the image. Definitions alone.
+-- O9: 8, 5/6, 15, 7, 9 (4 comes before, with the path)
 use mathlib.Core.Bool.{Bool, _&&_, _||_}
 use mathlib.Core.List.{List}
 use Prim.Native.Nat.{ℕ}
@@ -20,7 +20,7 @@ use Rattle.create_store.specs.declared.Spot.{Spot}
 use Rattle.create_store.specs.declared.Spot.the-variants as spot
 use Rattle.create_store.specs.Create.{spotFor, needed, inserted, insertedAt}
 use Rattle.path.specs.Path.{lastName, dirPart}
-use Rattle.dir.specs.Hold.{Hold, holdDir, ownOf}
+use Rattle.dir.specs.Hold.{Hold, holdDir}
 
 -- Where an entry is created: its directory's first address, its place there, and that directory's own entry.
 pub record Site : Type 0 where
@@ -33,15 +33,15 @@ pub record Fresh : Type 0 where
   pub dir : ℕ
   pub block : ℕ
 
--- "8 create: last name empty or over 255"
+-- R8
 unfoldable pub badName : List ℕ → Bool
 badName x = eqb (length x) 0 || ltb 255 (length x)
 
--- "15 new directory would be at depth 17": one in a directory at depth 16
+-- R15: a directory in one that is at depth 16
 unfoldable pub tooDeep : Kind → Hold → Bool
 tooDeep k h = isDir k && leb maxDepth (h .depth)
 
--- "7 name exists"; damage on the walk is 17
+-- R7; damage on the walk is 17
 abbrev pub existsNumber : Found → ℕ
 existsNumber (found.At e p) = 7
 existsNumber found.Missing = 0
@@ -53,17 +53,13 @@ spotNumber (spot.After a) = 0
 spotNumber spot.Damaged = 17
 
 module _ (g : Geo) (I : List ℕ) where
-  -- "9 fewer clear indexes in reach than blocks to add"
+  -- R9: k is the number of blocks that the create takes
   unfoldable pub noRoom : ℕ → Bool
   noRoom k = ltb (length (clears g I)) k
 
-  -- In the directory h, for a name that goes to the spot p: 9, 18, or the site; damage on the way to the spot is 17.
+  -- In the directory h, for a name that goes to the spot p: 9, or the site; damage on the way to the spot is 17.
   unfoldable pub siteAt : Hold → Spot → Reply Site
-  siteAt h p =
-      given (spotNumber p)
-      (given (when 9 (noRoom (needed p)))
-      (andThen (ownOf (blockSize g) (dataAt g) (g .n) I h)
-      (λ o. accepted (record { dir = h .dir; spot = p; own = o }))))
+  siteAt h p = given (spotNumber p) (given (when 9 (noRoom (needed p))) (accepted (record { dir = h .dir; spot = p; own = h .own })))
 
   -- In the directory h, for the name x: 15, 7, then these.
   unfoldable pub siteIn : Kind → List ℕ → Hold → Reply Site
@@ -83,7 +79,7 @@ module _ (g : Geo) (I : List ℕ) where
   unfoldable pub createdOn : Kind → List ℕ → Reply Fresh
   createdOn k l = freshOf (siteOf k l)
 
-  -- The image afterwards: the entry is stored, or all is as it was.
+  -- C9: the image afterwards: the entry is stored, or all is as it was.
   abbrev pub imageAt : Kind → List ℕ → ℕ → Reply Site → List ℕ
   imageAt k x time (accepted s) = inserted g I (s .dir) (s .spot) (s .own) k x time
   imageAt k x time (refused r) = I

@@ -11,7 +11,7 @@ use Rattle.model.specs.Calls.{entryRoom, toCreate}
 use Rattle.dir_entry.specs.declared.Kind.{Kind}
 use Rattle.dir_entry.specs.Entry.{isDir}
 
--- "15, 7, 9": in the directory s of the tree, for the name n, where `free` are the free blocks in reach; 0 where there is none of them.
+-- R15, R7, R9 in the order O9: in the directory s of the tree, for the name n, with `free` the free blocks in reach; else 0.
 -- A directory with no level left is at depth 16.
 unfoldable pub treeRefusal : Geo → List ℕ → Kind → Name → Some → ℕ
 treeRefusal g free k n s =

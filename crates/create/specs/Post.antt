@@ -7,22 +7,22 @@ use Rattle.block.specs.Block.{blockBytes}
 use Rattle.super_block.specs.declared.SuperBlock.{SuperBlock}
 use Rattle.super_block.specs.Super.{geoOf}
 use Rattle.bitmap_block.specs.Bitmap.{Room}
-use Rattle.own_entry.specs.Own.{OwnIn}
 use Rattle.create_store.specs.Create.{needed, SpotIn}
+use Rattle.dir.specs.Hold.{Hold}
 use Rattle.create.specs.Creating.{Site, Fresh}
 use Rattle.create.specs.declared.Sited.{Sited}
 use Rattle.create.specs.declared.Sited.the-variants as sited
 use Rattle.create.specs.declared.Created.{Created}
 use Rattle.create.specs.declared.Created.the-variants as created
 
--- a site in the directory whose first address is d
-abbrev pub sitedSays : ℕ → Sited → Reply Site
-sitedSays d (sited.At p o) = accepted (record { dir = d; spot = p; own = o })
-sitedSays d (sited.Refused r) = refused (refusalNumber r)
+-- a site in the directory h
+abbrev pub sitedSays : Hold → Sited → Reply Site
+sitedSays h (sited.At p) = accepted (record { dir = h .dir; spot = p; own = h .own })
+sitedSays h (sited.Refused r) = refused (refusalNumber r)
 
--- There is room for the blocks, the spot lies in the data area and holds a name of len bytes, and the own entry lies in the image.
+-- There is room for the blocks, and the spot lies in the data area and holds a name of len bytes.
 abbrev pub SitedIn : SuperBlock → List ℕ → ℕ → Sited → Type 0
-SitedIn s I len (sited.At p o) = Room (geoOf s) I (needed p) × SpotIn blockBytes (s .area .0) (s .blocks) len p × OwnIn I o
+SitedIn s I len (sited.At p) = Room (geoOf s) I (needed p) × SpotIn blockBytes (s .area .0) (s .blocks) len p
 SitedIn s I len (sited.Refused r) = Unit {0}
 
 abbrev pub createdSays : Created → Reply Fresh

@@ -1,13 +1,11 @@
-// Creating a file or a directory by its full path, on a volume that is opened and checked: refusals 8, 5, 6, 15, 7, 9, 18 in this order, then
-// the stores of `create_store`.
+// Creating a file or a directory by its full path, on a volume that is opened and checked: refusals 8, 5, 6, 15, 7, 9 in this order, then the
+// stores of `create_store`.
 use block::Addr;
 use create_store::Spot;
 use dir::Holding;
 use dir::Holds;
-use dir::Owned;
 use dir_entry::Kind;
 use limits::Refusal;
-use own_entry::Own;
 use read_dir::Found;
 use super_block::SuperBlock;
 ghost use mathlib.Core.Path.{_≡_};
@@ -20,6 +18,7 @@ ghost use Rattle.model.specs.Geometry.{countAt};
 ghost use Rattle.model.specs.Volume.{WellFormed, maxDepth};
 ghost use Rattle.super_block.specs.Super.{geoOf, Fit};
 ghost use Rattle.dir_entry.specs.Entry.{isDir};
+ghost use Rattle.own_entry.specs.Own.{OwnIn};
 ghost use Rattle.create_store.specs.Create.{spotFor};
 ghost use Rattle.path.specs.Path.{pathLimit};
 ghost use Rattle.dir.specs.Post.{holdOf};
@@ -32,9 +31,9 @@ const NAME_LIMIT: usize = 255;
 // The root is at depth 0.
 const MAX_DEPTH: u32 = 16;
 
-// Where a new entry goes, and where its directory's own entry stands.
+// Where a new entry goes in its directory.
 enum Sited {
-    At(Spot, Own),
+    At(Spot),
     Refused(Refusal),
 }
 
@@ -63,15 +62,13 @@ fn too_deep(kind: Kind, depth: u32) -> bool
     }
 }
 
-// The spot of a name of len bytes in the directory h, and h's own entry: all that the stores need is known before the first of them.
-fn site_at(img: &[u8], s: SuperBlock, full: &[u8], h: Holding, len: usize) -> Sited
+// The spot of a name of len bytes in the directory h: all that the stores need is known before the first of them.
+fn site_at(img: &[u8], s: SuperBlock, h: Holding, len: usize) -> Sited
     requires { ⌜ Fit s (now img) ⌝ }
     requires { ⌜ WellFormed (s .addr .0) (now img) ⌝ }
     requires { ⌜ s .blocks ≡ countAt (s .addr .0) (now img) ⌝ }
     requires { ⌜ len ≤ 255 ⌝ }
-    requires { ⌜ h .from ≤ h .to ⌝ }
-    requires { ⌜ h .to ≤ length (now full) ⌝ }
-    ensures { λ r. ⌜ sitedSays (h .dir .0) r ≡ siteAt (geoOf s) (now (img .entry)) (holdOf (now (full .entry)) h) (spotFor blockBytes (s .area .0) (s .blocks) (now (img .entry)) (h .dir .0) len) ⌝ }
+    ensures { λ r. ⌜ sitedSays (holdOf h) r ≡ siteAt (geoOf s) (now (img .entry)) (holdOf h) (spotFor blockBytes (s .area .0) (s .blocks) (now (img .entry)) (h .dir .0) len) ⌝ }
     ensures { λ r. ⌜ SitedIn s (now (img .entry)) len r ⌝ }
 {
     let dir = h.dir;
@@ -83,22 +80,16 @@ fn site_at(img: &[u8], s: SuperBlock, full: &[u8], h: Holding, len: usize) -> Si
     if bitmap_block::count_free(img, s) < needed {
         return Sited::Refused(Refusal::NoRoom);
     }
-    let owned = dir::own(img, s, full, h);
-    match owned {
-        Owned::At(own) => Sited::At(spot, own),
-        Owned::Lost => Sited::Refused(Refusal::LostDir),
-    }
+    Sited::At(spot)
 }
 
 // The site of a new name in the directory h.
-fn site_in(img: &[u8], s: SuperBlock, full: &[u8], h: Holding, kind: Kind, name: &[u8]) -> Sited
+fn site_in(img: &[u8], s: SuperBlock, h: Holding, kind: Kind, name: &[u8]) -> Sited
     requires { ⌜ Fit s (now img) ⌝ }
     requires { ⌜ WellFormed (s .addr .0) (now img) ⌝ }
     requires { ⌜ s .blocks ≡ countAt (s .addr .0) (now img) ⌝ }
     requires { ⌜ length (now name) ≤ 255 ⌝ }
-    requires { ⌜ h .from ≤ h .to ⌝ }
-    requires { ⌜ h .to ≤ length (now full) ⌝ }
-    ensures { λ r. ⌜ sitedSays (h .dir .0) r ≡ siteIn (geoOf s) (now (img .entry)) kind (now (name .entry)) (holdOf (now (full .entry)) h) ⌝ }
+    ensures { λ r. ⌜ sitedSays (holdOf h) r ≡ siteIn (geoOf s) (now (img .entry)) kind (now (name .entry)) (holdOf h) ⌝ }
     ensures { λ r. ⌜ SitedIn s (now (img .entry)) (length (now (name .entry))) r ⌝ }
 {
     if too_deep(kind, h.depth) {
@@ -109,7 +100,7 @@ fn site_in(img: &[u8], s: SuperBlock, full: &[u8], h: Holding, kind: Kind, name:
     match found {
         Found::At(_, _) => Sited::Refused(Refusal::Exists),
         Found::Damaged => Sited::Refused(Refusal::Damaged),
-        Found::Missing => site_at(img, s, full, h, name.len()),
+        Found::Missing => site_at(img, s, h, name.len()),
     }
 }
 
@@ -117,7 +108,6 @@ fn site_in(img: &[u8], s: SuperBlock, full: &[u8], h: Holding, kind: Kind, name:
 fn create_in(
     img: &mut [u8],
     s: SuperBlock,
-    full: &[u8],
     h: Holding,
     kind: Kind,
     name: &[u8],
@@ -127,23 +117,23 @@ fn create_in(
     requires { ⌜ WellFormed (s .addr .0) (now img) ⌝ }
     requires { ⌜ s .blocks ≡ countAt (s .addr .0) (now img) ⌝ }
     requires { ⌜ length (now name) ≤ 255 ⌝ }
-    requires { ⌜ h .from ≤ h .to ⌝ }
-    requires { ⌜ h .to ≤ length (now full) ⌝ }
-    ensures { λ r. ⌜ createdSays r ≡ freshOf (geoOf s) (now (img .entry)) (siteIn (geoOf s) (now (img .entry)) kind (now (name .entry)) (holdOf (now (full .entry)) h)) ⌝ }
-    ensures { λ _. ⌜ now (img .exit) ≡ imageAt (geoOf s) (now (img .entry)) kind (now (name .entry)) time (siteIn (geoOf s) (now (img .entry)) kind (now (name .entry)) (holdOf (now (full .entry)) h)) ⌝ }
+    requires { ⌜ OwnIn (now img) (h .own) ⌝ }
+    ensures { λ r. ⌜ createdSays r ≡ freshOf (geoOf s) (now (img .entry)) (siteIn (geoOf s) (now (img .entry)) kind (now (name .entry)) (holdOf h)) ⌝ }
+    ensures { λ _. ⌜ now (img .exit) ≡ imageAt (geoOf s) (now (img .entry)) kind (now (name .entry)) time (siteIn (geoOf s) (now (img .entry)) kind (now (name .entry)) (holdOf h)) ⌝ }
 {
-    let sited = site_in(img, s, full, h, kind, name);
+    let sited = site_in(img, s, h, kind, name);
     match sited {
         Sited::Refused(r) => Created::Refused(r),
-        Sited::At(spot, own) => {
+        Sited::At(spot) => {
             let dir = h.dir;
+            let own = h.own;
             let a = create_store::insert(img, s, dir, spot, own, kind, name, time);
             Created::At(dir, a)
         }
     }
 }
 
-// Creates a file or a directory at the full path full[..len]. Refusals: 8, 5, 6, 15, 7, 9; on a checked volume never 17 or 18.
+// Creates a file or a directory at the full path full[..len]. Refusals: 8, 5, 6, 15, 7, 9; on a checked volume never 17.
 pub fn create(
     img: &mut [u8],
     s: SuperBlock,
@@ -169,6 +159,6 @@ pub fn create(
     let held = dir::hold(img, s, full, parts.dir);
     match held {
         Holds::Refused(r) => Created::Refused(r),
-        Holds::At(h) => create_in(img, s, full, h, kind, &full[from..to], time),
+        Holds::At(h) => create_in(img, s, h, kind, &full[from..to], time),
     }
 }

@@ -16,7 +16,6 @@ use Rattle.dir_entry.specs.declared.Slot.{Slot}
 use Rattle.dir_entry.specs.declared.Slot.the-variants.{Entry, Stop}
 use Rattle.dir_entry.specs.Entry.{header, headBytes, placeAt, slotAt}
 use Rattle.read_dir.specs.declared.Place.{Place}
-use Rattle.read_dir.specs.declared.Summed.the-variants as summed
 use Rattle.read_dir.specs.Walk.{inArea}
 use Rattle.read_dir.specs.Finds.{placed}
 use Rattle.own_entry.specs.declared.Own.{Own}
@@ -40,8 +39,8 @@ stopFrom B I (suc f) a o = stopOr (slotAt B I a o) (λ e. stopFrom B I f a (o + 
 abbrev pub usedAt : ℕ → List ℕ → ℕ → ℕ
 usedAt B I a = stopFrom B I B a 0
 
--- 01, "into the first block, in chain order, where used + 18 + length <= 507; else a new block is linked at the end", and "a walk that leaves
--- D..n-1 or passes n-D blocks in one chain gives 17": for a name of len bytes, from block a on, where k blocks may be read.
+-- C9, R17: the first block where the entry ends at 507 or before, else behind the last; a walk out of the area, or over more than
+-- n-D blocks, is damage. For a name of len bytes, from block a on, where k blocks may be read.
 unfoldable pub spotFrom : ℕ → ℕ → ℕ → List ℕ → ℕ → ℕ → ℕ → Spot
 spotFrom B D n I len zero a = Damaged
 spotFrom B D n I len (suc k) a =
@@ -73,16 +72,16 @@ SpotIn B D n len Damaged = ⊥
 
 -- ---- the stores
 
--- 01, "Then one block for the entry, size 0, time from the caller": the fixed part of the entry.
+-- C9: the fixed part of the new entry.
 abbrev pub newHead : Kind → ℕ → ℕ → ℕ → DirEntry
 newHead k a time len = record { kind = k; addr = record { 0 = a }; size = 0; time = time; len = len }
 
 module _ (g : Geo) where
-  -- 01, "A new block is the lowest clear index within reach": the image with it taken.
+  -- F6: the image with the next free block taken.
   unfoldable pub grown : List ℕ → List ℕ
   grown I = taken g I (fresh g I - dataAt g)
 
-  -- "else a new block is linked at the end": the image where the entry has a place, and that place.
+  -- C9: the image where the entry has a place, and that place.
   abbrev pub opened : List ℕ → Spot → List ℕ
   opened I (In p) = I
   opened I (After a) = linked (blockSize g) (grown I) (a .0) (fresh g I)
@@ -93,12 +92,12 @@ module _ (g : Geo) where
   placeIn I (After a) = placed (fresh g I) 0
   placeIn I Damaged = placed 0 0
 
-  -- "Then one block for the entry": the image with the block taken, and the entry at its place.
+  -- C9: the image with the entry's block taken, and the entry at its place.
   unfoldable pub entered : List ℕ → Place → Kind → Name → ℕ → List ℕ
   entered I p k name time =
       splice (grown I) (placeAt (blockSize g) (p .block .0) (p .offset)) (headBytes (newHead k (fresh g I) time (length name)) ++ name)
 
-  -- The image after a create in the directory whose first block is dir, whose own entry "gets the new sum and the time", and the block of the entry.
+  -- C9, C13: the image after a create in the directory whose first block is dir, its own entry renewed; and the entry's block.
   unfoldable pub inserted : List ℕ → ℕ → Spot → Own → Kind → Name → ℕ → List ℕ
   inserted I dir spot own k name time = sumRenewed g (entered (opened I spot) (placeIn I spot) k name time) dir own time
 

@@ -21,8 +21,8 @@ use Rattle.read_dir.proofs.Items.{found-item}
 use Rattle.read_dir.proofs.Unroll.{area-true, chain-out}
 use Rattle.path.specs.Path.{lastName, dirPart}
 use Rattle.dir.specs.Resolve.{onName}
-use Rattle.dir.specs.Hold.{Hold, holdDir, ownOf}
-use Rattle.delete.specs.Deleting.{Doomed, hasEntries, onPlaced, doomedAt, doomedIn, doomedOf, deletedOn, imageAt, deletedImage}
+use Rattle.dir.specs.Hold.{Hold, onPlaced, holdDir}
+use Rattle.delete.specs.Deleting.{Doomed, hasEntries, doomedAt, doomedIn, doomedOf, deletedOn}
 
 -- ---- replies
 
@@ -45,27 +45,26 @@ placed-past found.Damaged k a q = absurd (not-accepted 17 a q)
 -- ---- the entry that is accepted
 
 module _ (g : Geo) (I l : List ℕ) where
-  -- The directory of the path holds the entry, which has no entries, and the directory's own entry is found.
+  -- The directory of the path holds the entry, which has no entries, and the own entry is that directory's.
   pub record DoomedBy (d : Doomed) : Type 0 where
     pub hold : Hold
     pub held : holdDir (blockSize g) (dataAt g) (g .n) I (dirPart l) ≡ accepted hold
     pub dir : d .dir ≡ hold .dir
     pub entry : findIn (lastName l) (walk (blockSize g) (dataAt g) (g .n) I (hold .dir)) ≡ found.At (d .entry) (d .place)
     pub bare : hasEntries (d .entry) ≡ false
-    pub own : ownOf (blockSize g) (dataAt g) (g .n) I hold ≡ accepted (d .own)
+    pub own : d .own ≡ hold .own
 
   pub doomed-by : (d : Doomed) → doomedOf g I l ≡ accepted d → DoomedBy d
   unfolding doomedOf doomedIn doomedAt
   doomed-by d k =
       let a = then-accepted (holdDir (blockSize g) (dataAt g) (g .n) I (dirPart l)) (doomedIn g I (lastName l)) d (name-past (lastName l) _ d k) in
       let h : Hold = a .0 in
-      let b = placed-past (findIn (lastName l) (walk (blockSize g) (dataAt g) (g .n) I (h .dir))) (doomedAt g I h) d (a .2) in
+      let b = placed-past (findIn (lastName l) (walk (blockSize g) (dataAt g) (g .n) I (h .dir))) (doomedAt h) d (a .2) in
       let e : DirEntry = b .0 in
       let p : Place = b .1 in
       let c = given-past (hasEntries e) _ d (b .3) in
-      let o = then-accepted (ownOf (blockSize g) (dataAt g) (g .n) I h) (λ o. accepted (record { dir = h .dir; entry = e; place = p; own = o })) d (c .1) in
-      let made : Doomed = record { dir = h .dir; entry = e; place = p; own = o .0 } in
-      let q : accepted made ≡ accepted d = o .2 in
+      let made : Doomed = record { dir = h .dir; entry = e; place = p; own = h .own } in
+      let q : accepted made ≡ accepted d = c .1 in
       let z : made ≡ d = cc in
       record {
         hold = h;
@@ -73,26 +72,16 @@ module _ (g : Geo) (I l : List ℕ) where
         dir = sym (ap (λ (y : Doomed). y .dir) z);
         entry = b .2 ∙ λ i. found.At (z i .entry) (z i .place);
         bare = ap (λ (y : Doomed). hasEntries (y .entry)) (sym z) ∙ c .0;
-        own = o .1 ∙ ap (λ (y : Doomed). accepted (y .own)) z;
+        own = sym (ap (λ (y : Doomed). y .own) z);
       }
 
 -- ---- the call's answer
 
 module _ (g : Geo) (I l : List ℕ) where
-  -- plain success is an entry that is accepted,
-  pub done-doomed : deletedOn g I l ≡ accepted tt → (x : Doomed) × (doomedOf g I l ≡ accepted x)
-  unfolding deletedOn
-  done-doomed k = let r = then-accepted (doomedOf g I l) (λ d. accepted tt) tt k in (r .0, r .1)
-
   -- a refusal is that of the entry,
-  pub refused-doomed : (k : ℕ) → deletedOn g I l ≡ refused k → doomedOf g I l ≡ refused k
+  refused-doomed : (k : ℕ) → deletedOn g I l ≡ refused k → doomedOf g I l ≡ refused k
   unfolding deletedOn
   refused-doomed k e = first-refused (doomedOf g I l) (λ d. tt) k e
-
-  -- and it leaves the image.
-  pub refused-keeps : (k time : ℕ) → deletedOn g I l ≡ refused k → deletedImage g I l time ≡ I
-  unfolding deletedImage
-  refused-keeps k time e = ap (imageAt g I time) (refused-doomed k e)
 
 -- ---- what the stores ask of it
 

@@ -18,7 +18,7 @@ use Rattle.model.specs.Volume.{GoodBelow, Volume}
 use Rattle.model.specs.Calls.{Occupied, TreeDeletes}
 use Rattle.model.proofs.Full.{good-lookup, good-find}
 use Rattle.model.proofs.Lists.{not-some}
-use Rattle.model.proofs.Replies.{not-accepted, accepted-one, given-yes, given-no, and-then-ok, and-then-no}
+use Rattle.model.proofs.Replies.{not-accepted, given-yes, given-no, and-then-ok, and-then-no}
 use Rattle.model.proofs.Levels.{used-none, bare-sum}
 use Rattle.dir_entry.specs.declared.DirEntry.{DirEntry}
 use Rattle.dir_entry.specs.Entry.{isDir}
@@ -31,15 +31,15 @@ use Rattle.own_entry.specs.Own.{OwnOf}
 use Rattle.delete_store.proofs.Removes.{removed-is}
 use Rattle.path.specs.Path.{lastName, dirPart, steps}
 use Rattle.dir.specs.Resolve.{onName}
-use Rattle.dir.specs.Hold.{Hold, holdDir}
-use Rattle.dir.proofs.Laws.{name-some}
+use Rattle.dir.specs.Hold.{Hold, onPlaced, holdDir}
+use Rattle.dir.proofs.Answers.{name-some}
 use Rattle.thm_walk.specs.Shown.{spotOf}
 use Rattle.thm_path.specs.Held.{HeldAt}
 use Rattle.thm_path.proofs.Finds.{lookup-or, find-is, find-missing, found-is}
 use Rattle.thm_path.proofs.Resolves.{lookup-name, absent-none}
-use Rattle.thm_path.proofs.Holding.{hold-is, own-is, hold-refused, hold-some}
-use Rattle.delete.specs.Deleting.{Doomed, hasEntries, onPlaced, doomedAt, doomedIn, doomedOf, deletedOn, imageAt, deletedImage}
-use Rattle.delete.proofs.Accepted.{DoomedBy, doomed-by, done-doomed}
+use Rattle.thm_path.proofs.Holding.{hold-is, hold-refused, hold-some}
+use Rattle.delete.specs.Deleting.{Doomed, hasEntries, doomedAt, doomedIn, doomedOf, imageAt, deletedImage}
+use Rattle.delete.proofs.Accepted.{DoomedBy, doomed-by}
 
 -- ---- a directory has no entries where its size is 0
 
@@ -70,13 +70,13 @@ node-bare B d (device s cs) h = refl
 node-bare B zero (sub x) h = absurd x
 node-bare B (suc d) (sub x) h = ap not (eq-eqb (sum x) 0 (bare-sum x h))
 
--- The size in an entry of the tree tells exactly whether the entry is bare: "14 directory to delete has entries".
+-- R14: the size in an entry of the tree tells exactly whether the entry is bare.
 module _ (B d : ℕ) (e : Entry (Below d)) where
-  pub bare-is : hasEntries (headOf (view B d) e) ≡ false → Bare d (e .node)
+  bare-is : hasEntries (headOf (view B d) e) ≡ false → Bare d (e .node)
   unfolding hasEntries headOf
   bare-is h = bare-node B d (e .node) h
 
-  pub is-bare : Bare d (e .node) → hasEntries (headOf (view B d) e) ≡ false
+  is-bare : Bare d (e .node) → hasEntries (headOf (view B d) e) ≡ false
   unfolding hasEntries headOf
   is-bare h = node-bare B d (e .node) h
 
@@ -98,18 +98,12 @@ module _ (g : Geo) (I : List ℕ) (d : ℕ) (t : Tree d) (l : List ℕ) (v : Vol
       let h : Hold = b .hold in
       let q : HeldAt (blockSize g) d way t h = hold-is g I d t _ way (v .laid) h (b .held) in
       let s : Some = q .there in
-      let o = own-is g I d t _ way (v .laid) h q in
-      let r : o .0 ≡ x .own = accepted-one (o .0) (x .own) (sym (o .1) ∙ b .own) in
       let e = found-is g I d t _ way s (v .laid) (q .found) (lastName l) (x .entry) (x .place)
       (ap (λ (a : ℕ). findIn (lastName l) (walk (blockSize g) (dataAt g) (g .n) I a)) (q .starts) ∙ b .entry) in
       subst (TreeDeletes g d way (lastName l) now t I) (sym (ap (imageAt g I now) k))
       (removed-is g I d t way (lastName l) s (e .0) (x .entry) (x .place) (x .dir) now (x .own) v (q .found) (q .starts ∙ sym (b .dir))
-      (subst (OwnOf (blockSize g) d way t) r (o .2)) (e .1)
+      (subst (OwnOf (blockSize g) d way t) (sym (b .own)) (q .own)) (e .1)
       (bare-is (blockSize g) (s .0) (e .0) (ap hasEntries (sym (e .2)) ∙ b .bare)) (e .2) (e .3) small)
-
-  -- The same of the call's own answer.
-  pub done-is : (now : ℕ) → now < 2 ^ 64 → deletedOn g I l ≡ accepted tt → TreeDeletes g d way (lastName l) now t I (deletedImage g I l now)
-  done-is now small k = let r = done-doomed g I l k in deleted-is now (r .0) small (r .1)
 
 -- ---- a refused one
 
@@ -141,7 +135,7 @@ module _ (g : Geo) (I : List ℕ) (d : ℕ) (t : Tree d) (l : List ℕ) (v : Vol
       (h .0, h .1, q, ap (λ (y : Some). blocksAt (y .1)) z ∙ q .starts)
 
   -- from a directory on
-  in-held : (h : Hold) → holding ≡ accepted h → andThen holding (doomedIn g I (lastName l)) ≡ onPlaced (found-from (h .dir)) (doomedAt g I h)
+  in-held : (h : Hold) → holding ≡ accepted h → andThen holding (doomedIn g I (lastName l)) ≡ onPlaced (found-from (h .dir)) (doomedAt h)
   unfolding doomedIn
   in-held h q = and-then-ok h (doomedIn g I (lastName l)) q
 
@@ -152,21 +146,18 @@ module _ (g : Geo) (I : List ℕ) (d : ℕ) (t : Tree d) (l : List ℕ) (v : Vol
       let n : Name = lastName l in
       let k = held-there (o .dir) (o .there) in
       let h : Hold = k .0 in
-      let w = own-is g I d t _ names (v .laid) h (k .2) in
       let m = good-lookup (blockSize g) (GoodBelow (blockSize g) (o .dir .0)) n (o .dir .1) (o .entry) (good-find (blockSize g) d names t (o .dir) (v .laid .good) (o .there)) (o .held) .good-name .some-bytes in
       let j : length n ≡ length (o .entry .name) = ap length (lookup-name n (o .dir .1) (o .entry) (o .held)) in
       let some-name : length n ≡ 0 → ⊥ = λ (z : length n ≡ 0). omega arith in
       let f : found-from (h .dir) ≡ found.At (shown-there o) (spotOf n (o .dir .1))
       = ap found-from (sym (k .3)) ∙ find-is g I d t _ names (o .dir) (v .laid) (o .there) n (o .entry) (o .held) in (
-        record { dir = h .dir; entry = shown-there o; place = spotOf n (o .dir .1); own = w .0 },
+        record { dir = h .dir; entry = shown-there o; place = spotOf n (o .dir .1); own = h .own },
         name-some n _ some-name
             ∙ in-held h (k .1)
-            ∙ ap (λ (y : Found). onPlaced y (doomedAt g I h)) f
-            ∙ ap (given (when 14 (hasEntries (shown-there o))))
-            (and-then-ok (w .0) (λ y. accepted (record { dir = h .dir; entry = shown-there o; place = spotOf n (o .dir .1); own = y })) (w .1)),
+            ∙ ap (λ (y : Found). onPlaced y (doomedAt h)) f,
       )
 
-  -- "5 not found", "6 a directory part isn't a directory"
+  -- R5, R6
   abbrev NotThere : ℕ → Type 0
   NotThere k = (k ≡ 5) ⊎ (k ≡ 6)
 
@@ -181,7 +172,7 @@ module _ (g : Geo) (I : List ℕ) (d : ℕ) (t : Tree d) (l : List ℕ) (v : Vol
       let k = held-there s f in
       name-gives (lastName l) (andThen holding (doomedIn g I (lastName l))) 5 (inl refl)
       (in-held (k .0) (k .1)
-      ∙ ap (λ (y : Found). onPlaced y (doomedAt g I (k .0))) (ap found-from (sym (k .3)) ∙ find-missing g I d t _ names s (v .laid) f (lastName l) a))
+      ∙ ap (λ (y : Found). onPlaced y (doomedAt (k .0))) (ap found-from (sym (k .3)) ∙ find-missing g I d t _ names s (v .laid) f (lastName l) a))
 
   -- and a way that stops gives its number.
   stops-is : (k : ℕ) → holding ≡ refused k → (j : ℕ) × NotThere j × (doomedOf g I l ≡ refused j)
@@ -227,7 +218,7 @@ module _ (g : Geo) (I : List ℕ) (d : ℕ) (t : Tree d) (l : List ℕ) (v : Vol
       not-some (absent-none (lastName l) (o .dir .1) (subst (λ (y : Some). Absent (lastName l) (y .1)) (same-some s (o .dir) (sym f ∙ o .there)) a)) (o .held) in
       vacant b (r .0) (r .1) (r .2)
 
-  pub answered : Answer
+  answered : Answer
   answered = go holding refl
     where
       go : (r : Reply Hold) → holding ≡ r → Answer
@@ -242,19 +233,9 @@ module _ (g : Geo) (I : List ℕ) (d : ℕ) (t : Tree d) (l : List ℕ) (v : Vol
   same-number : (j k : ℕ) → doomedOf g I l ≡ refused j → doomedOf g I l ≡ refused k → j ≡ k
   same-number j k p q = let e : _≡_ {A = Reply Doomed} (refused j) (refused k) = sym p ∙ q in cc
 
-  -- So 14 is refused only where the entry is there and has entries,
-  pub refused-full : doomedOf g I l ≡ refused 14 → (o : There) × (Bare (o .dir .0) (o .entry .node) → ⊥)
-  refused-full q = go answered
-    where
-      go : Answer → (o : There) × (Bare (o .dir .0) (o .entry .node) → ⊥)
-      go (goes o b x r) = absurd (not-accepted 14 x (sym q ∙ r))
-      go (full o b r) = (o, b)
-      go (vacant b j (inl h) r) = absurd (omega (arith, same-number j 14 r q))
-      go (vacant b j (inr h) r) = absurd (omega (arith, same-number j 14 r q))
-
-  -- and there is no other refusal: damage, 17, and a lost own entry, 18, are never met.
-  pub never-lost : (k : ℕ) → doomedOf g I l ≡ refused k → (k ≡ 5) ⊎ ((k ≡ 6) ⊎ (k ≡ 14))
-  never-lost k q = go answered
+  -- and there is no other refusal: damage, 17, is never met.
+  pub refused-is : (k : ℕ) → doomedOf g I l ≡ refused k → (k ≡ 5) ⊎ ((k ≡ 6) ⊎ (k ≡ 14))
+  refused-is k q = go answered
     where
       go : Answer → (k ≡ 5) ⊎ ((k ≡ 6) ⊎ (k ≡ 14))
       go (goes o b x r) = absurd (not-accepted k x (sym q ∙ r))

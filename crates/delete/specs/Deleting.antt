@@ -1,5 +1,5 @@
--- Deleting by a full path, on an opened volume: the refusals in 01's order, and the image. Definitions alone.
--- "delete 4, 5/6, 14, 18" (4 comes before, with the path)
+-- Deleting by a full path, on an opened volume: the refusals in the order O10, and the image. Definitions alone.
+-- O10: 5/6, 14 (4 comes before, with the path)
 use mathlib.Core.Bool.{Bool, not, _&&_}
 use mathlib.Core.List.{List}
 use Prim.Native.Nat.{ℕ}
@@ -9,15 +9,13 @@ use Rattle.model.specs.Geometry.{Geo, blockSize, dataAt}
 use Rattle.dir_entry.specs.declared.DirEntry.{DirEntry}
 use Rattle.dir_entry.specs.Entry.{isDir}
 use Rattle.read_dir.specs.declared.Place.{Place}
-use Rattle.read_dir.specs.declared.Found.{Found}
-use Rattle.read_dir.specs.declared.Found.the-variants as found
 use Rattle.read_dir.specs.Walk.{walk}
 use Rattle.read_dir.specs.Finds.{findIn}
 use Rattle.own_entry.specs.declared.Own.{Own}
 use Rattle.delete_store.specs.Delete.{removed}
 use Rattle.path.specs.Path.{lastName, dirPart}
 use Rattle.dir.specs.Resolve.{onName}
-use Rattle.dir.specs.Hold.{Hold, holdDir, ownOf}
+use Rattle.dir.specs.Hold.{Hold, onPlaced, holdDir}
 
 -- The entry to delete: its directory's first address, its fixed part, its place there, and that directory's own entry.
 pub record Doomed : Type 0 where
@@ -26,27 +24,20 @@ pub record Doomed : Type 0 where
   pub place : Place
   pub own : Own
 
--- "14 directory to delete has entries": by W4 its size says so
+-- R14: by W4 a directory's size says whether it has entries
 unfoldable pub hasEntries : DirEntry → Bool
 hasEntries e = isDir (e .kind) && not (eqb (e .size) 0)
 
--- "5 not found"; damage on the walk is 17
-abbrev pub onPlaced : {A : Type 0} → Found → (DirEntry → Place → Reply A) → Reply A
-onPlaced (found.At e p) f = f e p
-onPlaced found.Missing f = refused 5
-onPlaced found.Damaged f = refused 17
+-- The entry e at p of the directory h: 14, or the entry.
+unfoldable pub doomedAt : Hold → DirEntry → Place → Reply Doomed
+doomedAt h e p = given (when 14 (hasEntries e)) (accepted (record { dir = h .dir; entry = e; place = p; own = h .own }))
 
 module _ (g : Geo) (I : List ℕ) where
-  -- The entry e at p of the directory h: 14, 18, or the entry.
-  unfoldable pub doomedAt : Hold → DirEntry → Place → Reply Doomed
-  doomedAt h e p =
-      given (when 14 (hasEntries e)) (andThen (ownOf (blockSize g) (dataAt g) (g .n) I h) (λ o. accepted (record { dir = h .dir; entry = e; place = p; own = o })))
-
   -- In the directory h, by the name x: 5, then these.
   unfoldable pub doomedIn : List ℕ → Hold → Reply Doomed
   doomedIn x h = onPlaced (findIn x (walk (blockSize g) (dataAt g) (g .n) I (h .dir))) (doomedAt h)
 
-  -- At the full path l: "An empty last name gives 5 without a walk", 5/6 on the way, then these.
+  -- R5, R6: at the full path l: 5 for an empty last name, before any walk; 5 or 6 on the way; then these.
   unfoldable pub doomedOf : List ℕ → Reply Doomed
   doomedOf l = onName (lastName l) (andThen (holdDir (blockSize g) (dataAt g) (g .n) I (dirPart l)) (doomedIn (lastName l)))
 
@@ -54,7 +45,7 @@ module _ (g : Geo) (I : List ℕ) where
   unfoldable pub deletedOn : List ℕ → Reply (Unit {0})
   deletedOn l = andThen (doomedOf l) (λ d. accepted tt)
 
-  -- The image afterwards: the entry is gone, or all is as it was.
+  -- C11: the image afterwards: the entry is gone, or all is as it was.
   abbrev pub imageAt : ℕ → Reply Doomed → List ℕ
   imageAt time (accepted d) = removed g I (d .dir) (d .entry) (d .place) (d .own) time
   imageAt time (refused r) = I

@@ -1,10 +1,9 @@
-// Deleting an entry by its full path, on a volume that is opened and checked: refusals 5, 6, 14, 18 in this order, then the stores of `delete_store`.
+// Deleting an entry by its full path, on a volume that is opened and checked: refusals 5, 6, 14 in this order, then the stores of `delete_store`.
 // All that may refuse is read before the first store, and the contracts hold on any opened image; on a volume they are the tree's delete
 // (proofs/OnVolume.antt). A path is the first bytes of a lent buffer, as the crate path leaves it.
 use block::Addr;
 use dir::Holding;
 use dir::Holds;
-use dir::Owned;
 use dir_entry::DirEntry;
 use dir_entry::Kind;
 use limits::Refusal;
@@ -17,10 +16,9 @@ ghost use Prim.Native.Nat.{_≤_};
 ghost use lib.ListN.{length, take};
 ghost use Rattle.super_block.specs.Super.{geoOf, Fit};
 ghost use Rattle.path.specs.Path.{pathLimit};
-ghost use Rattle.path.specs.Post.{between};
 ghost use Rattle.dir.specs.Post.{holdOf};
 ghost use Rattle.delete.specs.Deleting.{hasEntries, doomedAt, doomedIn, doomedOf, deletedOn, deletedImage};
-ghost use Rattle.delete.specs.Post.{markedSays, MarkedIn, deletedSays};
+ghost use Rattle.delete.specs.Post.{markedSays, deletedSays};
 
 // The entry to delete: the first address of its directory, its fixed part, its place there, and that directory's own entry.
 enum Marked {
@@ -45,41 +43,27 @@ fn has_entries(e: DirEntry) -> bool
     }
 }
 
-// The entry e at p of the directory h, unless it has entries or the directory's own entry isn't found.
-fn mark_at(img: &[u8], s: SuperBlock, full: &[u8], h: Holding, e: DirEntry, p: Place) -> Marked
-    requires { ⌜ Fit s (now img) ⌝ }
-    requires { ⌜ h .from ≤ h .to ⌝ }
-    requires { ⌜ h .to ≤ length (now full) ⌝ }
-    ensures { λ r. ⌜ markedSays r ≡ doomedAt (geoOf s) (now (img .entry)) (holdOf (now (full .entry)) h) e p ⌝ }
-    ensures { λ r. ⌜ MarkedIn (now (img .entry)) r ⌝ }
+// The entry e at p of the directory h, unless it has entries.
+fn mark_at(h: Holding, e: DirEntry, p: Place) -> Marked
+    ensures { λ r. ⌜ markedSays r ≡ doomedAt (holdOf h) e p ⌝ }
 {
     if has_entries(e) {
         return Marked::Refused(Refusal::NotEmpty);
     }
-    let owned = dir::own(img, s, full, h);
-    match owned {
-        Owned::At(o) => {
-            let d = h.dir;
-            Marked::At(d, e, p, o)
-        }
-        Owned::Lost => Marked::Refused(Refusal::LostDir),
-    }
+    let d = h.dir;
+    let own = h.own;
+    Marked::At(d, e, p, own)
 }
 
-// The entry of the name full[from..to] in the directory h.
-fn mark_in(img: &[u8], s: SuperBlock, full: &[u8], h: Holding, from: usize, to: usize) -> Marked
+// The entry of that name in the directory h.
+fn mark_in(img: &[u8], s: SuperBlock, h: Holding, name: &[u8]) -> Marked
     requires { ⌜ Fit s (now img) ⌝ }
-    requires { ⌜ h .from ≤ h .to ⌝ }
-    requires { ⌜ h .to ≤ length (now full) ⌝ }
-    requires { ⌜ from ≤ to ⌝ }
-    requires { ⌜ to ≤ length (now full) ⌝ }
-    ensures { λ r. ⌜ markedSays r ≡ doomedIn (geoOf s) (now (img .entry)) (between (now (full .entry)) from to) (holdOf (now (full .entry)) h) ⌝ }
-    ensures { λ r. ⌜ MarkedIn (now (img .entry)) r ⌝ }
+    ensures { λ r. ⌜ markedSays r ≡ doomedIn (geoOf s) (now (img .entry)) (now (name .entry)) (holdOf h) ⌝ }
 {
     let d = h.dir;
-    let found = read_dir::lookup(img, s, d, &full[from..to]);
+    let found = read_dir::lookup(img, s, d, name);
     match found {
-        Found::At(e, p) => mark_at(img, s, full, h, e, p),
+        Found::At(e, p) => mark_at(h, e, p),
         Found::Missing => Marked::Refused(Refusal::NotFound),
         Found::Damaged => Marked::Refused(Refusal::Damaged),
     }
@@ -91,7 +75,6 @@ fn mark(img: &[u8], s: SuperBlock, full: &[u8], len: usize) -> Marked
     requires { ⌜ len ≤ length (now full) ⌝ }
     requires { ⌜ length (now full) ≤ pathLimit ⌝ }
     ensures { λ r. ⌜ markedSays r ≡ doomedOf (geoOf s) (now (img .entry)) (take len (now (full .entry))) ⌝ }
-    ensures { λ r. ⌜ MarkedIn (now (img .entry)) r ⌝ }
 {
     let parts = path::parts_of(full, len);
     let from = parts.from;
@@ -101,7 +84,7 @@ fn mark(img: &[u8], s: SuperBlock, full: &[u8], len: usize) -> Marked
     }
     let holds = dir::hold(img, s, full, parts.dir);
     match holds {
-        Holds::At(h) => mark_in(img, s, full, h, from, to),
+        Holds::At(h) => mark_in(img, s, h, &full[from..to]),
         Holds::Refused(r) => Marked::Refused(r),
     }
 }

@@ -21,18 +21,18 @@ use Rattle.own_entry.specs.Own.{sumRenewed}
 abbrev pub after : ℕ → ℕ → ℕ → ℕ
 after B o w = B - 4 - (o + w)
 
--- 01, "the rest of the block moves down, its end is zeroed": the w bytes at offset o of block a go.
+-- C11: the w bytes at offset o of block a go: what is behind them moves down, and zeros come in at the end.
 unfoldable pub cutOut : ℕ → List ℕ → ℕ → ℕ → ℕ → List ℕ
 cutOut B I a o w =
     splice (splice I (placeAt B a o) (take (after B o w) (drop (placeAt B a o + w) I))) (placeAt B a o + after B o w) (zeros w)
 
 -- ---- blocks given back
 
--- 01, "Freeing clears the bit, lowers the count and leaves the block's bytes": block a of the data area. (The count is 0 on no volume.)
+-- F7: block a of the data area is given back. (The count is 0 on no volume.)
 unfoldable pub released : Geo → List ℕ → ℕ → List ℕ
 released g I a = pick (eqb (usedCount g I) 0) I (freed g I (a - dataAt g))
 
--- "then the entry's chain": the blocks from a on, at most k of them, each looked at before it is read.
+-- C11: the entry's chain: the blocks from a on, at most k of them, each looked at before it is read.
 unfoldable pub chainFreed : Geo → List ℕ → ℕ → ℕ → List ℕ
 chainFreed g I zero a = I
 chainFreed g I (suc k) a = pick (inArea (blockSize g) (dataAt g) (g .n) I a) (chainFreed g (released g I a) k (next (blockSize g) I a)) I
@@ -44,12 +44,12 @@ unfoldable pub beforeFrom : ℕ → ℕ → List ℕ → ℕ → ℕ → ℕ →
 beforeFrom B n I zero a b = a
 beforeFrom B n I (suc k) a b = pick (eqb (next B I a) b) a (pick (leb n (next B I a)) a (beforeFrom B n I k (next B I a) b))
 
--- "is unlinked and freed": the block before it in the directory's chain gets its next address. Its own bytes stay.
+-- C11, C14: the block before b in the directory's chain gets b's next address, and b is given back. Its own bytes stay.
 unfoldable pub unlinked : Geo → List ℕ → ℕ → ℕ → List ℕ
 unlinked g I dir b =
     released g (linked (blockSize g) I (beforeFrom (blockSize g) (g .n) I (g .n - dataAt g) dir b) (next (blockSize g) I b)) b
 
--- "A block now empty that isn't the first": one whose data bytes are zero.
+-- C11: that is done with a block that is not the first and has no entry: all its data bytes are zero.
 unfoldable pub lessBare : Geo → List ℕ → ℕ → ℕ → List ℕ
 lessBare g I dir b = pick (eqb b dir) I (pick (zeroFrom I (blockSize g * b + 4) (blockSize g - 4)) (unlinked g I dir b) I)
 
@@ -59,6 +59,6 @@ lessBare g I dir b = pick (eqb b dir) I (pick (zeroFrom I (blockSize g * b + 4) 
 unfoldable pub entryGone : Geo → List ℕ → ℕ → DirEntry → Place → List ℕ
 entryGone g I dir e p = lessBare g (cutOut (blockSize g) I (p .block .0) (p .offset) (header + e .len)) dir (p .block .0)
 
--- 01, "Delete": the entry e at p of the directory that begins at block dir, whose own entry stands at `own`; "sum and time as for create".
+-- C11, C13: the entry e at p of the directory that begins at block dir goes; that directory's own entry stands at `own`.
 unfoldable pub removed : Geo → List ℕ → ℕ → DirEntry → Place → Own → ℕ → List ℕ
 removed g I dir e p own time = sumRenewed g (chainFreed g (entryGone g I dir e p) (g .n - dataAt g) (e .addr .0)) dir own time

@@ -1,5 +1,5 @@
 // Deleting a directory's entry: its bytes go, a block that they leave empty is unlinked and freed, its chain is freed,
-// and the directory's own entry gets the new sum and the time. What is refused is looked at before, above this crate.
+// and the directory's own entry is renewed (C13). What is refused is looked at before, above this crate.
 use block::Addr;
 use block::LinkedBlock;
 use dir_entry::DirEntry;

@@ -1,24 +1,23 @@
--- The way to a holding directory and its own entry: what the code knows where it answers, one law for each answer.
+-- The way along a path to a holding directory and its own entry: what the code knows where it answers, one law for each answer.
 use mathlib.Core.Path.{_≡_, refl, sym, ap, _∙_, subst}
 use mathlib.Core.Bool.{Bool, true, false}
 use mathlib.Core.List.{List, [], _∷_}
-use Prim.Native.Nat.{ℕ, _+_, _<_}
+use Prim.Native.Nat.{ℕ, _+_, _≤_, _<_}
 use native.Mathlib.Decide.{decLt}
 use native.Mathlib.Omega.{arith}
 use lib.ListN.{length, take, drop}
-use borrow.Author.Tests.{eq-eqb, ne-eqb}
 use Rattle.wire.specs.Pick.{pick, same}
 use Rattle.wire.proofs.Picks.{pick-true, pick-false}
 use Rattle.model.specs.Answers.{Reply, accepted, refused, andThen}
 use Rattle.limits.specs.Refusals.{refusalNumber}
-use Rattle.model.specs.Geometry.{blockSize, dataAt}
 use Rattle.limits.specs.declared.Refusal.{Refusal}
-use Rattle.model.proofs.Replies.{and-then-ok, and-then-no}
-use Rattle.block.specs.declared.Addr.{Addr}
+use Rattle.model.specs.Geometry.{blockSize, dataAt}
+use Rattle.model.proofs.Replies.{not-accepted, accepted-one, and-then-ok, and-then-no, then-accepted}
 use Rattle.super_block.specs.declared.SuperBlock.{SuperBlock}
 use Rattle.super_block.specs.Super.{geoOf, Fit}
 use Rattle.super_block.proofs.Fits.{placed}
 use Rattle.dir_entry.specs.declared.DirEntry.{DirEntry}
+use Rattle.dir_entry.specs.declared.Kind.the-variants.{Dir, File, Device}
 use Rattle.dir_entry.specs.Entry.{isDir}
 use Rattle.dir_entry.proofs.Slots.{slot-stands}
 use Rattle.read_dir.specs.declared.Found.{Found}
@@ -29,148 +28,209 @@ use Rattle.read_dir.specs.Finds.{findIn}
 use Rattle.read_dir.proofs.Items.{found-item}
 use Rattle.own_entry.specs.declared.Own.the-variants as own
 use Rattle.own_entry.specs.Own.{OwnIn}
-use Rattle.own_entry.specs.declared.Own.{Own}
 use Rattle.path.specs.Path.{slash, split}
 use Rattle.path.specs.Post.{between, PieceIs, FirstIs}
-use Rattle.path.proofs.Laws.{split-count, steps-is-root, steps-from}
-use Rattle.dir.specs.Resolve.{onFound}
-use Rattle.dir.specs.Hold.{Hold, rootHold, placeOrLost, holdFrom, holdDir, ownOf}
-use Rattle.dir.specs.Post.{openedSays, holdOf, OwnedIn}
+use Rattle.path.proofs.FullPaths.{steps-is-root, steps-from}
+use Rattle.dir.specs.Resolve.{onFound, resolve, openDir}
+use Rattle.dir.specs.Hold.{Hold, rootHold, onPlaced, holdAt, entered, holdFrom, holdDir}
+use Rattle.dir.specs.Post.{holdOf, holdsSays}
 use Rattle.dir.specs.declared.Holding.{Holding}
-use Rattle.dir.specs.declared.Opened.{Opened}
-use Rattle.dir.specs.declared.Opened.the-variants as opened
-use Rattle.dir.specs.declared.Owned.{Owned}
-use Rattle.dir.specs.declared.Owned.the-variants as owned
-use Rattle.dir.proofs.Laws.{and-then-pick, lt-of-ne, entered}
+use Rattle.dir.specs.declared.Holds.{Holds}
+use Rattle.dir.specs.declared.Holds.the-variants as holds
+use Rattle.dir.proofs.Answers.{name-some}
+
+-- ---- the directory that an entry stands for
+
+-- the directory at a whose own entry stands at p, in one at depth k
+abbrev pub below : ℕ → Place → ℕ → Hold
+below k p a = record { dir = a; own = own.At p; depth = k + 1 }
+
+module _ (e : DirEntry) (p : Place) (k : ℕ) where
+  pub directory-dir : e .kind ≡ Dir → accepted (below k p (e .addr .0)) ≡ holdAt k e p
+  directory-dir q = sym (pick-true _ _ (ap isDir q))
+
+  pub directory-file : e .kind ≡ File → refused 6 ≡ holdAt k e p
+  directory-file q = sym (pick-false _ _ (ap isDir q))
+
+  pub directory-device : e .kind ≡ Device → refused 6 ≡ holdAt k e p
+  directory-device q = sym (pick-false _ _ (ap isDir q))
+
+-- ---- one name
+
+module _ (D n : ℕ) (I : List ℕ) (h : Holding) (x : List ℕ) (f : Found) (some : length x ≡ 0 → ⊥) (q : f ≡ findIn x (walk 512 D n I (h .dir .0))) where
+  looked : (y : Found) → f ≡ y → onPlaced y (holdAt (h .depth)) ≡ entered 512 D n I (holdOf h) x
+  looked y g = ap (λ (z : Found). onPlaced z (holdAt (h .depth))) (sym g ∙ q) ∙ sym (name-some x _ some)
+
+  pub enter-at : (e : DirEntry) (p : Place) (r : Reply Hold) → f ≡ found.At e p → r ≡ holdAt (h .depth) e p → r ≡ entered 512 D n I (holdOf h) x
+  enter-at e p r g z = z ∙ looked (found.At e p) g
+
+  pub enter-none : f ≡ found.Missing → refused 5 ≡ entered 512 D n I (holdOf h) x
+  enter-none g = looked found.Missing g
+
+  pub enter-bad : f ≡ found.Damaged → refused 17 ≡ entered 512 D n I (holdOf h) x
+  enter-bad g = looked found.Damaged g
 
 -- ---- name after name
-
--- A directory on the way: what is above it no longer matters where a name follows.
-abbrev pub standing : ℕ → ℕ → Hold
-standing a k = record { dir = a; parent = 0; name = []; depth = k }
-
--- the directory at a, whose name in the one at `dir` is x
-abbrev pub under : ℕ → ℕ → List ℕ → ℕ → Hold
-under dir k x a = record { dir = a; parent = dir; name = x; depth = k + 1 }
 
 module _ (B D n : ℕ) (I : List ℕ) where
   pub hold-none : (h : Hold) → holdFrom B D n I [] h ≡ accepted h
   unfolding holdFrom
   hold-none h = refl
 
-  pub hold-step : (x : List ℕ) (xs : List (List ℕ)) (h : Hold)
-      → holdFrom B D n I (x ∷ xs) h ≡ andThen (entered B D n I (h .dir) x) (λ a. holdFrom B D n I xs (under (h .dir) (h .depth) x a))
-  unfolding holdFrom andThen
-  hold-step [] xs h = refl
-  hold-step (c ∷ x) xs h = go (findIn (c ∷ x) (walk B D n I (h .dir)))
-    where
-      go : (f : Found)
-          → onFound f (λ e. pick (isDir (e .kind)) (holdFrom B D n I xs (under (h .dir) (h .depth) (c ∷ x) (e .addr .0))) (refused 6))
-          ≡ andThen (onFound f (λ e. pick (isDir (e .kind)) (accepted (e .addr .0)) (refused 6))) (λ a. holdFrom B D n I xs (under (h .dir) (h .depth) (c ∷ x) a))
-      go (found.At e p) = sym (and-then-pick (isDir (e .kind)) (accepted (e .addr .0)) (refused 6) (λ a. holdFrom B D n I xs (under (h .dir) (h .depth) (c ∷ x) a)))
-      go found.Missing = refl
-      go found.Damaged = refl
-
-  -- a name follows
-  pub hold-stands : (x : List ℕ) (xs : List (List ℕ)) (h : Hold) → holdFrom B D n I (x ∷ xs) h ≡ holdFrom B D n I (x ∷ xs) (standing (h .dir) (h .depth))
+  pub hold-step : (x : List ℕ) (xs : List (List ℕ)) (h : Hold) → holdFrom B D n I (x ∷ xs) h ≡ andThen (entered B D n I h x) (holdFrom B D n I xs)
   unfolding holdFrom
-  hold-stands x xs h = refl
+  hold-step x xs h = refl
 
--- ---- one piece of the path: r is what entering it from the directory at `dir`, which is at depth k, gave
+  abbrev dirOf : Reply Hold → Reply ℕ
+  dirOf r = andThen r (λ h. accepted (h .dir))
 
-split-some : (l : List ℕ) → (x : List ℕ) × (xs : List (List ℕ)) × (split l ≡ x ∷ xs)
-split-some l = go (split l) refl
-  where
-    go : (ys : List (List ℕ)) → split l ≡ ys → (x : List ℕ) × (xs : List (List ℕ)) × (split l ≡ x ∷ xs)
-    go [] e = absurd (omega (arith, split-count l, ap length e))
-    go (x ∷ xs) e = (x, xs, e)
+  -- It is the same way as to the directory alone.
+  pub hold-resolve : (xs : List (List ℕ)) (h : Hold) → andThen (holdFrom B D n I xs h) (λ r. accepted (r .dir)) ≡ resolve B D n I xs (h .dir)
+  unfolding andThen holdFrom resolve pick
+  hold-resolve [] h = refl
+  hold-resolve (x ∷ xs) h = name x (hold-resolve xs)
+    where
+      entry : ((r : Hold) → dirOf (holdFrom B D n I xs r) ≡ resolve B D n I xs (r .dir)) → (e : DirEntry) (p : Place) (b : Bool)
+          → dirOf (andThen (pick b (accepted (below (h .depth) p (e .addr .0))) (refused 6)) (holdFrom B D n I xs)) ≡ pick b (resolve B D n I xs (e .addr .0)) (refused 6)
+      entry ih e p true = ih (below (h .depth) p (e .addr .0))
+      entry ih e p false = refl
 
-module _ (D n : ℕ) (I : List ℕ) (full : List ℕ) (at end e first dir k : ℕ) (r : Opened) (p : PieceIs full at end e) (q : openedSays r ≡ entered 512 D n I dir (between full at e))
-    (inv : holdFrom 512 D n I (split (drop at (take end full))) (standing dir k) ≡ holdFrom 512 D n I (split (drop first (take end full))) (rootHold D)) where
-  held-on : (xs : List (List ℕ)) → split (drop at (take end full)) ≡ between full at e ∷ xs
-      → andThen (openedSays r) (λ a. holdFrom 512 D n I xs (under dir k (between full at e) a)) ≡ holdFrom 512 D n I (split (drop first (take end full))) (rootHold D)
-  held-on xs h =
-      ap (λ (y : Reply ℕ). andThen y (λ a. holdFrom 512 D n I xs (under dir k (between full at e) a))) q
-      ∙ sym (hold-step 512 D n I (between full at e) xs (standing dir k))
-      ∙ ap (λ (ys : List (List ℕ)). holdFrom 512 D n I ys (standing dir k)) (sym h)
+      placed-in : ((r : Hold) → dirOf (holdFrom B D n I xs r) ≡ resolve B D n I xs (r .dir)) → (f : Found)
+          → dirOf (andThen (onPlaced f (holdAt (h .depth))) (holdFrom B D n I xs)) ≡ onFound f (λ e. pick (isDir (e .kind)) (resolve B D n I xs (e .addr .0)) (refused 6))
+      placed-in ih (found.At e p) = entry ih e p (isDir (e .kind))
+      placed-in ih found.Missing = refl
+      placed-in ih found.Damaged = refl
+
+      name : (y : List ℕ) → ((r : Hold) → dirOf (holdFrom B D n I xs r) ≡ resolve B D n I xs (r .dir))
+          → dirOf (andThen (entered B D n I h y) (holdFrom B D n I xs)) ≡ resolve B D n I (y ∷ xs) (h .dir)
+      name [] ih = refl
+      name (c ∷ y) ih = placed-in ih (findIn (c ∷ y) (walk B D n I (h .dir)))
+
+lt-of-ne : {a b : ℕ} → a ≤ b → (a ≡ b → ⊥) → a < b
+lt-of-ne h z = omega arith
+
+-- ---- one piece of the path: r is what entering it from the directory h gave, and the rest of the way is from there
+
+module _ (D n : ℕ) (I : List ℕ) (full : List ℕ) (at end e first : ℕ) (h : Holding) (r : Holds) (p : PieceIs full at end e)
+    (q : holdsSays r ≡ entered 512 D n I (holdOf h) (between full at e))
+    (inv : holdFrom 512 D n I (split (drop at (take end full))) (holdOf h) ≡ holdFrom 512 D n I (split (drop first (take end full))) (rootHold D)) where
+  step-on : (xs : List (List ℕ)) → split (drop at (take end full)) ≡ between full at e ∷ xs
+      → andThen (holdsSays r) (holdFrom 512 D n I xs) ≡ holdFrom 512 D n I (split (drop first (take end full))) (rootHold D)
+  step-on xs s =
+      ap (λ (y : Reply Hold). andThen y (holdFrom 512 D n I xs)) q
+      ∙ sym (hold-step 512 D n I (between full at e) xs (holdOf h))
+      ∙ ap (λ (ys : List (List ℕ)). holdFrom 512 D n I ys (holdOf h)) (sym s)
       ∙ inv
 
-  pub held-last : (a : Addr) → r ≡ opened.At a → e ≡ end
-      → accepted (under dir k (between full at e) (a .0)) ≡ holdFrom 512 D n I (split (drop first (take end full))) (rootHold D)
-  held-last a g z =
-      sym (hold-none 512 D n I (under dir k (between full at e) (a .0)))
-      ∙ sym (and-then-ok (a .0) (λ b. holdFrom 512 D n I [] (under dir k (between full at e) b)) (ap openedSays g))
-      ∙ held-on [] (p .last z)
+  pub piece-last : (b : Holding) → r ≡ holds.At b → e ≡ end → accepted (holdOf b) ≡ holdFrom 512 D n I (split (drop first (take end full))) (rootHold D)
+  piece-last b g z =
+      sym (hold-none 512 D n I (holdOf b)) ∙ sym (and-then-ok (holdOf b) (holdFrom 512 D n I []) (ap holdsSays g)) ∙ step-on [] (p .last z)
 
-  pub held-more : (a : Addr) → r ≡ opened.At a → (e ≡ end → ⊥)
-      → holdFrom 512 D n I (split (drop (e + 1) (take end full))) (standing (a .0) (k + 1)) ≡ holdFrom 512 D n I (split (drop first (take end full))) (rootHold D)
-  held-more a g z =
-      let s = split-some (drop (e + 1) (take end full)) in
-      let next : (h : Hold) → holdFrom 512 D n I (split (drop (e + 1) (take end full))) h ≡ holdFrom 512 D n I (s .0 ∷ s .1) h
-      = λ h. ap (λ (ys : List (List ℕ)). holdFrom 512 D n I ys h) (s .2) in
-      next (standing (a .0) (k + 1))
-      ∙ sym (hold-stands 512 D n I (s .0) (s .1) (under dir k (between full at e) (a .0)))
-      ∙ sym (next (under dir k (between full at e) (a .0)))
-      ∙ sym (and-then-ok (a .0) (λ b. holdFrom 512 D n I (split (drop (e + 1) (take end full))) (under dir k (between full at e) b)) (ap openedSays g))
-      ∙ held-on (split (drop (e + 1) (take end full))) (p .more (lt-of-ne (p .high) z))
+  pub piece-more : (b : Holding) → r ≡ holds.At b → (e ≡ end → ⊥)
+      → holdFrom 512 D n I (split (drop (e + 1) (take end full))) (holdOf b) ≡ holdFrom 512 D n I (split (drop first (take end full))) (rootHold D)
+  piece-more b g z =
+      sym (and-then-ok (holdOf b) (holdFrom 512 D n I (split (drop (e + 1) (take end full)))) (ap holdsSays g))
+      ∙ step-on (split (drop (e + 1) (take end full))) (p .more (lt-of-ne (p .high) z))
 
-  pub held-refused : (j : Refusal) → r ≡ opened.Refused j → refused (refusalNumber j) ≡ holdFrom 512 D n I (split (drop first (take end full))) (rootHold D)
-  held-refused j g = go (decLt e end)
+  pub piece-refused : (j : Refusal) → r ≡ holds.Refused j → refused (refusalNumber j) ≡ holdFrom 512 D n I (split (drop first (take end full))) (rootHold D)
+  piece-refused j g = go (decLt e end)
     where
       go : Dec (e < end) → refused (refusalNumber j) ≡ holdFrom 512 D n I (split (drop first (take end full))) (rootHold D)
       go (yes l) =
-          sym (and-then-no (refusalNumber j) (λ b. holdFrom 512 D n I (split (drop (e + 1) (take end full))) (under dir k (between full at e) b)) (ap openedSays g))
-          ∙ held-on (split (drop (e + 1) (take end full))) (p .more l)
-      go (no l) =
-          sym (and-then-no (refusalNumber j) (λ b. holdFrom 512 D n I [] (under dir k (between full at e) b)) (ap openedSays g)) ∙ held-on [] (p .last (omega (arith, p .high)))
+          sym (and-then-no (refusalNumber j) (holdFrom 512 D n I (split (drop (e + 1) (take end full)))) (ap holdsSays g))
+          ∙ step-on (split (drop (e + 1) (take end full))) (p .more l)
+      go (no l) = sym (and-then-no (refusalNumber j) (holdFrom 512 D n I []) (ap holdsSays g)) ∙ step-on [] (p .last (omega (arith, p .high)))
 
--- ---- the holding directory of a path
+  -- a directory that is entered is one deeper
+  entered-deep : (b : Holding) → r ≡ holds.At b → b .depth ≡ h .depth + 1
+  unfolding pick
+  entered-deep b g = name (between full at e) (sym (ap holdsSays g) ∙ q)
+    where
+      entry : (d : DirEntry) (o : Place) (t : Bool) → accepted (holdOf b) ≡ pick t (accepted (below (h .depth) o (d .addr .0))) (refused 6) → b .depth ≡ h .depth + 1
+      entry d o true z = ap (λ (y : Hold). y .depth) (accepted-one (holdOf b) (below (h .depth) o (d .addr .0)) z)
+      entry d o false z = absurd (not-accepted 6 (holdOf b) (sym z))
+
+      looked-at : (f : Found) → accepted (holdOf b) ≡ onPlaced f (holdAt (h .depth)) → b .depth ≡ h .depth + 1
+      looked-at (found.At d o) z = entry d o (isDir (d .kind)) z
+      looked-at found.Missing z = absurd (not-accepted 5 (holdOf b) (sym z))
+      looked-at found.Damaged z = absurd (not-accepted 17 (holdOf b) (sym z))
+
+      name : (x : List ℕ) → accepted (holdOf b) ≡ entered 512 D n I (holdOf h) x → b .depth ≡ h .depth + 1
+      name [] z = absurd (not-accepted 5 (holdOf b) (sym z))
+      name (c ∷ x) z = looked-at (findIn (c ∷ x) (walk 512 D n I (h .dir .0))) z
+
+  pub entered-deeper : (b : Holding) → r ≡ holds.At b → h .depth ≤ at → b .depth ≤ e + 1
+  entered-deeper b g z = omega (arith, entered-deep b g, p .low)
+
+-- the way begins at the root
+module _ (D n : ℕ) (I : List ℕ) (h : Holding) (q : holdOf h ≡ rootHold D) where
+  pub start-from : (xs : List (List ℕ)) → holdFrom 512 D n I xs (holdOf h) ≡ holdFrom 512 D n I xs (rootHold D)
+  start-from xs = ap (holdFrom 512 D n I xs) q
+
+pub start-deep : (D k : ℕ) (h : Holding) → holdOf h ≡ rootHold D → h .depth ≤ k
+start-deep D k h q = omega (arith, ap (λ (y : Hold). y .depth) q)
+
+-- ---- the directory of a path
 
 module _ (D n : ℕ) (I : List ℕ) (full : List ℕ) (end : ℕ) (b : Bool) (t : b ≡ same (take end full) (slash ∷ [])) where
-  pub hold-root : b ≡ true → accepted (rootHold D) ≡ holdDir 512 D n I (take end full)
-  hold-root h = sym (ap (λ (ys : List (List ℕ)). holdFrom 512 D n I ys (rootHold D)) (steps-is-root (take end full) b t h) ∙ hold-none 512 D n I (rootHold D))
+  pub hold-root : (h : Holding) → b ≡ true → holdOf h ≡ rootHold D → accepted (holdOf h) ≡ holdDir 512 D n I (take end full)
+  hold-root h y z =
+      ap (λ (k : Hold). let r : Reply Hold = accepted k in r) z
+      ∙ sym (ap (λ (ys : List (List ℕ)). holdFrom 512 D n I ys (rootHold D)) (steps-is-root (take end full) b t y) ∙ hold-none 512 D n I (rootHold D))
 
   pub hold-path : (first : ℕ) (r : Reply Hold) → b ≡ false → FirstIs full end first → r ≡ holdFrom 512 D n I (split (drop first (take end full))) (rootHold D)
       → r ≡ holdDir 512 D n I (take end full)
   hold-path first r h f q = q ∙ sym (ap (λ (ys : List (List ℕ)). holdFrom 512 D n I ys (rootHold D)) (steps-from full end first b t h f))
 
+module _ (D n : ℕ) (I d : List ℕ) (w : Holds) (q : holdsSays w ≡ holdDir 512 D n I d) where
+  opens : andThen (holdsSays w) (λ r. accepted (r .dir)) ≡ openDir 512 D n I d
+  opens = ap (λ (y : Reply Hold). andThen y (λ r. accepted (r .dir))) q ∙ hold-resolve 512 D n I _ (rootHold D)
+
+  pub open-held : (h : Holding) → w ≡ holds.At h → accepted (h .dir .0) ≡ openDir 512 D n I d
+  open-held h g = sym (and-then-ok (holdOf h) (λ r. accepted (r .dir)) (ap holdsSays g)) ∙ opens
+
+  pub open-unheld : (j : Refusal) → w ≡ holds.Refused j → refused (refusalNumber j) ≡ openDir 512 D n I d
+  open-unheld j g = sym (and-then-no (refusalNumber j) (λ r. accepted (r .dir)) (ap holdsSays g)) ∙ opens
+
 -- ---- the own entry
 
-module _ (D n : ℕ) (I : List ℕ) (full : List ℕ) (h : Holding) where
-  pub own-root : h .depth ≡ 0 → accepted own.Root ≡ ownOf 512 D n I (holdOf full h)
-  unfolding ownOf
-  own-root z = sym (pick-true _ _ (eq-eqb _ _ z))
-
-  module _ (f : Found) (q : f ≡ findIn (between full (h .from) (h .to)) (walk 512 D n I (h .parent .0))) (z : h .depth ≡ 0 → ⊥) where
-    own-looked : (x : Found) → f ≡ x → placeOrLost x ≡ ownOf 512 D n I (holdOf full h)
-    unfolding ownOf
-    own-looked x g = ap placeOrLost (sym g ∙ q) ∙ sym (pick-false _ _ (ne-eqb _ _ z))
-
-    pub own-found : (e : DirEntry) (p : Place) → f ≡ found.At e p → accepted (own.At p) ≡ ownOf 512 D n I (holdOf full h)
-    own-found e p g = own-looked (found.At e p) g
-
-    pub own-missing : f ≡ found.Missing → refused 18 ≡ ownOf 512 D n I (holdOf full h)
-    own-missing g = own-looked found.Missing g
-
-    pub own-damaged : f ≡ found.Damaged → refused 18 ≡ ownOf 512 D n I (holdOf full h)
-    own-damaged g = own-looked found.Damaged g
-
 -- An entry that is found lies in the image.
-pub found-inside : (s : SuperBlock) (I x : List ℕ) (a : ℕ) (f : Found) (e : DirEntry) (p : Place) → Fit s I → f ≡ findIn x (walk 512 (s .area .0) (s .blocks) I a) → f ≡ found.At e p → OwnIn I (own.At p)
-found-inside s I x a f e p fit q g =
-    let i = found-item 512 (s .area .0) (s .blocks) I a x e p (sym q ∙ g) in
+found-inside : (s : SuperBlock) (I x : List ℕ) (a : ℕ) (e : DirEntry) (p : Place) → Fit s I → findIn x (walk 512 (s .area .0) (s .blocks) I a) ≡ found.At e p → OwnIn I (own.At p)
+found-inside s I x a e p fit q =
+    let i = found-item 512 (s .area .0) (s .blocks) I a x e p q in
     let t = slot-stands 512 I (p .block .0) (p .offset) e (i .stands) in
     (omega (arith, placed fit .inside, i .below), omega (arith, t .ends))
 
--- ---- the paper's numbers for the struct's
-
 module _ (s : SuperBlock) (I : List ℕ) (fit : Fit s I) where
+  entered-inside : (h r : Hold) (x : List ℕ) → entered 512 (s .area .0) (s .blocks) I h x ≡ accepted r → OwnIn I (r .own)
+  unfolding pick
+  entered-inside h r [] q = absurd (not-accepted 5 r q)
+  entered-inside h r (c ∷ x) q = looked-at (findIn (c ∷ x) (walk 512 (s .area .0) (s .blocks) I (h .dir))) refl q
+    where
+      entry : (e : DirEntry) (p : Place) (t : Bool) → OwnIn I (own.At p) → pick t (accepted (below (h .depth) p (e .addr .0))) (refused 6) ≡ accepted r → OwnIn I (r .own)
+      entry e p true i z = subst (λ (y : Hold). OwnIn I (y .own)) (accepted-one (below (h .depth) p (e .addr .0)) r z) i
+      entry e p false i z = absurd (not-accepted 6 r z)
+
+      looked-at : (f : Found) → findIn (c ∷ x) (walk 512 (s .area .0) (s .blocks) I (h .dir)) ≡ f → onPlaced f (holdAt (h .depth)) ≡ accepted r → OwnIn I (r .own)
+      looked-at (found.At e p) g z = entry e p (isDir (e .kind)) (found-inside s I (c ∷ x) (h .dir) e p fit g) z
+      looked-at found.Missing g z = absurd (not-accepted 5 r z)
+      looked-at found.Damaged g z = absurd (not-accepted 17 r z)
+
+  from-inside : (xs : List (List ℕ)) (h r : Hold) → OwnIn I (h .own) → holdFrom 512 (s .area .0) (s .blocks) I xs h ≡ accepted r → OwnIn I (r .own)
+  from-inside [] h r i q = subst (λ (y : Hold). OwnIn I (y .own)) (accepted-one h r (sym (hold-none 512 (s .area .0) (s .blocks) I h) ∙ q)) i
+  from-inside (x ∷ xs) h r i q =
+      let w = then-accepted _ _ r (sym (hold-step 512 (s .area .0) (s .blocks) I x xs h) ∙ q) in
+      from-inside xs (w .0) r (entered-inside h (w .0) x (w .1)) (w .2)
+
+  -- The own entry of a directory that a path leads to lies in the image.
+  pub hold-inside : (d : List ℕ) (h : Hold) → holdDir 512 (s .area .0) (s .blocks) I d ≡ accepted h → OwnIn I (h .own)
+  hold-inside d h q = from-inside _ (rootHold (s .area .0)) h tt q
+
+  -- The same of the code's answer.
+  pub held-inside : (d : List ℕ) (w : Holds) (h : Holding) → holdsSays w ≡ holdDir 512 (s .area .0) (s .blocks) I d → w ≡ holds.At h → OwnIn I (h .own)
+  held-inside d w h q g = hold-inside d (holdOf h) (sym q ∙ ap holdsSays g)
+
+  -- ---- the numbers of the rules for the struct's
+
   pub hold-numbers : (d : List ℕ) → holdDir 512 (s .area .0) (s .blocks) I d ≡ holdDir (blockSize (geoOf s)) (dataAt (geoOf s)) (geoOf s .n) I d
   hold-numbers d = ap (λ (D : ℕ). holdDir 512 D (s .blocks) I d) (fit .area)
-
-  pub own-numbers : (h : Hold) → ownOf 512 (s .area .0) (s .blocks) I h ≡ ownOf (blockSize (geoOf s)) (dataAt (geoOf s)) (geoOf s .n) I h
-  own-numbers h = ap (λ (D : ℕ). ownOf 512 D (s .blocks) I h) (fit .area)
-
--- An own entry that is found is in the image.
-pub own-in : (I : List ℕ) (o : Owned) (w : Own) → OwnedIn I o → o ≡ owned.At w → OwnIn I w
-own-in I o w h e = subst (OwnedIn I) e h

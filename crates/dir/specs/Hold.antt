@@ -1,11 +1,12 @@
--- The directory that a changing call changes, and its own entry. Definitions alone.
+-- The directory that a changing call changes, and its own entry, which the way to it leads over. Definitions alone.
 -- B is the block size, D the data area's first address and n the volume's blocks.
 use mathlib.Core.List.{List, [], _∷_}
 use Prim.Native.Nat.{ℕ, _+_}
-use lib.Dec.{eqb}
 use Rattle.wire.specs.Pick.{pick}
-use Rattle.model.specs.Answers.{Reply, accepted, refused}
+use Rattle.model.specs.Answers.{Reply, accepted, refused, andThen}
+use Rattle.dir_entry.specs.declared.DirEntry.{DirEntry}
 use Rattle.dir_entry.specs.Entry.{isDir}
+use Rattle.read_dir.specs.declared.Place.{Place}
 use Rattle.read_dir.specs.declared.Found.{Found}
 use Rattle.read_dir.specs.declared.Found.the-variants.{At, Missing, Damaged}
 use Rattle.read_dir.specs.Walk.{walk}
@@ -13,37 +14,37 @@ use Rattle.read_dir.specs.Finds.{findIn}
 use Rattle.own_entry.specs.declared.Own.{Own}
 use Rattle.own_entry.specs.declared.Own.the-variants as own
 use Rattle.path.specs.Path.{steps}
-use Rattle.dir.specs.Resolve.{onName, lookupIn}
+use Rattle.dir.specs.Resolve.{onName}
 
--- A holding directory: its first address, the directory above it, its name there, and its depth. The root is at depth 0, with nothing above.
+-- C13: a holding directory: its first address, where its own entry stands, and its depth. The root is at depth 0 and has none.
 pub record Hold : Type 0 where
   pub dir : ℕ
-  pub parent : ℕ
-  pub name : List ℕ
+  pub own : Own
   pub depth : ℕ
 
 abbrev pub rootHold : ℕ → Hold
-rootHold D = record { dir = D; parent = 0; name = []; depth = 0 }
+rootHold D = record { dir = D; own = own.Root; depth = 0 }
 
--- 18, "holding directory's own entry not found": the place of an entry that was looked for
-abbrev pub placeOrLost : Found → Reply Own
-placeOrLost (At e p) = accepted (own.At p)
-placeOrLost Missing = refused 18
-placeOrLost Damaged = refused 18
+-- R5: an entry that was looked for and its place: 5 where there is none; damage on the walk is 17.
+abbrev pub onPlaced : {A : Type 0} → Found → (DirEntry → Place → Reply A) → Reply A
+onPlaced (At e p) f = f e p
+onPlaced Missing f = refused 5
+onPlaced Damaged f = refused 17
+
+-- The directory that the entry e at p stands for, in a directory at depth k: e is its own entry. 6 where e is no directory's.
+abbrev pub holdAt : ℕ → DirEntry → Place → Reply Hold
+holdAt k e p = pick (isDir (e .kind)) (accepted (record { dir = e .addr .0; own = own.At p; depth = k + 1 })) (refused 6)
 
 module _ (B D n : ℕ) (I : List ℕ) where
+  -- The directory of the name x in the directory h.
+  abbrev pub entered : Hold → List ℕ → Reply Hold
+  entered h x = onName x (onPlaced (findIn x (walk B D n I (h .dir))) (holdAt (h .depth)))
+
   -- The way along these names from the directory h on, as `resolve` goes it.
   unfoldable pub holdFrom : List (List ℕ) → Hold → Reply Hold
   holdFrom [] h = accepted h
-  holdFrom (x ∷ xs) h =
-      onName x
-      (lookupIn B D n I (h .dir) x
-      (λ e. pick (isDir (e .kind)) (holdFrom xs (record { dir = e .addr .0; parent = h .dir; name = x; depth = h .depth + 1 })) (refused 6)))
+  holdFrom (x ∷ xs) h = andThen (entered h x) (holdFrom xs)
 
-  -- "the directory part", which holds the last name
+  -- P4: the directory that a path's directory part leads to, which holds the last name
   abbrev pub holdDir : List ℕ → Reply Hold
   holdDir d = holdFrom (steps d) (rootHold D)
-
-  -- "The holding directory's own entry, if it has one": where it stands in the directory above.
-  unfoldable pub ownOf : Hold → Reply Own
-  ownOf h = pick (eqb (h .depth) 0) (accepted own.Root) (placeOrLost (findIn (h .name) (walk B D n I (h .parent))))

@@ -1,6 +1,5 @@
 -- The way along a path on any image: directory after directory, then the last name. Definitions alone.
 -- B is the block size, D the data area's first address and n the volume's blocks.
-use mathlib.Core.Bool.{Bool, true, false}
 use mathlib.Core.List.{List, [], _∷_}
 use Prim.Native.Nat.{ℕ}
 use Rattle.wire.specs.Pick.{pick}
@@ -13,13 +12,13 @@ use Rattle.read_dir.specs.Walk.{walk}
 use Rattle.read_dir.specs.Finds.{findIn}
 use Rattle.path.specs.Path.{lastName, dirPart, steps}
 
--- "5 not found", and 17 on the walk
+-- R5, R17: nothing of that name, or damage on the walk to it
 abbrev pub onFound : {A : Type 0} → Found → (DirEntry → Reply A) → Reply A
 onFound (At e p) f = f e
 onFound Missing f = refused 5
 onFound Damaged f = refused 17
 
--- "an empty piece is not found", without a walk
+-- R5: an empty name is not found, and no directory is walked for it
 abbrev pub onName : {A : Type 0} → List ℕ → Reply A → Reply A
 onName [] r = refused 5
 onName (c ∷ x) r = r
@@ -37,15 +36,15 @@ module _ (B D n : ℕ) (I : List ℕ) where
   abbrev pub lookupIn : {A : Type 0} → ℕ → List ℕ → (DirEntry → Reply A) → Reply A
   lookupIn a x f = onFound (findIn x (walk B D n I a)) f
 
-  -- The first address of the directory that these names lead to from the one at a; "6 a directory part isn't a directory".
+  -- P4, R6: the first address of the directory that these names lead to from the one at a.
   unfoldable pub resolve : List (List ℕ) → ℕ → Reply ℕ
   resolve [] a = accepted a
   resolve (x ∷ xs) a = onName x (lookupIn a x (λ e. pick (isDir (e .kind)) (resolve xs (e .addr .0)) (refused 6)))
 
-  -- "The directory part is opened ...; `/` itself is the root", which begins at D.
+  -- P4: the directory of a directory part, from the root on, which begins at D.
   abbrev pub openDir : List ℕ → Reply ℕ
   openDir d = resolve (steps d) D
 
-  -- The entry at the full path l; "An empty last name gives 5 without a walk".
+  -- P3, R5: the entry at the full path l; an empty last name is refused before any walk.
   unfoldable pub entryOf : List ℕ → Reply Held
   entryOf l = onName (lastName l) (andThen (openDir (dirPart l)) (λ a. lookupIn a (lastName l) (λ e. accepted (held a e))))

@@ -12,7 +12,7 @@ use Rattle.dir_entry.specs.declared.DirEntry.{DirEntry}
 use Rattle.dir_entry.specs.declared.Slot.{Slot}
 use Rattle.dir_entry.specs.declared.Slot.the-variants.{Entry, Stop}
 
--- 01, "kind (0 directory, 1 file, 2 device)": the kind of a byte of at most 2, and the byte of a kind.
+-- F9: the kind of a byte of at most 2, and the byte of a kind.
 unfoldable pub kindAt : ℕ → Kind
 kindAt b = pick (eqb b 0) Dir (pick (eqb b 1) File Device)
 
@@ -32,7 +32,7 @@ isFile Dir = false
 isFile File = true
 isFile Device = false
 
--- 01, "header 18": kind 1, address 4, size 4, time 8, name length 1.
+-- F9: the bytes of an entry before its name: kind 1, address 4, size 4, time 8, the name's length 1.
 abbrev pub header : ℕ
 header = 18
 
@@ -59,8 +59,8 @@ placeAt B a o = B * a + 4 + o
 abbrev pub nameAt : List ℕ → ℕ → ℕ → List ℕ
 nameAt I at n = take n (drop (at + header) I)
 
--- 01, "A block's entries stop where the offset is 490 or more, the kind is above 2, the name length is 0, or offset + 18 + length is above
--- 507." What stands at offset o of block a.
+-- F10: what stands at offset o of block a: a test for each reason to stop. By the last, all bytes of an entry are in the
+-- block; by the first, those of its fixed part.
 unfoldable pub slotAt : ℕ → List ℕ → ℕ → ℕ → Slot
 slotAt B I a o =
     pick (leb (B - 22) o) Stop

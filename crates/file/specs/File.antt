@@ -19,27 +19,27 @@ use Rattle.file.specs.declared.Handle.{Handle}
 use Rattle.file.specs.declared.SeekFrom.{SeekFrom}
 use Rattle.file.specs.declared.SeekFrom.the-variants.{Start, Current, End}
 
--- "A handle holds the holding directory's first address, the name, the file's first address, size and position."
+-- H1: the name is the first len bytes of an array.
 abbrev pub nameOf : Handle → List ℕ
 nameOf h = take (h .len) (h .name)
 
--- "Stale: by its own fields, position above size, size above the limit or name length outside 1 to 255"
+-- H2: no image is needed to see it
 unfoldable pub staleFields : Handle → Bool
 staleFields h = ltb (h .size) (h .position) || (ltb fileLimit (h .size) || (eqb (h .len) 0 || ltb 255 (h .len)))
 
--- The handle with another position.
+-- H5: the handle with another position.
 abbrev pub moved : Handle → ℕ → Handle
 moved h p = record { dir = h .dir; name = h .name; len = h .len; addr = h .addr; size = h .size; position = p }
 
 -- ---- seek
 
--- "target = start, position or size plus the offset, as a whole number"
+-- C8: as a whole number, so that no sum wraps
 unfoldable pub target : Handle → SeekFrom → ℤ
 target h (Start k) = pos k
 target h (Current i) = pos (h .position) +ℤ i
 target h (End i) = pos (h .size) +ℤ i
 
--- "accepted for 0..size"
+-- C8, R12: from 0 to the size itself
 abbrev pub within : ℕ → ℤ → Bool
 within size (pos t) = leb t size
 within size (negsuc t) = false
@@ -48,13 +48,13 @@ abbrev pub placeIn : ℤ → ℕ
 placeIn (pos t) = t
 placeIn (negsuc t) = 0
 
--- "11 for its fields, then 12"
+-- O7
 unfoldable pub seekRefusal : Handle → SeekFrom → ℕ
 seekRefusal h f = firstOf (when 11 (staleFields h) ∷ (when 12 (not (within (h .size) (target h f))) ∷ []))
 
 -- ---- the entry of a handle
 
--- "the named directory has no file entry with that name, address and size": the walk ends at such an entry; 17 for damage before it.
+-- H3, R11: the entry that makes a handle current. The walk ends there; 17 for damage before it, 11 where there is none.
 unfoldable pub current : Handle → DirEntry → List ℕ → Bool
 current h e x = (isFile (e .kind) && same x (nameOf h)) && (eqb (e .addr .0) (h .addr .0) && eqb (e .size) (h .size))
 
@@ -65,7 +65,7 @@ heldIn h damaged = 17
 
 -- ---- read
 
--- "min(length, size - position) bytes"
+-- C7: as many as the buffer has room for and the file has left
 abbrev pub toRead : Handle → ℕ → ℕ
 toRead h len = min len (h .size - h .position)
 
@@ -75,12 +75,12 @@ module _ (B D n : ℕ) (I : List ℕ) where
   chain zero a = some []
   chain (suc m) a = pick (inArea B D n I a) (then (chain m (next B I a)) (λ xs. some (a ∷ xs))) none
 
-  -- "a read at the block of its last byte (none for 0 bytes)": how many blocks a read of k bytes at p walks.
+  -- O12: how many blocks a read of k bytes at p walks: to that of its last byte, and none for 0 bytes.
   unfoldable pub blocksRead : ℕ → ℕ → ℕ
   blocksRead p zero = 0
   blocksRead p (suc k) = suc ((p + k) / (B - 4))
 
-  -- "passes n-D blocks in one chain gives 17; so do ... a read whose chain ends early"
+  -- R17: none where the chain leaves the area, ends too early (0 is outside), or would have more blocks than there are
   unfoldable pub chainRead : ℕ → ℕ → Option (List ℕ)
   chainRead a m = pick (leb m (n - D)) (chain m a) none
 
@@ -97,7 +97,7 @@ module _ (B D n : ℕ) (I : List ℕ) where
   bytesOf none p k = []
   bytesOf (some xs) p k = take k (drop p (dataOf xs))
 
-  -- "Read gives 11 for its handle's own fields, then walks the directory, then the file."
+  -- O6: the handle's own fields, then its directory, then the file's chain.
   unfoldable pub readRefusal : Handle → ℕ → ℕ
   readRefusal h len =
       firstOf (when 11 (staleFields h) ∷ (heldIn h (walk B D n I (h .dir .0))

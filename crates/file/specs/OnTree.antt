@@ -14,7 +14,7 @@ use Rattle.model.specs.Calls.{DirAt, pathTo, freeBlocks, fileEntry}
 use Rattle.file.specs.declared.Handle.{Handle}
 use Rattle.file.specs.File.{nameOf, staleFields}
 
--- "file entry with that name, address and size": the directory has one.
+-- H3: the directory has a file entry with the handle's name, address and size.
 pub record FileIn (h : Handle) (dir : Some) : Type 0 where
   pub time : ℕ
   pub cells : List Cell
@@ -27,19 +27,19 @@ pub record OnFile (d : ℕ) (t : Tree d) (h : Handle) : Type 0 where
   pub there : DirAt d (h .dir .0) path t
   pub file : FileIn h (there .dir)
 
--- "the named directory has no file entry with that name, address and size. For write the directory must also be one reached from the root."
+-- H3, H4: its directory is not reached from the root, or is reached and has no such entry.
 abbrev pub Lost : (d : ℕ) → Tree d → Handle → Type 0
 Lost d t h = (pathTo d (h .dir .0) t ≡ none) ⊎ ((p : List Name) × (s : DirAt d (h .dir .0) p t) × (FileIn h (s .dir) → ⊥))
 
--- 11, of a write: by the handle's own fields, or by the tree.
+-- R11, of a write: by the handle's own fields, or by the tree.
 abbrev pub Stale : (d : ℕ) → Tree d → Handle → Type 0
 Stale d t h = (staleFields h ≡ true) ⊎ Lost d t h
 
--- "blocks to add", of a write of len bytes: those of the new size, less those of the chain.
+-- C12: the blocks that a write of len bytes takes: those of the new size, less those of the chain.
 abbrev pub toAdd : (B d : ℕ) (t : Tree d) (h : Handle) → ℕ → OnFile d t h → ℕ
 toAdd B d t h len q = blocksFor B (h .position + len) - length (q .file .cells)
 
--- 9, of a write of len bytes: not 13, 11, 10, and fewer free blocks in reach than blocks to add.
+-- R9, of a write of len bytes: not 13, 11, 10, and fewer free blocks in reach than it takes.
 pub record NoRoom (g : Geo) (d : ℕ) (t : Tree d) (h : Handle) (len : ℕ) : Type 0 where
   pub some-bytes : 1 ≤ len
   pub fields : staleFields h ≡ false

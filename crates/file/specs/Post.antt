@@ -31,7 +31,7 @@ outcomeNumber (outcome.Refused r) = refusalNumber r
 
 -- ---- seek
 
--- The answer, and the handle after it: moved to the target, or the very one given.
+-- C8, H5: the answer, and the handle after it: moved to the target, or the very one given.
 abbrev pub MovedIs : Handle → SeekFrom → Handle → Outcome → Type 0
 MovedIs h from g outcome.Success = (seekRefusal h from ≡ 0) × (g ≡ moved h (placeIn (target h from)))
 MovedIs h from g (outcome.Refused r) = (seekRefusal h from ≡ refusalNumber r) × (g ≡ h)
@@ -41,14 +41,14 @@ SoughtIs h from s = MovedIs h from (s .handle) (s .answer)
 
 -- ---- read
 
--- Bytes were read: none refused it, k bytes vs stand at the start of the buffer, which was l and is m, and the handle moved by k.
+-- C7, H5: none refused it, k bytes vs stand at the start of the buffer, which was l and is m, and the handle moved by k.
 pub record Gives (refusal : ℕ) (h g : Handle) (vs l m : List ℕ) (k : ℕ) : Type 0 where
   pub good : refusal ≡ 0
   pub count : k ≡ toRead h (length l)
   pub handle : g ≡ moved h (h .position + k)
   pub stored : m ≡ splice l 0 vs
 
--- It is refused: the handle is the very one given, and the buffer is as it was.
+-- H6: it is refused: the handle is the very one given, and the buffer is as it was.
 pub record Keeps (refusal : ℕ) (h g : Handle) (l m : List ℕ) (r : ℕ) : Type 0 where
   pub refused : refusal ≡ r
   pub handle : g ≡ h

@@ -1,5 +1,5 @@
--- Writing by a handle, on an opened volume: the refusals in 01's order, the image and the handle. Definitions alone.
--- "write 13, 11, 10, 9"
+-- Writing by a handle, on an opened volume: the refusals in the order O11, the image and the handle. Definitions alone.
+-- (Those of the check come before: O8.)
 use mathlib.Core.Bool.{Bool, not}
 use mathlib.Core.List.{List}
 use Prim.Native.Nat.{ℕ, _+_, _-_}
@@ -26,36 +26,36 @@ pub record Target : Type 0 where
   pub entry : DirEntry
   pub place : Place
 
--- "the named directory has no file entry with that name, address and size": the entry of a handle in a walk
+-- H3: the entry of a handle in a walk
 unfoldable pub currentIn : Handle → Walk → Found
 currentIn h (item e a o x w) = pick (current h e x) (found.At e (placed a o)) (currentIn h w)
 currentIn h finished = found.Missing
 currentIn h damaged = found.Damaged
 
--- 11 where there is none; damage on the walk is 17
+-- R11 where there is none; damage on the walk is 17
 abbrev pub onCurrent : {A : Type 0} → Found → (DirEntry → Place → Reply A) → Reply A
 onCurrent (found.At e p) f = f e p
 onCurrent found.Missing f = refused 11
 onCurrent found.Damaged f = refused 17
 
--- "10 file would pass its limit": with len bytes at the position
+-- R10: with len bytes at the position
 unfoldable pub tooLong : Handle → ℕ → Bool
 tooLong h len = ltb fileLimit (h .position + len)
 
--- "Missing blocks": how many a write of len bytes at the position adds
+-- C12: how many blocks a write of len bytes at the position takes
 unfoldable pub blocksToAdd : ℕ → Handle → ℕ → ℕ
 blocksToAdd B h len = blocksFor B (h .position + len) - blocksFor B (h .size)
 
 module _ (g : Geo) (I : List ℕ) where
-  -- "For write the directory must also be one reached from the root."
+  -- H4: the handle's directory is none that is reached from the root
   unfoldable pub unreached : Handle → Bool
   unreached h = not (reaches (blockSize g) (dataAt g) (g .n) I (h .dir .0) maxDepth (dataAt g))
 
-  -- "9 fewer clear indexes in reach than blocks to add"
+  -- R9
   unfoldable pub noRoom : Handle → ℕ → Bool
   noRoom h len = ltb (length (clears g I)) (blocksToAdd (blockSize g) h len)
 
-  -- A write of len bytes: 13, 11, 10, 9, or where it goes.
+  -- O11, R13: a write of len bytes: 13, 11, 10, 9, or where it goes.
   unfoldable pub targetOf : Handle → ℕ → Reply Target
   targetOf h len =
       given (when 13 (eqb len 0))
@@ -72,11 +72,11 @@ module _ (g : Geo) (I : List ℕ) where
   unfoldable pub writtenImage : Handle → List ℕ → ℕ → List ℕ
   writtenImage h buf time = imageAt h buf time (targetOf h (length buf))
 
--- "size c + len, position there": the handle after an accepted write of len bytes
+-- H5: the handle after an accepted write of len bytes: the file ends at its position
 abbrev pub grownHandle : Handle → ℕ → Handle
 grownHandle h len = record { dir = h .dir; name = h .name; len = h .len; addr = h .addr; size = h .position + len; position = h .position + len }
 
--- "read and write answer the byte count and the new handle"; a refused write hands back the very handle.
+-- C12, H6: the byte count and the new handle; a refused write hands back the very handle.
 abbrev pub handleAfter : {A : Type 0} → Handle → ℕ → Reply A → Handle
 handleAfter h len (accepted t) = grownHandle h len
 handleAfter h len (refused r) = h

@@ -25,11 +25,11 @@ abbrev pub aimedSays : Aimed → Reply Target
 aimedSays (aimed.At e p) = accepted (record { entry = e; place = p })
 aimedSays (aimed.Refused r) = refused (refusalNumber r)
 
--- "10, 9": the last two refusals, or the target
+-- O11: the last two refusals, 10 and 9, or the target
 abbrev pub fitsAt : Geo → List ℕ → Handle → ℕ → DirEntry → Place → Reply Target
 fitsAt g I h len e p = given (when 10 (tooLong h len)) (given (when 9 (noRoom g I h len)) (accepted (record { entry = e; place = p })))
 
--- "write 13, 11, 10, 9": the answer, the handle and the image after a write of buf, where the image was I and is J.
+-- C12: the answer, the handle and the image after a write of buf, where the image was I and is J.
 pub record WriteIs (g : Geo) (h : Handle) (buf : List ℕ) (time : ℕ) (I J : List ℕ) (r : WriteOut) : Type 0 where
   pub answer : countedSays (r .answer) ≡ countOf (length buf) (targetOf g I h (length buf))
   pub handle : r .handle ≡ handleAfter h (length buf) (targetOf g I h (length buf))

@@ -4,11 +4,11 @@ use mathlib.Core.List.{List, [], _∷_}
 use Prim.Native.Nat.{ℕ, _-_, _≤_}
 use lib.ListN.{getD}
 use native.Mathlib.Omega.{arith}
-use Rattle.model.specs.Answers.{Reply, refused, reply, settle}
+use Rattle.model.specs.Answers.{refused, reply, settle}
 use Rattle.model.proofs.Replies.{reply-suc, settle-suc}
 use Rattle.limits.specs.Refusals.{refusalNumber}
 use Rattle.limits.specs.declared.Refusal.{Refusal}
-use Rattle.limits.specs.declared.Refusal.the-variants.{BadImage, NotMfs, BadCount, BadPath, NotFound, WrongKind, Exists, BadName, NoRoom, TooLarge, Stale, BadSeek, EmptyWrite, NotEmpty, TooDeep, ShortWork, Damaged, LostDir}
+use Rattle.limits.specs.declared.Refusal.the-variants.{BadImage, NotMfs, BadCount, BadPath, NotFound, WrongKind, Exists, BadName, NoRoom, TooLarge, Stale, BadSeek, EmptyWrite, NotEmpty, TooDeep, ShortWork, Damaged}
 
 pub number-some : (r : Refusal) → 1 ≤ refusalNumber r
 number-some BadImage = omega arith
@@ -28,7 +28,6 @@ number-some NotEmpty = omega arith
 number-some TooDeep = omega arith
 number-some ShortWork = omega arith
 number-some Damaged = omega arith
-number-some LostDir = omega arith
 
 -- by the refusal
 pub reply-refused : {A : Type 0} {k : ℕ} (a : A) (r : Refusal) → k ≡ refusalNumber r → reply k a ≡ refused (refusalNumber r)
@@ -39,10 +38,10 @@ settle-refused {A} {k} x y r e = rw e (settle-suc (refusalNumber r) x y (number-
 
 -- the refusals in the order of their numbers: each number is one refusal's
 inOrder : List Refusal
-inOrder = BadImage ∷ NotMfs ∷ BadCount ∷ BadPath ∷ NotFound ∷ WrongKind ∷ Exists ∷ BadName ∷ NoRoom ∷ TooLarge ∷ Stale ∷ BadSeek ∷ EmptyWrite ∷ NotEmpty ∷ TooDeep ∷ ShortWork ∷ Damaged ∷ LostDir ∷ []
+inOrder = BadImage ∷ NotMfs ∷ BadCount ∷ BadPath ∷ NotFound ∷ WrongKind ∷ Exists ∷ BadName ∷ NoRoom ∷ TooLarge ∷ Stale ∷ BadSeek ∷ EmptyWrite ∷ NotEmpty ∷ TooDeep ∷ ShortWork ∷ Damaged ∷ []
 
 back : ℕ → Refusal
-back k = getD inOrder (k - 1) LostDir
+back k = getD inOrder (k - 1) Damaged
 
 back-number : (r : Refusal) → back (refusalNumber r) ≡ r
 unfolding back inOrder
@@ -63,7 +62,6 @@ back-number NotEmpty = refl
 back-number TooDeep = refl
 back-number ShortWork = refl
 back-number Damaged = refl
-back-number LostDir = refl
 
 pub number-one : (r q : Refusal) → refusalNumber r ≡ refusalNumber q → r ≡ q
 number-one r q e = sym (back-number r) ∙ ap back e ∙ back-number q

@@ -21,11 +21,11 @@ pub fn blocks_for(size: u32) -> u32
     (size - 1) / CAPACITY + 1
 }
 
-// Why a call is refused, in the order of 01's table.
+// Why a call is refused, in the order of the rules R.
 pub enum Refusal {
     // 1: the image is empty, no multiple of the block size, over the limit, or ends before the bitmap
     BadImage,
-    // 2: signature, version or size code
+    // 2: block K does not begin as a superblock that is known
     NotMfs,
     // 3: the block count
     BadCount,
@@ -39,7 +39,7 @@ pub enum Refusal {
     Exists,
     // 8: a create's last name is empty or over 255 bytes
     BadName,
-    // 9: fewer clear indexes in reach than blocks to add
+    // 9: too few blocks are free in reach
     NoRoom,
     // 10: the file passes its limit
     TooLarge,
@@ -49,20 +49,18 @@ pub enum Refusal {
     BadSeek,
     // 13
     EmptyWrite,
-    // 14: the directory to delete has entries
+    // 14: it is a directory, and not empty
     NotEmpty,
-    // 15: the new directory would be at depth 17
+    // 15: one level deeper than directories go
     TooDeep,
     // 16: the work buffer is too short
     ShortWork,
-    // 17
+    // 17; the number 18 is not used
     Damaged,
-    // 18: the holding directory's own entry is not found
-    LostDir,
 }
 
 impl Refusal {
-    // The number of the paper's table.
+    // The number of its rule: R1 is 1.
     pub fn number(self) -> u8
         ensures { λ r. ⌜ r ≡ refusalNumber self ⌝ }
     {
@@ -84,7 +82,6 @@ impl Refusal {
             Refusal::TooDeep => 15,
             Refusal::ShortWork => 16,
             Refusal::Damaged => 17,
-            Refusal::LostDir => 18,
         }
     }
 }

@@ -24,7 +24,7 @@ space = 32
 abbrev pub newline : ℕ
 newline = 10
 
--- 01, "`d`, `f` or `v` (device)".
+-- C16: the letter of a kind.
 abbrev pub letter : Kind → ℕ
 letter Dir = 100
 letter File = 102
@@ -34,11 +34,11 @@ letter Device = 118
 unfoldable pub ended : List ℕ → ℕ → List ℕ
 ended w b = w ++ (b ∷ [])
 
--- 01, "`d`, `f` or `v` (device), size, time, name, one space between". Each line ends with a newline.
+-- C16: the line of an entry. Each line ends with a newline.
 unfoldable pub lineOf : Kind → ℕ → ℕ → List ℕ → List ℕ
 lineOf k size time x = ended (letter k ∷ []) space ++ (ended (digits size) space ++ (ended (digits time) space ++ ended x newline))
 
--- 01, "Otherwise `refused N`".
+-- C16: the line of a refusal.
 abbrev pub refusedWord : List ℕ
 refusedWord = 114 ∷ 101 ∷ 102 ∷ 117 ∷ 115 ∷ 101 ∷ 100 ∷ []
 

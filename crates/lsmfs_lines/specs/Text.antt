@@ -9,7 +9,7 @@ use Rattle.dir_entry.specs.Entry.{kindAt}
 use Rattle.read_dir.specs.Walk.{Walk, item, finished, damaged}
 use Rattle.lsmfs_lines.specs.Line.{lineOf}
 
--- 01, "records of kind 1, size 4, time 8, length 1, name": where the record after the one at byte `at` begins, and the line of that one.
+-- C6: where the record after the one at byte `at` begins, and the line of that one.
 abbrev pub nextAt : List ℕ → ℕ → ℕ
 nextAt l at = at + 14 + getD l (at + 13) 0
 
@@ -24,7 +24,7 @@ textFrom (suc k) l at = pick (leb (nextAt l at) (length l)) (lineAt l at ++ text
 abbrev pub textOf : List ℕ → List ℕ
 textOf l = textFrom (length l) l 0
 
--- 01, "a line for each root entry": the lines of a walk's entries, of those whose records a listing gives (`recordsFrom`).
+-- C16: the lines of a walk's entries, of those whose records a listing gives (`recordsFrom`).
 unfoldable pub linesFrom : ℕ → ℕ → Walk → List ℕ
 linesFrom cap b (item e a o x w) = pick (ltb (b + (14 + e .len)) cap) (lineOf (e .kind) (e .size) (e .time) x ++ linesFrom cap (b + (14 + e .len)) w) []
 linesFrom cap b finished = []

@@ -1,2 +1,3 @@
 pub mod Paged
 pub mod Whole
+pub mod Saying

@@ -10,17 +10,17 @@ use Rattle.read_dir.specs.declared.Listed.{Listed}
 use Rattle.read_dir.specs.declared.Listed.the-variants as listed
 use Rattle.read_dir.specs.Walk.{Walk, item, finished, damaged, walk}
 use Rattle.read_dir.specs.Finds.{skip, listFrom}
-use Rattle.mfs.specs.declared.Listing.{Listing}
-use Rattle.mfs.specs.Reading.{Counts, size, area, end, listSays, onReply}
-use Rattle.mfs.specs.declared.Listing.the-variants as listing
+use Rattle.call_read.specs.declared.Listing.{Listing}
+use Rattle.call_read.specs.Reading.{Counts, size, area, end, listSays, onReply}
+use Rattle.call_read.specs.declared.Listing.the-variants as listing
 use Rattle.lsmfs_lines.specs.Line.{lineOf}
 use Rattle.lsmfs_lines.specs.Text.{textOf, linesFrom}
 
--- "The root directory's first block is D": its entries from number i on.
+-- F11: the entries of the root, which begins in block D, from number i on.
 abbrev pub rootFrom : ℕ → List ℕ → ℕ → Walk
 rootFrom K I i = skip i (walk (size K I) (area K I) (end K I) I (area K I))
 
--- "a line for each root entry"
+-- C16: a line for each of them whose record a page has room for
 unfoldable pub pageText : ℕ → List ℕ → ℕ → ℕ → List ℕ
 pageText K I i cap = linesFrom cap 0 (rootFrom K I i)
 

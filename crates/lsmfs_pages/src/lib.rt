@@ -1,33 +1,20 @@
-// The listing program without its image buffer: an image from standard input, checked, and a line for each entry of
-// its root to standard output, or why it is refused. No contract can say what is read or written: `page` says which bytes
-// are the lines, and the rest hands them on.
+// What the listing program writes, made in a lent buffer: a page of the root's lines at a time, or why an image is refused. The
+// program itself reads the image and writes these bytes, which no contract can say.
+use call_read::Listing;
+use call_volume::Answer;
 use limits::Refusal;
-use mfs::Answer;
-use mfs::Listing;
 ghost use Prim.Native.Nat.{_*_, _≤_};
 ghost use lib.ListN.{length};
+ghost use Rattle.limits.specs.Refusals.{refusalNumber};
+ghost use Rattle.lsmfs_lines.specs.Line.{refusedLine};
 ghost use Rattle.lsmfs_pages.specs.Page.{Pages, PageFits, Turned};
+ghost use Rattle.lsmfs_pages.specs.Says.{Told, PageTold, Says};
 
-const K: u32 = 8;
-
-// Writes the first n bytes.
-fn put(text: &[u8], n: usize) {
-    if n <= text.len() {
-        io::write_all(1, &text[..n]);
-    }
-}
-
-// Writes `refused N`.
-fn refuse(r: Refusal) {
-    let mut out = [0u8; 19];
-    let n = lsmfs_lines::refused_line(&mut out, r.number() as u32);
-    put(&out, n);
-}
-
-// The check that comes before the listing. 16 bytes have a bit for each block of 65,536 bytes.
-fn checked(img: &[u8]) -> Answer {
-    let mut work = [0u8; 16];
-    mfs::check(img, K, &mut work)
+// How many bytes of text stand at the buffer's start, and the number of the entry after them: where that is the number asked for,
+// nothing is left.
+pub struct Said {
+    pub len: usize,
+    pub next: u32,
 }
 
 // A listing's answer with the text of its records in their place.
@@ -53,56 +40,43 @@ pub fn page(img: &[u8], k: u32, i: u32, out: &mut [u8]) -> Listing
     in_text(l, &records, out)
 }
 
-// Writes the page from entry number i on; answers the number after it, which is i where there is none.
-fn put_page(img: &[u8], i: u32) -> u32 {
-    let mut out = [0u8; 3072];
-    let p = page(img, K, i, &mut out);
-    match p {
-        Listing::Records(n, next) => {
-            put(&out, n);
-            next
-        }
-        Listing::Refused(r) => {
-            refuse(r);
-            i
-        }
+// `refused N` and a newline.
+fn refused(out: &mut [u8], r: Refusal, i: u32) -> Said
+    requires { ⌜ 3072 ≤ length (now out) ⌝ }
+    ensures { λ s. ⌜ Told (now (out .entry)) (now (out .exit)) (refusedLine (refusalNumber r)) i s ⌝ }
+{
+    let n = r.number() as u32;
+    let len = lsmfs_lines::refused_line(out, n);
+    Said { len, next: i }
+}
+
+// A page that stands in the buffer, or the line of its refusal.
+fn page_said(out: &mut [u8], l: Listing, i: u32) -> Said
+    requires { ⌜ 3072 ≤ length (now out) ⌝ }
+    ensures { λ s. ⌜ PageTold (now (out .entry)) (now (out .exit)) i l s ⌝ }
+{
+    match l {
+        Listing::Records(len, next) => Said { len, next },
+        Listing::Refused(r) => refused(out, r, i),
     }
 }
 
-// Page after page, while they go on.
-fn put_root(img: &[u8]) {
-    let mut i: u32 = 0;
-    let mut next = put_page(img, 0);
-    while i < next {
-        i = next;
-        next = put_page(img, i);
+// What is to be written of an image of at most 65,536 bytes from its root's entry number i on; `more` says that the input goes on
+// after them. 16 bytes of work buffer have a bit for each block. Refusals: 1, 2, 3, 16, 17.
+pub fn say(img: &[u8], k: u32, more: bool, i: u32, out: &mut [u8]) -> Said
+    requires { ⌜ 3072 ≤ length (now out) ⌝ }
+    ensures { λ s. ⌜ Says k (now (img .entry)) more i (now (out .entry)) (now (out .exit)) s ⌝ }
+{
+    if more {
+        return refused(out, Refusal::BadImage, i);
     }
-}
-
-// Writes what there is to say of an image of at most 65,536 bytes.
-pub fn show(img: &[u8]) {
-    let a = checked(img);
+    let mut work = [0u8; 16];
+    let a = mfs::check(img, k, &mut work);
     match a {
-        Answer::Success => put_root(img),
-        Answer::Refused(r) => refuse(r),
-    }
-}
-
-// Whether standard input goes on.
-fn goes_on() -> bool {
-    let mut past = [0u8; 1];
-    io::read_full(0, &mut past) != 0
-}
-
-// Reads an image into the buffer and writes what there is to say of it. An image that fills the buffer and goes on
-// is too long.
-pub fn run(img: &mut [u8]) {
-    let n = io::read_full(0, img);
-    if n == img.len() {
-        if goes_on() {
-            refuse(Refusal::BadImage);
-            return;
+        Answer::Refused(r) => refused(out, r, i),
+        Answer::Success => {
+            let l = page(img, k, i, out);
+            page_said(out, l, i)
         }
     }
-    show(&img[..n]);
 }

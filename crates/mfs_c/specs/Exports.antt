@@ -1,4 +1,4 @@
--- What each export tells its caller: a call of `mfs` was made, and 0 with its values in the out parameters, or the number of its refusal
+-- C15: what each export tells its caller: a call of `mfs` was made, and 0 with its values in the out parameters, or its refusal
 -- with every out parameter as it was. Definitions alone.
 use mathlib.Core.Path.{_≡_}
 use mathlib.Core.List.{List, [], _∷_}
@@ -13,25 +13,25 @@ use Rattle.file.specs.declared.ReadOut.{ReadOut}
 use Rattle.file.specs.declared.WriteOut.{WriteOut}
 use Rattle.file.specs.Post.{SoughtIs}
 use Rattle.file.specs.Written.{countedSays}
-use Rattle.mfs.specs.declared.Answer.{Answer}
-use Rattle.mfs.specs.declared.Space.{Space}
-use Rattle.mfs.specs.declared.OpenOut.{OpenOut}
-use Rattle.mfs.specs.declared.InfoOut.{InfoOut}
-use Rattle.mfs.specs.declared.Listing.{Listing}
-use Rattle.mfs.specs.Says.{says, soughtSays, Sizes, spaceSays}
-use Rattle.mfs.specs.Format.{Formats, Uses}
-use Rattle.mfs.specs.Reading.{About, Counts, openSays, Opens, infoSays, Informs, listSays, Lists, Reads}
-use Rattle.mfs.specs.Checking.{Checks}
-use Rattle.mfs.specs.Changing.{CreatesFile, CreatesDir, Deletes, Writes}
+use Rattle.call_volume.specs.declared.Answer.{Answer}
+use Rattle.call_volume.specs.declared.Space.{Space}
+use Rattle.call_read.specs.declared.OpenOut.{OpenOut}
+use Rattle.call_read.specs.declared.InfoOut.{InfoOut}
+use Rattle.call_read.specs.declared.Listing.{Listing}
+use Rattle.call_volume.specs.Says.{says, soughtSays, Sizes, spaceSays}
+use Rattle.call_volume.specs.Format.{Formats, Uses}
+use Rattle.call_read.specs.Reading.{About, Counts, openSays, Opens, infoSays, Informs, listSays, Lists, Reads}
+use Rattle.call_volume.specs.Checking.{Checks}
+use Rattle.call_change.specs.Changing.{CreatesFile, CreatesDir, Deletes, Writes}
 
--- The version of the exports: their names, their parameters and what these mean. It goes up by one where a program that was compiled
+-- C17: the version of the exports: names, parameters and what these mean. It goes up by one where a program that was compiled
 -- against the exports as they were could no longer call them as they are.
 abbrev pub abiVersion : ℕ
 abiVersion = 1
 
 -- ---- how an answer is told
 
--- 0, or 01's number of the refusal
+-- 0, or the number of the refusal
 abbrev pub told : {A : Type 0} → Reply A → ℕ
 told (accepted a) = 0
 told (refused k) = k
@@ -41,7 +41,7 @@ abbrev pub outOf : {A B : Type 0} → Reply A → (A → B) → B → B
 outOf (accepted a) f old = f a
 outOf (refused k) f old = old
 
--- "A handle holds the holding directory's first address, the name, the file's first address, size and position": four numbers, in the order directory,
+-- H1: a handle of a caller in C: four numbers, in the order directory,
 -- file, size, position, and a name of len bytes in an array of 255.
 abbrev pub handleOf : List ℕ → List ℕ → ℕ → Handle
 handleOf ns x len =

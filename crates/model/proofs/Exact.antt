@@ -1,4 +1,4 @@
--- The tree determines the image, but for the blocks that are neither superblock nor bitmap nor reached: what makes "any two outcomes are equal" a lemma.
+-- The tree determines the image but for the blocks that are neither superblock nor bitmap nor reached: so D1's outcome is one.
 use mathlib.Core.Path.{_≡_, sym, ap, _∙_}
 use mathlib.Core.List.{List}
 use Prim.Native.Nat.{ℕ, suc, _+_, _-_, _*_, _/_, _%_, _≤_, _<_}

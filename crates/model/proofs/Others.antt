@@ -1,4 +1,4 @@
--- A write to one file leaves every other file as it was: what L12 rests on.
+-- A write to one file leaves every other file as it was (S3).
 use mathlib.Core.Path.{_≡_, refl, sym, ap, _∙_, subst}
 use mathlib.Core.Bool.{true, false}
 use mathlib.Core.Logic.{_⊎_, inl, inr}

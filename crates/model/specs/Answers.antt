@@ -1,5 +1,5 @@
--- 0. How an answer is said on paper: a value, or 01's number of a refusal. Definitions alone.
-use mathlib.Core.Bool.{Bool, true, false}
+-- 0. How an answer is said: a value, or the number of a refusal (the rules R). Definitions alone.
+use mathlib.Core.Bool.{Bool}
 use mathlib.Core.List.{List, [], _∷_}
 use Prim.Native.Nat.{ℕ, zero, suc}
 use Rattle.wire.specs.Pick.{pick}
@@ -14,11 +14,11 @@ unfoldable pub andThen : {A B : Type 0} → Reply A → (A → Reply B) → Repl
 andThen (accepted a) f = f a
 andThen (refused k) f = refused k
 
--- k where the test holds, else 0, which is no refusal
+-- k where the test holds, else 0, which is the number of no refusal
 unfoldable pub when : ℕ → Bool → ℕ
 when k b = pick b k 0
 
--- the first refusal of a list in 01's order, 0 where there is none
+-- O1: the first refusal of a list, which stands in the call's order; 0 where there is none
 unfoldable pub firstOf : List ℕ → ℕ
 firstOf [] = 0
 firstOf (zero ∷ ks) = firstOf ks

@@ -1,6 +1,6 @@
 -- 5. The changing calls, exactly: what each makes of the tree, and of the image around it. Definitions alone.
 use mathlib.Core.Path.{_≡_}
-use mathlib.Core.Bool.{Bool, true, false}
+use mathlib.Core.Bool.{Bool}
 use mathlib.Core.Option.{Option, none, some}
 use mathlib.Core.List.{List, [], _∷_, _++_}
 use Prim.Native.Nat.{ℕ, zero, suc, _+_, _-_, _*_, _≤_, _<_}
@@ -9,7 +9,7 @@ use lib.ListN.{length, getD, take, drop}
 use Rattle.wire.specs.Be.{bytes, splice, zeros}
 use Rattle.wire.specs.Pick.{pick}
 use Rattle.block.specs.Block.{Kept}
-use Rattle.model.specs.Tree.{Name, Cell, Node, file, device, sub, Entry, Block, Tree, any, first, then, orElse, entriesOf, called, holds, lookup, lessFirst, used, inside, Absent, insert, change, delete, Edit, edit, Some, find, blank, Bare}
+use Rattle.model.specs.Tree.{Name, Cell, Node, file, device, sub, Entry, Block, Tree, any, then, orElse, entriesOf, called, holds, lookup, lessFirst, used, inside, Absent, insert, change, delete, Edit, edit, Some, find, blank, Bare}
 use Rattle.model.specs.Render.{Piece, blocksAt, blocks, ats, count, ShowsAll}
 use Rattle.model.specs.Geometry.{Geo, blockSize, mapAt, dataAt, reach}
 use Rattle.model.specs.Volume.{GoodName, fileLimit, blocksFor, Volume}
@@ -57,7 +57,7 @@ pathTo (suc d) a t = pick (eqb a (blocksAt t)) (some []) (among (pathTo d a) (en
 
 -- ---- room
 
--- "A new block is the lowest clear index within reach": of the k addresses from a on, those whose mark f is 0, lowest first.
+-- F6: of the k addresses from a on, those whose mark f is 0, the lowest first, since that one is taken first.
 unfoldable pub clearFrom : (ℕ → ℕ) → ℕ → ℕ → List ℕ
 clearFrom f a zero = []
 clearFrom f a (suc k) = pick (eqb (f a) 0) (a ∷ clearFrom f (suc a) k) (clearFrom f (suc a) k)
@@ -72,11 +72,11 @@ freeBlocks g d t = clearFrom (λ b. count b (blocks (blockSize g) d t)) (dataAt 
 abbrev pub entryRoom : Geo → ℕ
 entryRoom g = blockSize g - 5
 
--- "used + 18 + length <= 507"
+-- C9: behind the entries of the block, one of that name ends at cap or before.
 unfoldable pub hasRoom : {X : Type 0} → ℕ → Name → Block X → Bool
 hasRoom cap n b = leb (used (b .entries) + (18 + length n)) cap
 
--- How many blocks a create adds: "else a new block is linked at the end. Then one block for the entry".
+-- C9: how many blocks a create takes: one for the entry, and one before it for the directory where none of its blocks has room.
 unfoldable pub toCreate : {X : Type 0} → ℕ → Name → List (Block X) → ℕ
 toCreate cap n bs = pick (any (hasRoom cap n) bs) 1 2
 
@@ -103,7 +103,7 @@ dirAdded cap w x n now (suc e) bs = insert cap w (record { name = n; time = now;
 unfoldable pub createdDir : (d : ℕ) → ℕ → List Name → Name → ℕ → ℕ → ℕ → Tree d → Tree d
 createdDir d cap p n now w x t = edit d p (λ _. now) (dirAdded cap w x n now) t
 
--- "its 512 bytes become zero": a new file's block
+-- F6: a new file's block, all zero as every block that was just taken
 abbrev pub emptyCell : Geo → ℕ → Cell
 emptyCell g x = record { at = x; body = zeros (blockSize g - 4) }
 
@@ -112,7 +112,7 @@ emptyCell g x = record { at = x; body = zeros (blockSize g - 4) }
 unfoldable pub deleted : (d : ℕ) → List Name → Name → ℕ → Tree d → Tree d
 deleted d p n now t = edit d p (λ _. now) (λ e bs. delete n bs) t
 
--- What a delete leaves of a directory block that it empties and unlinks: its old next address, then zeros. (L5 makes it zeros.)
+-- C14: what a delete leaves of a directory block that it empties and gives back: its old next address, then zeros.
 unfoldable pub bareLeft : {X : Type 0} → ℕ → ℕ → ℕ → List (Entry X) → List Piece
 bareLeft B a next [] = record { at = a; full = bytes 4 next ++ zeros (B - 4) } ∷ []
 bareLeft B a next (e ∷ es) = []
@@ -127,7 +127,7 @@ leftover B n (b ∷ bs) = pick (holds n b) [] (leftoverLater B n bs)
 
 -- ---- write
 
--- All data bytes of a chain, in order; a file's bytes are the first `size` of them.
+-- F12: all data bytes of a chain, in order; a file's bytes are the first `size` of them.
 unfoldable pub stream : List Cell → List ℕ
 stream [] = []
 stream (c ∷ cs) = c .body ++ stream cs
@@ -145,8 +145,8 @@ unfoldable pub chop : ℕ → List ℕ → List ℕ → List Cell
 chop w [] l = []
 chop w (a ∷ xs) l = record { at = a; body = take w l } ∷ chop w xs (drop w l)
 
--- "the file becomes its first c bytes and the buffer ... Missing blocks are added in order; blocks past the end are freed. Stale bytes
--- after the end in a kept block stay." The chain after a write of buf at c.
+-- C12: the chain after a write of buf at c: as many blocks as the new size needs, the old ones first, then free ones. The bytes
+-- of buf lie over the old ones from c on, so that in a kept block what stands behind the file's end stays.
 unfoldable pub rewrite : ℕ → List ℕ → ℕ → List ℕ → List Cell → List Cell
 rewrite B free c buf cs =
     chop (B - 4) (take (blocksFor B (c + length buf)) (places cs ++ free))
@@ -158,7 +158,7 @@ refiled now s cs n k (file z ds) = record { name = n; time = now; node = file s 
 refiled now s cs n k (device z ds) = record { name = n; time = k; node = device z ds }
 refiled now s cs n k (sub x) = record { name = n; time = k; node = sub x }
 
--- "Size and time go into the entry": the tree with the file there renewed.
+-- C12: the tree with the file there renewed: blocks, size and time. The directory's own time stays, as its sum does.
 unfoldable pub rewritten : (d : ℕ) → List Name → Name → ℕ → ℕ → List Cell → Tree d → Tree d
 rewritten d p n now s cs t = edit d p (λ k. k) (λ e bs. change n (λ x. refiled now s cs (x .name) (x .time) (x .node)) bs) t
 
@@ -170,7 +170,7 @@ pub record Outside (g : Geo) (d : ℕ) (t : Tree d) (b : ℕ) : Type 0 where
   pub not-map : mapAt g ≤ b → b < dataAt g → ⊥
   pub not-reached : count b (blocks (blockSize g) d t) ≡ 0
 
--- What a changing call makes of the image: the volume of the new tree u; the pieces `left` over; every other byte as it was, so
+-- C14: what a changing call makes of the image: the volume of the new tree u; the pieces `left` over; all other bytes kept, so
 -- block K+1, blocks below K and from n on, free blocks and freed ones.
 pub record Makes (g : Geo) (d : ℕ) (u : Tree d) (left : List Piece) (I J : List ℕ) : Type 0 where
   pub volume : Volume g J d u
@@ -179,14 +179,14 @@ pub record Makes (g : Geo) (d : ℕ) (u : Tree d) (left : List Piece) (I J : Lis
 
 -- ---- the accepted calls, each with what it asks of the tree (the other side of its refusals)
 
--- Create a file: not 8, 5/6, 7, 9.
+-- C9, S6: create a file: not 8, 5/6, 7, 9.
 pub record TreeCreatesFile (g : Geo) (d : ℕ) (p : List Name) (n : Name) (now : ℕ) (t : Tree d) (I J : List ℕ) : Type 0 where
   pub vacant : Vacant d p n t
   pub name : GoodName n
   pub room : toCreate (entryRoom g) n (vacant .dir .1) ≤ length (freeBlocks g d t)
   pub makes : Makes g d (created d (entryRoom g) p n now (dirBlock (freeBlocks g d t)) 0 (emptyCell g (entryBlock g n (vacant .dir .1) (freeBlocks g d t)) ∷ []) t) [] I J
 
--- Create a directory: not 8, 5/6, 15, 7, 9.
+-- C10, S6: create a directory: not 8, 5/6, 15, 7, 9.
 pub record TreeCreatesDir (g : Geo) (d : ℕ) (p : List Name) (n : Name) (now : ℕ) (t : Tree d) (I J : List ℕ) : Type 0 where
   pub vacant : Vacant d p n t
   pub name : GoodName n
@@ -194,13 +194,13 @@ pub record TreeCreatesDir (g : Geo) (d : ℕ) (p : List Name) (n : Name) (now : 
   pub room : toCreate (entryRoom g) n (vacant .dir .1) ≤ length (freeBlocks g d t)
   pub makes : Makes g d (createdDir d (entryRoom g) p n now (dirBlock (freeBlocks g d t)) (entryBlock g n (vacant .dir .1) (freeBlocks g d t)) t) [] I J
 
--- Delete: not 5/6, 14.
+-- C11, S6: delete: not 5/6, 14.
 pub record TreeDeletes (g : Geo) (d : ℕ) (p : List Name) (n : Name) (now : ℕ) (t : Tree d) (I J : List ℕ) : Type 0 where
   pub occupied : Occupied d p n t
   pub bare : Bare (occupied .dir .0) (occupied .entry .node)
   pub makes : Makes g d (deleted d p n now t) (leftover (blockSize g) n (occupied .dir .1)) I J
 
--- Write: not 13, 11 (the file is there, and the position in it), 10, 9.
+-- C12, S6: write: not 13, 11 (the file is there, and the position in it), 10, 9.
 pub record TreeWrites (g : Geo) (d : ℕ) (p : List Name) (n : Name) (now c : ℕ) (buf : List ℕ) (t : Tree d) (I J : List ℕ) : Type 0 where
   pub size : ℕ
   pub time : ℕ

@@ -1,6 +1,5 @@
 -- 2. The bytes of a tree: every block that it reaches, with all its bytes. B is the block size. Definitions alone.
 use mathlib.Core.Path.{_≡_}
-use mathlib.Core.Bool.{Bool, true, false}
 use mathlib.Core.Option.{Option, none, some}
 use mathlib.Core.List.{List, [], _∷_, _++_}
 use Prim.Native.Nat.{ℕ, zero, suc, _+_, _-_, _*_, _≤_, _<_}
@@ -8,7 +7,7 @@ use lib.Dec.{eqb}
 use lib.ListN.{length, getD, replicate}
 use Rattle.wire.specs.Be.{bytes}
 use Rattle.wire.specs.Pick.{pick}
-use Rattle.model.specs.Tree.{Name, Cell, Node, file, device, sub, Entry, Block, Below, Tree, then, called, holds, lookup, weight, used, sum, inside}
+use Rattle.model.specs.Tree.{Name, Cell, Node, file, device, sub, Entry, Block, Below, Tree, then, called, holds, lookup, weight, sum, inside}
 
 -- A block's address and all its bytes.
 pub record Piece : Type 0 where
@@ -34,7 +33,7 @@ blocksAt (b ∷ bs) = b .at
 unfoldable pub padded : ℕ → List ℕ → List ℕ
 padded n l = l ++ replicate (n - length l) 0
 
--- 01, "kind (0 directory, 1 file, 2 device), address 4, size 4, time 8, name length 1, name".
+-- F9: an entry's kind, first address and size, and all its bytes.
 unfoldable pub kindOf : {X : Type 0} → Node X → ℕ
 kindOf (file s cs) = 1
 kindOf (device s cs) = 2
@@ -58,7 +57,7 @@ unfoldable pub entriesBytes : {X : Type 0} → View X → List (Entry X) → Lis
 entriesBytes v [] = []
 entriesBytes v (e ∷ es) = entryBytes v e ++ entriesBytes v es
 
--- A chain of a file or a device: each block is the next address and its data.
+-- F8: a chain of a file or a device: each block is the next address and its data.
 unfoldable pub cellPieces : List Cell → List Piece
 cellPieces [] = []
 cellPieces (c ∷ cs) = record { at = c .at; full = bytes 4 (cellsAt cs) ++ c .body } ∷ cellPieces cs
@@ -72,7 +71,7 @@ unfoldable pub entryPieces : {X : Type 0} → View X → List (Entry X) → List
 entryPieces v [] = []
 entryPieces v (e ∷ es) = nodePieces v (e .node) ++ entryPieces v es
 
--- A directory: each block is the next address, its entries and, by W3 ("bytes after a block's last entry are zero"), zeros.
+-- F8, W3: a directory: each block is the next address, its entries, and zeros behind the last of them.
 unfoldable pub dirPieces : {X : Type 0} → ℕ → View X → List (Block X) → List Piece
 dirPieces B v [] = []
 dirPieces B v (b ∷ bs) =
@@ -91,7 +90,7 @@ unfoldable pub ats : List Piece → List ℕ
 ats [] = []
 ats (x ∷ xs) = x .at ∷ ats xs
 
--- "each block reached from the root": their addresses, in walking order.
+-- W5: the addresses of all blocks that are reached from the root, in walking order.
 abbrev pub blocks : ℕ → (d : ℕ) → Tree d → List ℕ
 blocks B d t = ats (render B d t)
 
@@ -110,7 +109,7 @@ abbrev pub ShowsAll : ℕ → List ℕ → List Piece → Type 0
 ShowsAll B I [] = Unit {0}
 ShowsAll B I (x ∷ xs) = Shows I (B * x .at) (x .full) × ShowsAll B I xs
 
--- ---- the place of a directory's own time ("the time field in the holding directory's own entry")
+-- ---- the place of a directory's own time, which D3 excepts
 
 unfoldable pub offset : {X : Type 0} → Name → List (Entry X) → ℕ
 offset n [] = 0

@@ -3,41 +3,41 @@ use mathlib.Core.Path.{_≡_}
 use mathlib.Core.Bool.{Bool, true, false}
 use mathlib.Core.Option.{Option, none, some}
 use mathlib.Core.List.{List, [], _∷_, _++_}
-use Prim.Native.Nat.{ℕ, zero, suc, _+_, _*_, _≤_, _<_}
+use Prim.Native.Nat.{ℕ, zero, suc, _+_, _≤_}
 use lib.Dec.{leb}
 use lib.ListN.{length}
 use Rattle.wire.specs.Pick.{pick, same}
 
 -- ---- the tree
 
--- 01: "name 1 to 255 bytes": which lists of bytes are names says `GoodName` in Volume.
+-- W3: a list of bytes; which ones are names says `GoodName` in Volume.
 abbrev pub Name : Type 0
 Name = List ℕ
 
--- 01, "Linked block: bytes 0-3 next address (0 ends), then 508 data bytes": a block of a file or a device, its address and its data bytes.
+-- F8: a block of a file or a device, its address and its data bytes. The next address follows from the chain.
 pub record Cell : Type 0 where
   pub at : ℕ
   pub body : List ℕ
 
--- 01, "kind (0 directory, 1 file, 2 device)": what an entry stands for, where X is what a subdirectory is.
+-- F9: what an entry stands for, by its kind, where X is what a subdirectory is.
 -- A file and a device have a size and blocks. A subdirectory's size is no part of it, since it is a sum.
 pub data Node (X : Type 0) : Type 0 where
   file : ℕ → List Cell → Node X
   device : ℕ → List Cell → Node X
   sub : X → Node X
 
--- 01, "Directory entry": its name, its time and what it stands for; kind, address and size follow from that.
+-- F9: an entry is its name, its time and what it stands for; kind, address and size follow from that.
 pub record Entry (X : Type 0) : Type 0 where
   pub name : Name
   pub time : ℕ
   pub node : Node X
 
--- A directory's block: its address and its entries in order.
+-- F11: a directory's block: its address and its entries in order.
 pub record Block (X : Type 0) : Type 0 where
   pub at : ℕ
   pub entries : List (Entry X)
 
--- 01, "depth at most 16": what may be below a directory that has d levels left, and such a directory, its blocks in chain order.
+-- W4: what may be below a directory with d levels left, and such a directory, its blocks in chain order. So no tree is too deep.
 abbrev pub Below : ℕ → Type 0
 Below zero = ⊥
 Below (suc d) = List (Block (Below d))
@@ -93,7 +93,7 @@ lookup n bs = then (first (holds n) bs) (λ b. first (called n) (b .entries))
 
 -- ---- sizes
 
--- 01, "header 18" and "the sum of 18 + name length over its entries": an entry's bytes; a block's; a directory's, which is its size.
+-- W4: the bytes of an entry; of a block's entries; of a directory's, which is the size that its own entry says.
 unfoldable pub weight : {X : Type 0} → Entry X → ℕ
 weight e = 18 + length (e .name)
 
@@ -105,7 +105,7 @@ unfoldable pub sum : {X : Type 0} → List (Block X) → ℕ
 sum [] = 0
 sum (b ∷ bs) = used (b .entries) + sum bs
 
--- 01, "each directory block but the first has an entry" (and there is a first).
+-- W4: there is a first block, and every later one has an entry.
 abbrev pub Filled : {X : Type 0} → List (Block X) → Type 0
 Filled [] = Unit {0}
 Filled (b ∷ bs) = (1 ≤ length (b .entries)) × Filled bs
@@ -120,12 +120,12 @@ Packed (b ∷ bs) = Filled bs
 abbrev pub fill : {X : Type 0} → (List (Entry X) → List (Entry X)) → Block X → Block X
 fill h b = record { at = b .at; entries = h (b .entries) }
 
--- 01, "into the first block, in chain order, where used + 18 + length <= 507; else a new block is linked at the end": cap is 507, w the new block.
+-- C9: the entry goes to the first block where it ends at cap or before, else to a new block w behind the last one.
 unfoldable pub insert : {X : Type 0} → ℕ → ℕ → Entry X → List (Block X) → List (Block X)
 insert cap w e [] = record { at = w; entries = e ∷ [] } ∷ []
 insert cap w e (b ∷ bs) = pick (leb (used (b .entries) + weight e) cap) (fill (λ es. es ++ (e ∷ [])) b ∷ bs) (b ∷ insert cap w e bs)
 
--- The entry of that name becomes h of it.
+-- C12, C13: the entry of that name becomes h of it.
 unfoldable pub change : {X : Type 0} → Name → (Entry X → Entry X) → List (Block X) → List (Block X)
 change n h bs = onFirst (holds n) (fill (onFirst (called n) h)) bs
 
@@ -134,7 +134,7 @@ unfoldable pub unlessBare : {X : Type 0} → ℕ → List (Entry X) → List (Bl
 unlessBare a [] bs = bs
 unlessBare a (e ∷ es) bs = record { at = a; entries = e ∷ es } ∷ bs
 
--- 01, "the rest of the block moves down" and "a block now empty that isn't the first is unlinked": the entry of that name goes.
+-- C11: the entry of that name goes, and its block with it where that has no other entry and is not the first.
 unfoldable pub deleteLater : {X : Type 0} → Name → List (Block X) → List (Block X)
 deleteLater n [] = []
 deleteLater n (b ∷ bs) = pick (holds n b) (unlessBare (b .at) (lessFirst (called n) (b .entries)) bs) (b ∷ deleteLater n bs)
@@ -163,7 +163,7 @@ unfoldable pub atEnd : List Name → (ℕ → ℕ) → ℕ → ℕ
 atEnd [] g k = g k
 atEnd (n ∷ p) g k = k
 
--- 01, "the holding directory's own entry, if it has one, gets the new sum and the time": the tree with f of the directory at path p,
+-- C13: the tree with f of the directory at path p,
 -- and g of the time in that directory's own entry. (The sum is rendered.)
 unfoldable pub edit : (d : ℕ) → List Name → (ℕ → ℕ) → Edit → Tree d → Tree d
 edit d [] g f t = f d t
@@ -191,7 +191,7 @@ find (suc d) (n ∷ p) t = then (lookup n t) (λ e. inside (find d p) (e .node))
 unfoldable pub blank : (d : ℕ) → ℕ → Tree d
 blank d a = record { at = a; entries = [] } ∷ []
 
--- 01, refusal 14, "directory to delete has entries": this one has none. (A file and a device have none to lose.)
+-- R14: this one has no entries. (A file and a device have none to lose.)
 abbrev pub NoEntries : {X : Type 0} → List (Block X) → Type 0
 NoEntries [] = Unit {0}
 NoEntries (b ∷ bs) = (b .entries ≡ []) × NoEntries bs

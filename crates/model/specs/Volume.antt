@@ -1,10 +1,12 @@
 -- 4. A well-formed volume: W1 to W5. Definitions alone.
 use mathlib.Core.Path.{_≡_}
+use mathlib.Core.Bool.{true}
 use mathlib.Core.List.{List, [], _∷_}
 use Prim.Native.Nat.{ℕ, zero, suc, _+_, _-_, _*_, _/_, _^_, _≤_, _<_, max}
-use lib.ListN.{length, getD}
+use lib.ListN.{length}
 use Rattle.wire.specs.Pick.{pick}
 use Rattle.bits.specs.Bit.{bit}
+use Rattle.text.specs.Text.{isName}
 use Rattle.model.specs.Tree.{Name, Cell, Node, file, device, sub, Entry, Block, Below, Tree, called, used, Packed}
 use Rattle.model.specs.Render.{blocksAt, render, blocks, count, Shows, ShowsAll}
 use Rattle.model.specs.Geometry.{Geo, blockSize, mapAt, dataAt, mapBits, setBits, superBytes, Sound}
@@ -14,15 +16,12 @@ abbrev pub All : {A : Type 0} → (A → Type 0) → List A → Type 0
 All P [] = Unit {0}
 All P (x ∷ xs) = P x × All P xs
 
--- ---- W3: "names are 1 to 255 bytes of 0x20 to 0x7E without `/`, distinct in a directory"
-
-abbrev pub NameByte : ℕ → Type 0
-NameByte c = (32 ≤ c) × (c ≤ 126) × (c ≡ 47 → ⊥)
+-- ---- W3: a name has 1 to 255 bytes, well-formed UTF-8 without controls and without `/`; names are distinct in a directory
 
 pub record GoodName (n : Name) : Type 0 where
   pub some-bytes : 1 ≤ length n
   pub few-bytes : length n ≤ 255
-  pub allowed : All NameByte n
+  pub allowed : isName n ≡ true
 
 -- how many entries have that name: of a block's, and of a directory's
 unfoldable pub named : {X : Type 0} → Name → List (Entry X) → ℕ
@@ -35,25 +34,25 @@ namedIn n (b ∷ bs) = named n (b .entries) + namedIn n bs
 
 -- ---- W4
 
--- "file up to 2,147,483,647 bytes"
+-- F13: the longest file
 abbrev pub fileLimit : ℕ
 fileLimit = 2147483647
 
--- "max(1, ceil(size/508)) blocks"
+-- F12: how many blocks a file of s bytes has; an empty one has its first block too
 unfoldable pub blocksFor : ℕ → ℕ → ℕ
 blocksFor B s = max 1 ((s + (B - 5)) / (B - 4))
 
--- 508 data bytes
+-- F8: all data bytes of a block are there
 pub record GoodCell (B : ℕ) (c : Cell) : Type 0 where
   pub whole : length (c .body) ≡ B - 4
 
--- "a file within the size limit has max(1, ceil(size/508)) blocks"
+-- W4: a file is within the limit, and its chain is neither longer nor shorter than its size needs
 pub record GoodFile (B s : ℕ) (cs : List Cell) : Type 0 where
   pub limit : s ≤ fileLimit
   pub long : length cs ≡ blocksFor B s
   pub cells : All (GoodCell B) cs
 
--- "A device's chain has any length", but by W3 its address is in D..n-1, so it has a block.
+-- W4: a device's chain has any length; but by W3 its address is in D..n-1, so it has a block.
 pub record GoodDevice (B s : ℕ) (cs : List Cell) : Type 0 where
   pub limit : s < 2 ^ 32
   pub some-block : 1 ≤ length cs
@@ -70,12 +69,12 @@ pub record GoodEntry {X : Type 0} (B : ℕ) (S : X → Type 0) (e : Entry X) : T
   pub clock : e .time < 2 ^ 64
   pub below : GoodNode B S (e .node)
 
--- entries end by 507
+-- F10: the entries end where reading still finds the last of them
 pub record GoodBlock {X : Type 0} (B : ℕ) (S : X → Type 0) (b : Block X) : Type 0 where
   pub fits : used (b .entries) ≤ B - 5
   pub each : All (GoodEntry B S) (b .entries)
 
--- "each directory block but the first has an entry"; names are distinct
+-- W3, W4: no later block is empty; no two names are equal
 pub record GoodDir {X : Type 0} (B : ℕ) (S : X → Type 0) (bs : List (Block X)) : Type 0 where
   pub packed : Packed bs
   pub distinct : (n : Name) → namedIn n bs ≤ 1
@@ -91,30 +90,30 @@ GoodTree B d t = GoodDir B (GoodBelow B d) t
 -- ---- W1 to W4: the image has these numbers and this tree, and u as its used count.
 
 pub record Laid (g : Geo) (I : List ℕ) (d : ℕ) (t : Tree d) (u : ℕ) : Type 0 where
-  -- W1 "superblock as above with n inside the image, N >= 2, N mod 4097 not 1"
+  -- W1: the numbers fit the image, and block K is their superblock, to its last zero
   pub sound : Sound g (length I)
   pub top : Shows I (blockSize g * g .K) (superBytes g u)
-  -- "The root directory's first block is D", and every chain stands in the image: its next addresses, entries and zeros
+  -- F11: the root begins in block D. Every chain stands in the image: its next addresses, entries and zeros
   pub root : blocksAt t ≡ dataAt g
   pub shown : ShowsAll (blockSize g) I (render (blockSize g) d t)
-  -- W2 "every chain stays in D..n-1, ends, and no two chains share a block"
+  -- W2: no block is reached twice, and each lies in D..n-1. (That chains end is the tree's: it is finite.)
   pub once : (i : ℕ) → count i (blocks (blockSize g) d t) ≤ 1
   pub range : (i : ℕ) → 1 ≤ count i (blocks (blockSize g) d t) → (dataAt g ≤ i) × (i < g .n)
   -- W3, W4 (a directory's size is rendered as its sum; the depth is the type's)
   pub good : GoodTree (blockSize g) d t
 
--- ---- W5: "a bit is set exactly for each block reached from the root, bits past the data are clear, and the used count is D plus the
--- number of set bits".
+-- ---- W5: each bit says how often its block is reached, once or not at all; past the data no block is. The used count is
+-- D plus the number of set bits.
 
 pub record Volume (g : Geo) (I : List ℕ) (d : ℕ) (t : Tree d) : Type 0 where
   pub laid : Laid g I d t (dataAt g + setBits I g)
   pub marked : (x : ℕ) → x < mapBits g → bit I (blockSize g * mapAt g) x ≡ count (dataAt g + x) (blocks (blockSize g) d t)
 
--- "directories up to depth 16 (root is 0)"
+-- F13: the greatest depth of a directory
 abbrev pub maxDepth : ℕ
 maxDepth = 16
 
--- The one word that public contracts cite: the image, with its superblock at K, is a well-formed volume.
+-- W1 to W5 as the one word that public contracts cite: the image, with its superblock at K, is a well-formed volume.
 pub record WellFormed (K : ℕ) (I : List ℕ) : Type 0 where
   pub numbers : Geo
   pub here : numbers .K ≡ K

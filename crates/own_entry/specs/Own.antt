@@ -22,12 +22,12 @@ abbrev pub OwnIn : List ℕ → Own → Type 0
 OwnIn I Root = Unit {0}
 OwnIn I (At p) = (blockBytes * p .block .0 + blockBytes ≤ length I) × (p .offset + header ≤ blockBytes - 5)
 
--- 01, "The holding directory's own entry, if it has one, gets the new sum and the time": size z in its bytes 5 to 8, time k in 9 to 16.
+-- C13: the own entry with size z in its bytes 5 to 8 and time k in 9 to 16; the root has none.
 abbrev pub ownRenewed : ℕ → List ℕ → Own → ℕ → ℕ → List ℕ
 ownRenewed B I Root z k = I
 ownRenewed B I (At p) z k = splice (splice I (placeAt B (p .block .0) (p .offset) + 5) (bytes 4 z)) (placeAt B (p .block .0) (p .offset) + 9) (bytes 8 k)
 
--- "The new sum": that of the directory whose first block is dir, as it is now. (A volume's directory has one.)
+-- C13: the new sum is that of the directory whose first block is dir, as it is now. (A volume's directory has one.)
 abbrev pub ownSummed : ℕ → List ℕ → Own → ℕ → Summed → List ℕ
 ownSummed B I own time (Total z) = ownRenewed B I own z time
 ownSummed B I own time Damaged = I

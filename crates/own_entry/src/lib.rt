@@ -5,7 +5,6 @@ use read_dir::Place;
 use read_dir::Summed;
 use super_block::SuperBlock;
 ghost use mathlib.Core.Path.{_≡_};
-ghost use lib.ListN.{length};
 ghost use Rattle.block.specs.Block.{blockBytes};
 ghost use Rattle.super_block.specs.Super.{geoOf, Fit};
 ghost use Rattle.own_entry.specs.Own.{OwnIn, ownRenewed, sumRenewed};
@@ -28,7 +27,7 @@ fn renew_at(img: &mut [u8], p: Place, size: u32, time: u64)
     wire::put(img, at + 9, 8, time);
 }
 
-// The new size and the time go into a directory's own entry, if it has one.
+// C13: the new size and the time in a directory's own entry; the root has none.
 fn renew(img: &mut [u8], own: Own, size: u32, time: u64)
     requires { ⌜ OwnIn (now img) own ⌝ }
     ensures { λ _. ⌜ now (img .exit) ≡ ownRenewed blockBytes (now (img .entry)) own size time ⌝ }

@@ -1,58 +1,25 @@
--- The laws of `pathBytes`, `startsSlash`, `endsSlash`, `realPath` and `badPath`: first at an index, as a loop meets them, then of a whole path.
+-- The laws of `startsSlash`, `endsSlash`, `realPath` and `badPath`.
 use mathlib.Core.Path.{_≡_, refl, sym, ap, _∙_, subst}
-use mathlib.Core.Bool.{Bool, true, false, not, _||_, _&&_, or-true, and-false}
-use mathlib.Core.List.{List, [], _∷_, _++_}
-use Prim.Native.Nat.{ℕ, zero, suc, _+_, _-_, _≤_, _<_}
+use mathlib.Core.Bool.{Bool, true, false, not, _||_, _&&_, or-true, and-true, and-false}
+use mathlib.Core.Logic.{_⊎_, inl, inr}
+use mathlib.Core.List.{List, [], _∷_, _++_, append-assoc}
+use Prim.Native.Nat.{ℕ, suc, _+_, _-_, _≤_, _<_}
 use native.Mathlib.Nat.{zero-add}
-use native.Mathlib.Numerals.{add-one}
 use native.Mathlib.Omega.{arith}
 use lib.Dec.{ltb, leb, eqb}
-use lib.ListN.{length, getD, take, drop, replicate, length-append, length-replicate, drop-of-length-le}
-use lib.Seq.{drop-cons, take-length}
-use borrow.Author.Tests.{le-leb, lt-leb, lt-ltb, le-ltb, leb-true, leb-false, eq-eqb, ne-eqb}
+use lib.ListN.{length, getD, take, drop, replicate, length-append, length-replicate}
+use lib.Seq.{take-length}
+use borrow.Author.Tests.{lt-leb, lt-ltb, le-ltb, leb-true, leb-false, eq-eqb, ne-eqb, eqb-true}
 use Rattle.wire.specs.Be.{splice}
 use Rattle.wire.specs.Pick.{pick}
-use Rattle.wire.proofs.Laws.{length-splice, splice-append}
-use Rattle.wire.proofs.Picks.{pick-true, pick-false}
+use Rattle.wire.proofs.Numbers.{length-splice, splice-append}
+use Rattle.wire.proofs.Picks.{either, not-both, pick-true, pick-false}
+use Rattle.text.specs.Text.{isText}
+use Rattle.text.proofs.Laws.{text-slash, text-none}
 use Rattle.path.specs.Post.{PathIs, RealIs}
 use Rattle.path.specs.declared.Real.{Real}
 use Rattle.path.specs.declared.Real.the-variants.{Len, Refused}
-use Rattle.path.specs.Path.{slash, pathLimit, pathBytes, startsSlash, endsSlash, realPath, badPath}
-
--- ---- the bytes of a path, from index i on
-
-module _ (s : List ℕ) (i : ℕ) (e : pathBytes (drop i s) ≡ pathBytes s) where
-  pub bytes-done : length s ≤ i → true ≡ pathBytes s
-  unfolding pathBytes
-  bytes-done h = sym (ap pathBytes (drop-of-length-le s h)) ∙ e
-
-  pub bytes-low : i < length s → getD s i 0 < 32 → false ≡ pathBytes s
-  unfolding pathBytes
-  bytes-low h k = sym (ap pathBytes (drop-cons s i 0 h) ∙ rw (lt-leb 32 (getD s i 0) k)) ∙ e
-
-  pub bytes-high : i < length s → 126 < getD s i 0 → false ≡ pathBytes s
-  unfolding pathBytes
-  bytes-high h k = sym (ap pathBytes (drop-cons s i 0 h) ∙ rw (le-leb 32 (getD s i 0) (omega arith), lt-leb (getD s i 0) 126 k)) ∙ e
-
-  pub bytes-on : i < length s → 32 ≤ getD s i 0 → getD s i 0 ≤ 126 → pathBytes (drop (i + 1) s) ≡ pathBytes s
-  unfolding pathBytes
-  bytes-on h k m = sym (ap pathBytes (drop-cons s i 0 h) ∙ rw (le-leb 32 (getD s i 0) k, le-leb (getD s i 0) 126 m, add-one)) ∙ e
-
--- one after the other
-pub bytes-append : (a b : List ℕ) → pathBytes (a ++ b) ≡ pathBytes a && pathBytes b
-unfolding pathBytes
-bytes-append [] b = refl
-bytes-append (c ∷ a) b = go (leb 32 c && leb c 126) (bytes-append a b)
-  where
-    go : (t : Bool) → pathBytes (a ++ b) ≡ pathBytes a && pathBytes b → t && pathBytes (a ++ b) ≡ (t && pathBytes a) && pathBytes b
-    go true r = r
-    go false r = refl
-
--- slashes alone
-bytes-slashes : (k : ℕ) → pathBytes (replicate k slash) ≡ true
-unfolding pathBytes
-bytes-slashes zero = refl
-bytes-slashes (suc k) = bytes-slashes k
+use Rattle.path.specs.Path.{slash, pathLimit, startsSlash, endsSlash, realPath, badPath}
 
 -- ---- the slash at the start and at the end
 
@@ -74,6 +41,13 @@ ends-at (c ∷ d ∷ s) h =
     let e : suc (suc (length s)) - 1 ≡ suc (suc (length s) - 1) = omega arith in
     ends-at (d ∷ s) (λ x. omega arith) ∙ sym (ap (λ (n : ℕ). eqb (getD (c ∷ d ∷ s) n 0) slash) e)
 
+-- the bytes before that last slash
+unslashed : (s : List ℕ) → endsSlash s ≡ true → (a : List ℕ) × (s ≡ a ++ (slash ∷ []))
+unfolding endsSlash
+unslashed [] e = absurd (not-both e refl)
+unslashed (c ∷ []) e = ([], ap (λ (x : ℕ). x ∷ []) (eqb-true c slash e))
+unslashed (c ∷ d ∷ s) e = let r = unslashed (d ∷ s) e in (c ∷ r .0, ap (λ (x : List ℕ). c ∷ x) (r .1))
+
 -- the slashes that join a working directory to a path
 abbrev pub joint : List ℕ → List ℕ
 joint cwd = pick (endsSlash cwd) [] (slash ∷ [])
@@ -93,39 +67,52 @@ module _ (cwd : List ℕ) where
   pub joint-other : (length cwd ≡ 0 → ⊥) → (getD cwd (length cwd - 1) 0 ≡ slash → ⊥) → replicate 1 slash ≡ joint cwd
   joint-other h e = sym (pick-false [] (slash ∷ []) (ends-at cwd h ∙ ne-eqb _ _ e))
 
+-- text around a slash, whether the working directory ends in one or not: its bytes and the path's are tested apart
+text-joined : (cwd p : List ℕ) → isText (cwd ++ (joint cwd ++ p)) ≡ isText cwd && isText p
+text-joined cwd p = go (either (endsSlash cwd))
+  where
+    whole : (a : List ℕ) → cwd ≡ a ++ (slash ∷ []) → isText (cwd ++ p) ≡ isText cwd && isText p
+    whole a e = rw (e, append-assoc, text-slash, text-slash a [], text-none, and-true)
+
+    go : (endsSlash cwd ≡ true) ⊎ (endsSlash cwd ≡ false) → isText (cwd ++ (joint cwd ++ p)) ≡ isText cwd && isText p
+    go (inl t) = let u = unslashed cwd t in rw (pick-true [] (slash ∷ []) t) (whole (u .0) (u .1))
+    go (inr f) = rw (pick-false [] (slash ∷ []) f) (text-slash cwd p)
+
 -- ---- a path that starts with a slash
 
 module _ (cwd p : List ℕ) (h : startsSlash p ≡ true) where
-  pub real-plain : realPath cwd p ≡ p
+  real-plain : realPath cwd p ≡ p
   unfolding realPath
   real-plain = pick-true _ _ h
 
-  bad-plain : badPath cwd p ≡ (ltb pathLimit (length p) || not (pathBytes p))
+  bad-plain : badPath cwd p ≡ (ltb pathLimit (length p) || not (isText p))
   unfolding badPath
   bad-plain = rw (h, real-plain)
 
 -- ---- a path that doesn't, with k slashes before it
 
 module _ (cwd p : List ℕ) (k : ℕ) (h : startsSlash p ≡ false) (g : replicate k slash ≡ joint cwd) where
-  pub real-joined : realPath cwd p ≡ cwd ++ (replicate k slash ++ p)
+  real-joined : realPath cwd p ≡ cwd ++ (replicate k slash ++ p)
   unfolding realPath
   real-joined = pick-false _ _ h ∙ rw g
 
   joined-length : length (realPath cwd p) ≡ length cwd + (k + length p)
   joined-length = rw (real-joined, length-append, length-append, length-replicate)
 
-  joined-bytes : pathBytes (realPath cwd p) ≡ pathBytes cwd && pathBytes p
-  joined-bytes = rw (real-joined, bytes-append, bytes-append (replicate k slash), bytes-slashes)
+  joined-bytes : isText (realPath cwd p) ≡ isText cwd && isText p
+  unfolding realPath
+  joined-bytes = ap isText (pick-false _ _ h) ∙ text-joined cwd p
 
 bad-long : (cwd p : List ℕ) → pathLimit < length (realPath cwd p) → badPath cwd p ≡ true
 unfolding badPath
 bad-long cwd p h = rw (lt-ltb pathLimit (length (realPath cwd p)) h, or-true)
 
-bad-byte : (cwd p : List ℕ) → pathBytes (realPath cwd p) ≡ false → badPath cwd p ≡ true
+bad-byte : (cwd p : List ℕ) → isText (realPath cwd p) ≡ false → badPath cwd p ≡ true
 unfolding badPath
 bad-byte cwd p h = simp (h, or-true)
 
-good-joined : (cwd p : List ℕ) → startsSlash cwd ≡ true → length (realPath cwd p) ≤ pathLimit → pathBytes (realPath cwd p) ≡ true → badPath cwd p ≡ false
+good-joined : (cwd p : List ℕ) → startsSlash cwd ≡ true → length (realPath cwd p) ≤ pathLimit → isText (realPath cwd p) ≡ true
+    → badPath cwd p ≡ false
 unfolding badPath
 good-joined cwd p h k m = rw (h, le-ltb pathLimit (length (realPath cwd p)) k, m) (go (startsSlash p))
   where
@@ -172,14 +159,15 @@ join-is l cwd p a b c k h ea eb ec =
 -- ---- what each return gives: t is what a test answered
 
 module _ (l p : List ℕ) where
-  pub plain-long : pathLimit < length p → PathIs (ltb pathLimit (length p) || not (pathBytes p)) p l l Refused
+  pub plain-long : pathLimit < length p → PathIs (ltb pathLimit (length p) || not (isText p)) p l l Refused
   plain-long h = record { refused = rw (lt-ltb pathLimit (length p) h); kept = refl }
 
-  pub plain-byte : (t : Bool) → t ≡ pathBytes p → t ≡ false → PathIs (ltb pathLimit (length p) || not (pathBytes p)) p l l Refused
+  pub plain-byte : (t : Bool) → t ≡ isText p → t ≡ false → PathIs (ltb pathLimit (length p) || not (isText p)) p l l Refused
   plain-byte t e h = record { refused = rw (← e, h) (or-true (ltb pathLimit (length p))); kept = refl }
 
-  pub plain-good : (m : List ℕ) (t : Bool) → t ≡ pathBytes p → t ≡ true → length p ≤ pathLimit → m ≡ splice l 0 (take (length p) (drop 0 p))
-      → PathIs (ltb pathLimit (length p) || not (pathBytes p)) p l m (Len (length p))
+  pub plain-good : (m : List ℕ) (t : Bool) → t ≡ isText p → t ≡ true → length p ≤ pathLimit
+      → m ≡ splice l 0 (take (length p) (drop 0 p))
+      → PathIs (ltb pathLimit (length p) || not (isText p)) p l m (Len (length p))
   plain-good m t e h k x =
       record { good = rw (← e, h, le-ltb pathLimit (length p) k); long = refl; fits = k; stored = copied l p m 0 x }
 
@@ -194,19 +182,24 @@ module _ (cwd p l : List ℕ) (h : startsSlash p ≡ false) where
         let q = leb-false (length cwd + (k + length p)) pathLimit (sym e ∙ f) in
         record { refused = bad-long cwd p (rw (joined-length cwd p k h g) q); kept = refl }
 
-    pub joined-first : t ≡ pathBytes cwd → t ≡ false → RealIs cwd p l l Refused
+    pub joined-first : t ≡ isText cwd → t ≡ false → RealIs cwd p l l Refused
     joined-first e f = record { refused = bad-byte cwd p (rw (joined-bytes cwd p k h g, ← e, f)); kept = refl }
 
-    pub joined-second : t ≡ pathBytes p → t ≡ false → RealIs cwd p l l Refused
-    joined-second e f = record { refused = bad-byte cwd p (rw (joined-bytes cwd p k h g, ← e, f) (and-false (pathBytes cwd))); kept = refl }
+    pub joined-second : t ≡ isText p → t ≡ false → RealIs cwd p l l Refused
+    joined-second e f = record {
+      refused = bad-byte cwd p
+          (rw (joined-bytes cwd p k h g, ← e, f) (and-false (isText cwd)));
+      kept = refl;
+    }
 
   pub joined-good : (k : ℕ) → replicate k slash ≡ joint cwd → (m : List ℕ) (s t u v : Bool) → s ≡ startsSlash cwd → s ≡ true
-      → t ≡ leb (length cwd + (k + length p)) pathLimit → t ≡ true → u ≡ pathBytes cwd → u ≡ true → v ≡ pathBytes p → v ≡ true
+      → t ≡ leb (length cwd + (k + length p)) pathLimit → t ≡ true → u ≡ isText cwd → u ≡ true → v ≡ isText p → v ≡ true
       → m ≡ splice l 0 (cwd ++ (replicate k slash ++ p)) → RealIs cwd p l m (Len (length cwd + (k + length p)))
   joined-good k g m s t u v es fs et ft eu fu ev fv x =
       let q : length cwd + (k + length p) ≤ pathLimit = leb-true (length cwd + (k + length p)) pathLimit (sym et ∙ ft) in
       record {
-        good = good-joined cwd p (sym es ∙ fs) (rw (joined-length cwd p k h g) q) (rw (joined-bytes cwd p k h g, ← eu, ← ev, fu, fv));
+        good = good-joined cwd p (sym es ∙ fs) (rw (joined-length cwd p k h g) q)
+            (rw (joined-bytes cwd p k h g, ← eu, ← ev, fu, fv));
         long = sym (joined-length cwd p k h g);
         fits = q;
         stored = rw (real-joined cwd p k h g) x;
@@ -214,7 +207,7 @@ module _ (cwd p l : List ℕ) (h : startsSlash p ≡ false) where
 
 -- a path that starts with a slash is as it stands, whatever the working directory
 pub plain-real : (cwd p l m : List ℕ) (r : Real) (t : Bool) → t ≡ startsSlash p → t ≡ true
-    → PathIs (ltb pathLimit (length p) || not (pathBytes p)) p l m r → RealIs cwd p l m r
+    → PathIs (ltb pathLimit (length p) || not (isText p)) p l m r → RealIs cwd p l m r
 plain-real cwd p l m r t e h x =
     let s : startsSlash p ≡ true = sym e ∙ h in
     rw (real-plain cwd p s, bad-plain cwd p s) x

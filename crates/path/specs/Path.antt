@@ -1,23 +1,17 @@
--- Paths as lists of bytes, in 01's words. Definitions alone.
+-- Paths as lists of bytes. Definitions alone.
 use mathlib.Core.Bool.{Bool, true, false, not, _||_, _&&_}
 use mathlib.Core.List.{List, [], _∷_, _++_}
 use Prim.Native.Nat.{ℕ, zero, suc}
-use lib.Dec.{ltb, leb, eqb}
+use lib.Dec.{ltb, eqb}
 use lib.ListN.{length, take, drop}
 use Rattle.wire.specs.Pick.{pick, same}
+use Rattle.text.specs.Text.{isText}
 use Rattle.model.specs.Answers.{when}
+pub use Rattle.text.specs.Text.{slash}
 
--- `/`
-abbrev pub slash : ℕ
-slash = 47
-
--- "full path up to 1,024 bytes of 0x20 to 0x7E"
+-- F13, P2: a full path has up to 1,024 bytes, and they are text
 abbrev pub pathLimit : ℕ
 pathLimit = 1024
-
-unfoldable pub pathBytes : List ℕ → Bool
-pathBytes [] = true
-pathBytes (c ∷ l) = (leb 32 c && leb c 126) && pathBytes l
 
 unfoldable pub startsSlash : List ℕ → Bool
 startsSlash [] = false
@@ -28,13 +22,13 @@ endsSlash [] = false
 endsSlash (c ∷ []) = eqb c slash
 endsSlash (c ∷ d ∷ l) = endsSlash (d ∷ l)
 
--- "a path not starting with `/` is the working directory, a `/` if that doesn't end in one, then the path"
+-- P1: the full path of p, by the working directory where p is not full itself
 unfoldable pub realPath : List ℕ → List ℕ → List ℕ
 realPath cwd p = pick (startsSlash p) p (cwd ++ (pick (endsSlash cwd) [] (slash ∷ []) ++ p))
 
--- 4: "path length or byte; working directory not starting `/` where needed"
+-- R4: the working directory is looked at only where the path needs it
 unfoldable pub badPath : List ℕ → List ℕ → Bool
-badPath cwd p = (not (startsSlash p) && not (startsSlash cwd)) || (ltb pathLimit (length (realPath cwd p)) || not (pathBytes (realPath cwd p)))
+badPath cwd p = (not (startsSlash p) && not (startsSlash cwd)) || (ltb pathLimit (length (realPath cwd p)) || not (isText (realPath cwd p)))
 
 abbrev pub pathRefusal : List ℕ → List ℕ → ℕ
 pathRefusal cwd p = when 4 (badPath cwd p)
@@ -49,11 +43,11 @@ untrailed (c ∷ l) = grown (untrailed l) (eqb c slash)
     grown zero false = 1
     grown (suc k) b = suc (suc k)
 
--- "trailing slashes go if the length is above 1"
+-- P3: without its last slashes, so that `/a/` names `/a`; but a slash alone stays
 unfoldable pub trimmed : List ℕ → List ℕ
 trimmed l = pick (ltb 1 (length l)) (take (untrailed l) l) l
 
--- "the last name follows the last `/`": how many bytes of l stand before its last name
+-- P3: how many bytes of l stand before its last name, the last slash among them
 unfoldable pub beforeName : List ℕ → ℕ
 beforeName [] = 0
 beforeName (c ∷ l) = behind (beforeName l) (eqb c slash)
@@ -66,7 +60,7 @@ beforeName (c ∷ l) = behind (beforeName l) (eqb c slash)
 unfoldable pub lastName : List ℕ → List ℕ
 lastName l = drop (beforeName (trimmed l)) (trimmed l)
 
--- "and the directory part is what precedes it, or `/`": without the last slash, but for a slash that is the first byte
+-- P3: the directory part: without the last slash, but for a slash that is the first byte
 unfoldable pub dirPart : List ℕ → List ℕ
 dirPart l = take (kept (beforeName (trimmed l))) (trimmed l)
   where
@@ -75,7 +69,7 @@ dirPart l = take (kept (beforeName (trimmed l))) (trimmed l)
     kept (suc zero) = 1
     kept (suc (suc k)) = suc k
 
--- "splitting at `/`": the pieces of l
+-- P4: the pieces of l between its slashes
 unfoldable pub split : List ℕ → List (List ℕ)
 split [] = [] ∷ []
 split (c ∷ l) = pick (eqb c slash) ([] ∷ split l) (onHead c (split l))
@@ -84,11 +78,11 @@ split (c ∷ l) = pick (eqb c slash) ([] ∷ split l) (onHead c (split l))
     onHead c [] = (c ∷ []) ∷ []
     onHead c (x ∷ xs) = (c ∷ x) ∷ xs
 
--- "dropping leading slashes"
+-- P4: l without the slashes in front
 unfoldable pub unled : List ℕ → List ℕ
 unled [] = []
 unled (c ∷ l) = pick (eqb c slash) (unled l) (c ∷ l)
 
--- "The directory part is opened by dropping leading slashes and splitting at `/` ...; `/` itself is the root": the names on the way.
+-- P4: the names on the way from the root; none for the root itself.
 unfoldable pub steps : List ℕ → List (List ℕ)
 steps d = pick (same d (slash ∷ [])) [] (split (unled d))

@@ -8,7 +8,8 @@ ghost use lib.Dec.{ltb, leb};
 ghost use lib.ListN.{length, take, replicate};
 ghost use Rattle.wire.specs.Be.{splice};
 ghost use Rattle.wire.specs.Pick.{pick, same};
-ghost use Rattle.path.specs.Path.{slash, pathLimit, pathBytes, startsSlash, endsSlash, trimmed, beforeName};
+ghost use Rattle.text.specs.Text.{isText};
+ghost use Rattle.path.specs.Path.{slash, pathLimit, startsSlash, endsSlash, trimmed, beforeName};
 ghost use Rattle.path.specs.Post.{PathIs, RealIs, PartsIs, FirstIs, PieceIs};
 
 // The longest full path.
@@ -27,24 +28,6 @@ pub struct Parts {
     pub dir: usize,
     pub from: usize,
     pub to: usize,
-}
-
-// Whether every byte may stand in a path.
-fn path_bytes(s: &[u8]) -> bool
-    ensures { λ r. ⌜ r ≡ pathBytes (now (s .entry)) ⌝ }
-{
-    let mut i: usize = 0;
-    while i < s.len() {
-        let c = s[i];
-        if c < 32 {
-            return false;
-        }
-        if 126 < c {
-            return false;
-        }
-        i += 1;
-    }
-    true
 }
 
 fn starts_slash(s: &[u8]) -> bool
@@ -85,13 +68,13 @@ fn fits(a: usize, gap: usize, b: usize) -> bool
 // A path that starts with a slash is full as it stands.
 fn plain(full: &mut [u8], path: &[u8]) -> Real
     requires { ⌜ length (now full) ≡ pathLimit ⌝ }
-    ensures { λ r. ⌜ PathIs (ltb pathLimit (length (now (path .entry))) || not (pathBytes (now (path .entry)))) (now (path .entry)) (now (full .entry)) (now (full .exit)) r ⌝ }
+    ensures { λ r. ⌜ PathIs (ltb pathLimit (length (now (path .entry))) || not (isText (now (path .entry)))) (now (path .entry)) (now (full .entry)) (now (full .exit)) r ⌝ }
 {
     let n = path.len();
     if PATH_LIMIT < n {
         return Real::Refused;
     }
-    if !path_bytes(path) {
+    if !text::text(path) {
         return Real::Refused;
     }
     wire::copy(full, 0, path, 0, n);
@@ -122,10 +105,10 @@ fn joined(full: &mut [u8], cwd: &[u8], path: &[u8]) -> Real
     if !fits(cwd.len(), k, path.len()) {
         return Real::Refused;
     }
-    if !path_bytes(cwd) {
+    if !text::text(cwd) {
         return Real::Refused;
     }
-    if !path_bytes(path) {
+    if !text::text(path) {
         return Real::Refused;
     }
     join(full, cwd, k, path);
@@ -143,7 +126,7 @@ pub fn realpath(full: &mut [u8], cwd: &[u8], path: &[u8]) -> Real
     joined(full, cwd, path)
 }
 
-// Where a path of len bytes ends without its trailing slashes, which go if the length is above 1.
+// Where a path of len bytes ends without the slashes at its end; a slash alone stays (P3).
 fn trim(full: &[u8], len: usize) -> usize
     requires { ⌜ len ≤ length (now full) ⌝ }
     ensures { λ r. ⌜ (r ≤ len) × (take r (now (full .entry)) ≡ trimmed (take len (now (full .entry)))) ⌝ }

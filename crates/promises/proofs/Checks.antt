@@ -1,9 +1,9 @@
 -- S7: what the check part of a changing call decides.
-use mathlib.Core.Path.{_≡_, sym, ap, _∙_}
+use mathlib.Core.Path.{_≡_, ap, _∙_}
 use mathlib.Core.Bool.{Bool, true, false, not}
 use mathlib.Core.Logic.{_⊎_, inl, inr, _↔_}
 use mathlib.Core.List.{List, [], _∷_}
-use Prim.Native.Nat.{ℕ, _≤_}
+use Prim.Native.Nat.{ℕ, _≤_, _<_}
 use native.Mathlib.Omega.{arith}
 use native.Mathlib.Decide.{ℕ-discrete}
 use lib.Dec.{ltb}
@@ -19,8 +19,8 @@ use Rattle.model.proofs.Opens.{when-true, when-false, first-of-none, first-of-h
 use Rattle.check_bitmap.specs.Tally.{markLong}
 use Rattle.check_volume.specs.Whole.{whole}
 use Rattle.check_volume.proofs.Wholes.{whole-complete}
-use Rattle.mfs.specs.Checking.{checkCall, checkRefusal}
-use Rattle.mfs.proofs.Checked.{check-passed}
+use Rattle.call_volume.specs.Checking.{checkCall, checkRefusal}
+use Rattle.call_volume.proofs.Checked.{check-passed}
 use Rattle.promises.specs.Exact.{CheckIsExact}
 
 -- a test in a list gives its number, or what follows it answers
@@ -79,29 +79,36 @@ module _ (K : ℕ) (I : List ℕ) (len : ℕ) where
     passes-well : checkCall K I len ≡ 0 → WellFormed K I → checkRefusal K I len ≡ 0
     passes-well z w = check-last z ∙ when-false 17 (ap not (whole-complete K I b w))
 
-    pub check-passes : (checkRefusal K I len ≡ 0) ↔ ((checkCall K I len ≡ 0) × WellFormed K I)
+    check-passes : (checkRefusal K I len ≡ 0) ↔ ((checkCall K I len ≡ 0) × WellFormed K I)
     check-passes = (λ e. let p = check-passed K I len b e in (p .0, p .2), λ p. passes-well (p .0) (p .1))
 
-    check-damaged : (checkRefusal K I len ≡ 17) ↔ ((checkCall K I len ≡ 0) × (WellFormed K I → ⊥))
-    check-damaged = (
-      λ e. let z = none e in (z, λ w. omega (arith, e, passes-well z w)),
-      λ p. go (p .0) (p .1) (either (whole (geoAt K I) I)),
-    )
+    damaged-ill : checkCall K I len ≡ 0 → (WellFormed K I → ⊥) → checkRefusal K I len ≡ 17
+    damaged-ill z bad = go (either (whole (geoAt K I) I))
       where
-        none : checkRefusal K I len ≡ 17 → checkCall K I len ≡ 0
-        none e = first (ℕ-discrete (checkCall K I len) 0)
-          where
-            first : Dec (checkCall K I len ≡ 0) → checkCall K I len ≡ 0
-            first (yes z) = z
-            first (no n) = absurd (omega (arith, e, check-earlier (omega arith), call-small K I len))
+        go : (whole (geoAt K I) I ≡ true) ⊎ (whole (geoAt K I) I ≡ false) → checkRefusal K I len ≡ 17
+        go (inl t) = absurd (bad (check-passed K I len b (check-last z ∙ when-false 17 (ap not t)) .2))
+        go (inr f) = check-last z ∙ when-true 17 (ap not f)
 
-        go : checkCall K I len ≡ 0 → (WellFormed K I → ⊥) → (whole (geoAt K I) I ≡ true) ⊎ (whole (geoAt K I) I ≡ false)
-            → checkRefusal K I len ≡ 17
-        go z bad (inl t) = absurd (bad (check-passed K I len b (check-last z ∙ when-false 17 (ap not t)) .2))
-        go z bad (inr f) = check-last z ∙ when-true 17 (ap not f)
+  -- more than 16 is none of 1, 2, 3, 16
+  call-none : 16 < checkRefusal K I len → checkCall K I len ≡ 0
+  call-none h = go (ℕ-discrete (checkCall K I len) 0)
+    where
+      go : Dec (checkCall K I len ≡ 0) → checkCall K I len ≡ 0
+      go (yes z) = z
+      go (no n) = absurd (omega (arith, check-earlier (omega arith), call-small K I len))
 
 pub check-is-exact : CheckIsExact
-check-is-exact = record { earlier = check-earlier; passes = check-passes; damaged = check-damaged }
+check-is-exact =
+    record {
+      earlier = check-earlier;
+      passes = check-passes;
+      damaged = λ K I len b. (
+        λ e.
+            let z = call-none K I len (omega (arith, e)) in
+            (z, λ w. omega (arith, e, passes-well K I len b z w)),
+        λ p. let d = damaged-ill K I len b (p .0) (p .1) in omega (arith, d),
+      );
+    }
 
 -- The check is reached, and passes, on a well-formed volume with a work buffer that is long enough.
 module _ (K : ℕ) (I W : List ℕ) (w : WellFormed K I) (long : markLong (geoAt K I) ≤ length W) where

@@ -17,26 +17,25 @@ use Rattle.model.specs.Geometry.{blockSize, dataAt, geoAt}
 use Rattle.model.specs.Volume.{WellFormed, maxDepth}
 use Rattle.model.specs.Calls.{Vacant, Occupied}
 use Rattle.model.specs.Steps.{Bytes}
-use Rattle.model.proofs.Lists.{not-some}
 use Rattle.model.proofs.Opens.{when-true, when-false, first-of-one, first-of-tail}
-use Rattle.model.proofs.Replies.{given-yes, given-no, and-then-ok, and-then-no, reply-none, reply-suc}
+use Rattle.model.proofs.Replies.{and-then-ok, and-then-no, reply-none, reply-suc}
 use Rattle.check_bitmap.specs.Tally.{markLong}
 use Rattle.read_dir.specs.declared.Found.{Found}
 use Rattle.read_dir.specs.declared.Found.the-variants as found
 use Rattle.read_dir.specs.Walk.{walk}
 use Rattle.read_dir.specs.Finds.{findIn}
-use Rattle.path.specs.Path.{realPath, badPath, pathRefusal}
+use Rattle.path.specs.Path.{realPath, pathRefusal}
 use Rattle.dir.specs.Resolve.{onName}
 use Rattle.dir.specs.Hold.{Hold}
 use Rattle.thm_path.specs.Held.{HeldAt}
 use Rattle.thm_path.specs.Shown.{wayTo}
 use Rattle.thm_path.proofs.Finds.{lookup-or, find-missing}
 use Rattle.thm_path.proofs.Holding.{hold-is, hold-some}
-use Rattle.delete.specs.Deleting.{Doomed, onPlaced, doomedAt, doomedIn, doomedOf, deletedOn}
+use Rattle.delete.specs.Deleting.{Doomed, doomedIn, doomedOf, deletedOn}
 use Rattle.delete.proofs.OnVolume.{bare-accepted, full-refused}
-use Rattle.mfs.specs.declared.Answer.{Answer}
-use Rattle.mfs.specs.Says.{says}
-use Rattle.mfs.specs.Changing.{changeCall, Deletes}
+use Rattle.call_volume.specs.declared.Answer.{Answer}
+use Rattle.call_volume.specs.Says.{says}
+use Rattle.call_change.specs.Changing.{changeCall, Deletes}
 use Rattle.thm_calls.specs.Named.{wayOf, lastOf}
 use Rattle.thm_calls.proofs.Changing.{volume-at}
 use Rattle.promises.specs.Refusals.{Spot, entryAt, hasEntry, deleteAnswer}
@@ -109,8 +108,14 @@ module _ (K : ℕ) (I W : List ℕ) (b : Bytes I) (w : WellFormed K I) (long : m
       go (x ∷ n) a c = and-then-no k (λ x. accepted tt) a ∙ sym (and-then-no k onSpot c)
 
   -- a name that is not there
+  nothing-in : (h : Hold)
+      → findIn (lastOf cwd p) (walk (blockSize (geoAt K I)) (dataAt (geoAt K I)) (geoAt K I .n) I (h .dir)) ≡ found.Missing
+      → doomedIn (geoAt K I) I (lastOf cwd p) h ≡ refused 5
+  unfolding doomedIn
+  nothing-in h e = rw e
+
   nothing-there : Vacant maxDepth (wayOf cwd p) (lastOf cwd p) (w .tree) → doomed ≡ refused 5
-  unfolding doomedOf doomedIn
+  unfolding doomedOf
   nothing-there v =
       let n : Name = lastOf cwd p in
       let s : Some = v .dir in
@@ -124,8 +129,7 @@ module _ (K : ℕ) (I W : List ℕ) (b : Bytes I) (w : WellFormed K I) (long : m
       let f : found-from (h .0 .dir) ≡ found.Missing
       = ap found-from (sym (ap (λ (x : Some). blocksAt (x .1)) y ∙ q .starts))
       ∙ find-missing (geoAt K I) I maxDepth (w .tree) _ (wayOf cwd p) s laid (v .there) n (v .free) in
-      name-five n _ (and-then-ok (h .0) (doomedIn (geoAt K I) I n) (h .1)
-      ∙ ap (λ (x : Found). onPlaced x (doomedAt (geoAt K I) I (h .0))) f)
+      name-five n _ (and-then-ok (h .0) (doomedIn (geoAt K I) I n) (h .1) ∙ nothing-in (h .0) f)
 
   name-absent : (s : Some) → wayTo maxDepth (wayOf cwd p) (w .tree) ≡ accepted s → Absent (lastOf cwd p) (s .1) → Said
   unfolding deletedOn

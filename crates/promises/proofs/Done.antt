@@ -1,5 +1,5 @@
 -- S5: an accepted write has done its work, so that a version that answers success and does nothing breaks the contract.
-use mathlib.Core.Path.{_≡_, refl, sym, ap, _∙_, subst}
+use mathlib.Core.Path.{_≡_, ap, _∙_, subst}
 use mathlib.Core.Option.{some}
 use mathlib.Core.List.{List, _++_}
 use Prim.Native.Nat.{ℕ, _+_, _^_, _≤_, _<_}
@@ -19,9 +19,9 @@ use Rattle.file.specs.declared.Counted.the-variants as counted
 use Rattle.file.specs.File.{nameOf}
 use Rattle.file.specs.Written.{countedSays}
 use Rattle.file.proofs.Targets.{accepted-is}
-use Rattle.mfs.specs.Says.{soughtSays}
-use Rattle.mfs.specs.Reading.{Reads}
-use Rattle.mfs.specs.Changing.{Writes}
+use Rattle.call_volume.specs.Says.{soughtSays}
+use Rattle.call_read.specs.Reading.{Reads}
+use Rattle.call_change.specs.Changing.{Writes}
 use Rattle.thm_calls.proofs.Changing.{volume-at, tree-after, write-passed, write-tree}
 use Rattle.thm_calls.proofs.ReadsBack.{bytes-written, write-seek, write-read}
 use Rattle.promises.specs.Work.{FileOf, ReadsBack}
@@ -29,7 +29,7 @@ use Rattle.promises.proofs.Answered.{count-said}
 use Rattle.promises.proofs.Files.{file-at}
 
 -- the file that a write is on
-pub file-of : (g : Geo) (p : List Name) (n : Name) (now c : ℕ) (buf : List ℕ) (t : Tree maxDepth) (I J : List ℕ)
+file-of : (g : Geo) (p : List Name) (n : Name) (now c : ℕ) (buf : List ℕ) (t : Tree maxDepth) (I J : List ℕ)
     (m : TreeWrites g maxDepth p n now c buf t I J)
     → fileAt maxDepth p n t ≡ some (m .size, m .time, m .cells)
 unfolding fileEntry fileOf
@@ -50,7 +50,7 @@ module _ (K : ℕ) (I W : List ℕ) (h : Handle) (buf : List ℕ) (now : ℕ) (o
     done = write-tree K I W h buf now o J Z c k w clock counts
 
     -- The handle names a file,
-    pub file-before : FileOf h (w .tree)
+    file-before : FileOf h (w .tree)
     file-before =
         record {
           path = done .0;

@@ -1,4 +1,4 @@
--- Demand 2, and the end of demand 3: after an accepted delete nothing is at the path.
+-- S5, and the end of D3: after an accepted delete nothing is at the path.
 use mathlib.Core.Path.{_≡_, refl, sym, ap, _∙_}
 use mathlib.Core.Bool.{true, false}
 use mathlib.Core.Logic.{_⊎_, inl, inr}
@@ -14,9 +14,9 @@ use Rattle.model.proofs.Edits.{find-edit}
 use Rattle.model.proofs.Full.{good-find}
 use Rattle.model.proofs.Lists.{any-there, lessFirst-here, lessFirst-there}
 use Rattle.model.proofs.Reached.{named-entries}
-use Rattle.mfs.specs.declared.Answer.{Answer}
-use Rattle.mfs.specs.declared.Answer.the-variants as answer
-use Rattle.mfs.specs.Changing.{Deletes}
+use Rattle.call_volume.specs.declared.Answer.{Answer}
+use Rattle.call_volume.specs.declared.Answer.the-variants as answer
+use Rattle.call_change.specs.Changing.{Deletes}
 use Rattle.thm_calls.specs.Named.{wayOf, lastOf}
 use Rattle.thm_calls.proofs.Changing.{volume-at, tree-after, delete-tree}
 use Rattle.promises.proofs.Lookups.{delete-entries}
@@ -71,7 +71,7 @@ module _ {X : Type 0} (n : Name) where
       none-absent (delete n bs)
       (named-entries n (delete n bs) ∙ ap (named n) (delete-entries n bs) ∙ less-named (entriesOf bs) (omega (arith, h, named-entries n bs)))
 
--- After an accepted delete the path names nothing, in a directory that is there: as demand 3 asks of the end of a sequence.
+-- After an accepted delete the path names nothing, in a directory that is there: as D3 asks of the end of a sequence.
 pub delete-leaves : (K : ℕ) (I W cwd p : List ℕ) (now : ℕ) (r : Answer) (J Z : List ℕ) → Deletes K I W cwd p now r J Z → (w : WellFormed K I) → now < 2 ^ 64
     → r ≡ answer.Success → (v : WellFormed K J) → Vacant maxDepth (wayOf cwd p) (lastOf cwd p) (v .tree)
 unfolding deleted

@@ -3,7 +3,7 @@ use mathlib.Core.Path.{_≡_, refl, sym, ap, _∙_, subst}
 use mathlib.Core.Bool.{true, false, not, _&&_}
 use mathlib.Core.Logic.{_⊎_, inl, inr}
 use mathlib.Core.Option.{Option, none, some}
-use mathlib.Core.List.{List, [], _∷_}
+use mathlib.Core.List.{List, []}
 use Prim.Native.Nat.{ℕ, _+_, _-_, _≤_, _<_}
 use native.Mathlib.Omega.{arith}
 use lib.Dec.{ltb, eqb}
@@ -12,8 +12,8 @@ use lib.Seq.{length-take-le}
 use borrow.Author.Tests.{eqb-true, eqb-false, eq-eqb, ltb-true, ltb-false}
 use Rattle.wire.specs.Be.{splice}
 use Rattle.wire.proofs.Picks.{either, not-both, and-both, both-and}
-use Rattle.model.specs.Answers.{Reply, accepted, refused, andThen, when, firstOf, reply, settle}
-use Rattle.model.specs.Tree.{Name, Cell, Node, file, Entry, Below, Tree, then, lookup, Some, find}
+use Rattle.model.specs.Answers.{Reply, accepted, refused, andThen, when, reply, settle}
+use Rattle.model.specs.Tree.{Name, Cell, Node, file, Below, Tree, Some}
 use Rattle.model.specs.Render.{cellsAt, blocksAt}
 use Rattle.model.specs.Geometry.{Geo, blockSize, geoAt}
 use Rattle.model.specs.Volume.{blocksFor, fileLimit, GoodBelow, Volume, WellFormed, maxDepth}
@@ -41,8 +41,8 @@ use Rattle.file.specs.Written.{countedSays}
 use Rattle.file.proofs.Seeks.{fresh}
 use Rattle.file.proofs.Aims.{aim-empty}
 use Rattle.file.proofs.Targets.{accepted-is, no-room, stale-is, long-is}
-use Rattle.mfs.specs.Reading.{size, area, end, readCall, Reads}
-use Rattle.mfs.specs.Changing.{writeReply, Writes}
+use Rattle.call_read.specs.Reading.{size, area, end, readCall, Reads}
+use Rattle.call_change.specs.Changing.{writeReply, Writes}
 use Rattle.thm_calls.specs.Handles.{HandleOf}
 use Rattle.thm_calls.proofs.Calls.{read-file, read-bytes}
 use Rattle.thm_calls.proofs.FileReads.{FileThere, handle-or}

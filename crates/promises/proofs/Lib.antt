@@ -17,8 +17,9 @@ pub mod Refusals
 pub mod Well
 pub mod Reopened
 pub mod Done
-pub mod Made
+pub mod CreateLeaves
 pub mod Gone
 pub mod Kept
 pub mod Work
 pub mod Promises
+pub mod OwnEntry

@@ -2,17 +2,17 @@
 use mathlib.Core.Path.{_≡_, refl, sym, ap, _∙_}
 use mathlib.Core.Bool.{Bool, true, false}
 use mathlib.Core.Logic.{_⊎_, inl, inr}
-use mathlib.Core.Option.{none, some}
-use mathlib.Core.List.{List, [], _∷_, _++_}
-use Prim.Native.Nat.{ℕ, zero, suc, _+_}
+use mathlib.Core.Option.{some}
+use mathlib.Core.List.{List, [], _∷_}
+use Prim.Native.Nat.{ℕ, suc, _+_}
 use native.Mathlib.Omega.{arith}
 use lib.Dec.{ltb}
 use lib.ListN.{length}
 use Rattle.wire.specs.Be.{splice}
 use Rattle.wire.specs.Pick.{pick, same}
-use Rattle.wire.proofs.Picks.{either, pick-true, pick-false, same-eq}
+use Rattle.wire.proofs.Picks.{either}
 use Rattle.model.specs.Answers.{Reply, accepted, refused, andThen, when, reply, given}
-use Rattle.model.specs.Tree.{Name, Node, file, device, sub, Entry, Below, Tree, entriesOf, lookup, sum, Some, find}
+use Rattle.model.specs.Tree.{Name, Node, file, device, sub, Entry, Below, lookup, sum, Some, find}
 use Rattle.model.specs.Render.{View, blocksAt, view, addressOf, sizeOf}
 use Rattle.model.specs.Geometry.{blockSize, dataAt, geoAt, setBits}
 use Rattle.model.specs.Volume.{fileLimit, WellFormed, Laid, maxDepth}
@@ -28,15 +28,14 @@ use Rattle.dir.specs.Resolve.{held}
 use Rattle.thm_path.specs.Shown.{wayTo}
 use Rattle.thm_path.proofs.Finds.{sum-is}
 use Rattle.thm_path.proofs.Resolves.{lookup-name, resolve-way}
-use Rattle.file.specs.declared.Handle.{Handle}
-use Rattle.mfs.specs.declared.OpenOut.{OpenOut}
-use Rattle.mfs.specs.declared.InfoOut.{InfoOut}
-use Rattle.mfs.specs.declared.Listing.{Listing}
-use Rattle.mfs.specs.Reading.{size, area, end, pathCall, openEntry, openOn, openReply, openSays, Opens, About, about, aboutEntry}
-use Rattle.mfs.specs.Reading.{aboutRoot, infoOn, infoReply, infoSays, Informs, Counts, listOn, listReply, recordsOn, onReply}
-use Rattle.mfs.specs.Reading.{listSays, Lists}
-use Rattle.thm_calls.specs.Named.{wayOf, lastOf, allOf, recordsLong, recordsOf, listedFrom}
-use Rattle.thm_calls.proofs.Calls.{info-root, list-counts, list-records}
+use Rattle.call_read.specs.declared.OpenOut.{OpenOut}
+use Rattle.call_read.specs.declared.InfoOut.{InfoOut}
+use Rattle.call_read.specs.declared.Listing.{Listing}
+use Rattle.call_read.specs.Reading.{size, area, end, pathCall, openEntry, openOn, openReply, openSays, Opens, About, about, aboutEntry}
+use Rattle.call_read.specs.Reading.{aboutRoot, infoOn, infoReply, infoSays, Informs, Counts, listOn, listReply, recordsOn, onReply}
+use Rattle.call_read.specs.Reading.{listSays, Lists}
+use Rattle.thm_calls.specs.Named.{wayOf, lastOf, allOf}
+use Rattle.thm_calls.proofs.Calls.{list-counts, list-records}
 use Rattle.thm_calls.proofs.Changing.{volume-at}
 use Rattle.promises.specs.Refusals.{Spot, entryAt, openNode, openAnswer, aboutSpot, infoAnswer, dirAnswer, listAnswer}
 use Rattle.promises.specs.Refusals.{recordsIn}

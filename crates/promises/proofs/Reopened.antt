@@ -5,7 +5,7 @@ use mathlib.Core.Option.{some}
 use mathlib.Core.List.{List}
 use Prim.Native.Nat.{ℕ, _-_, _≤_, min}
 use native.Mathlib.Omega.{arith}
-use lib.ListN.{length, take, drop}
+use lib.ListN.{length}
 use Rattle.wire.specs.Be.{splice}
 use Rattle.model.specs.Answers.{accepted}
 use Rattle.model.specs.Tree.{Name, Cell, file}
@@ -15,17 +15,11 @@ use Rattle.model.specs.Calls.{Occupied, fileAt, contents}
 use Rattle.model.proofs.Opens.{when-none, first-of-zero, first-of-one}
 use Rattle.path.specs.Path.{badPath}
 use Rattle.file.specs.declared.Handle.{Handle}
-use Rattle.file.specs.declared.SeekFrom.the-variants.{Start}
-use Rattle.file.specs.declared.Outcome.the-variants as outcome
-use Rattle.file.specs.declared.Sought.{Sought}
-use Rattle.file.specs.declared.Counted.the-variants as counted
-use Rattle.file.specs.declared.ReadOut.{ReadOut}
 use Rattle.file.specs.File.{staleFields, moved, readRefusal}
-use Rattle.file.specs.Post.{SoughtIs}
 use Rattle.file.specs.Written.{countedSays}
-use Rattle.mfs.specs.declared.OpenOut.{OpenOut}
-use Rattle.mfs.specs.Says.{soughtSays}
-use Rattle.mfs.specs.Reading.{Opens, readCall, Reads}
+use Rattle.call_read.specs.declared.OpenOut.{OpenOut}
+use Rattle.call_volume.specs.Says.{soughtSays}
+use Rattle.call_read.specs.Reading.{Opens, readCall, Reads}
 use Rattle.thm_calls.specs.Handles.{HandleOf}
 use Rattle.thm_calls.specs.Named.{wayOf, lastOf}
 use Rattle.thm_calls.proofs.Calls.{open-file, open-handle, read-file, read-bytes}

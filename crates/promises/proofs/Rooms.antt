@@ -2,7 +2,6 @@
 use mathlib.Core.Path.{_≡_, refl, sym, ap, _∙_}
 use mathlib.Core.Bool.{true, false, _&&_}
 use mathlib.Core.Logic.{_⊎_, inl, inr, _↔_}
-use mathlib.Core.Option.{some}
 use mathlib.Core.List.{List}
 use Prim.Native.Nat.{ℕ, zero, suc, _≤_}
 use native.Mathlib.Omega.{arith}
@@ -11,7 +10,7 @@ use lib.ListN.{length}
 use borrow.Author.Tests.{ne-eqb}
 use Rattle.wire.proofs.Picks.{either, not-both}
 use Rattle.model.specs.Answers.{Reply, accepted, refused, andThen, when, reply, given}
-use Rattle.model.specs.Tree.{Name, Tree, Some}
+use Rattle.model.specs.Tree.{Tree, Some}
 use Rattle.model.specs.Geometry.{Geo, geoAt}
 use Rattle.model.specs.Volume.{WellFormed, maxDepth}
 use Rattle.model.specs.Calls.{freeBlocks}
@@ -33,11 +32,11 @@ use Rattle.file.specs.OnTree.{NoRoom}
 use Rattle.file.specs.Writing.{targetOf}
 use Rattle.file.specs.Written.{countedSays}
 use Rattle.file.proofs.Targets.{no-room}
-use Rattle.mfs.specs.declared.Answer.{Answer}
-use Rattle.mfs.specs.declared.OpenOut.{OpenOut}
-use Rattle.mfs.specs.Says.{says}
-use Rattle.mfs.specs.Reading.{openSays}
-use Rattle.mfs.specs.Changing.{freshHandle, CreatesFile, CreatesDir, Writes}
+use Rattle.call_volume.specs.declared.Answer.{Answer}
+use Rattle.call_read.specs.declared.OpenOut.{OpenOut}
+use Rattle.call_volume.specs.Says.{says}
+use Rattle.call_read.specs.Reading.{openSays}
+use Rattle.call_change.specs.Changing.{freshHandle, CreatesFile, CreatesDir, Writes}
 use Rattle.thm_calls.specs.Named.{wayOf, lastOf}
 use Rattle.thm_calls.proofs.Changing.{volume-at}
 use Rattle.promises.specs.Honest.{CreateFull}

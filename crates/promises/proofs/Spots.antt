@@ -1,7 +1,7 @@
 -- What a path leads to on a volume, by the tree: 5 and 6 exactly, in walking order.
 use mathlib.Core.Path.{_≡_, refl, sym, ap, _∙_, subst}
 use mathlib.Core.Logic.{_⊎_, inl, inr}
-use mathlib.Core.Option.{Option, none, some}
+use mathlib.Core.Option.{some}
 use mathlib.Core.List.{List, [], _∷_}
 use Prim.Native.Nat.{ℕ}
 use native.Mathlib.Omega.{arith}
@@ -17,12 +17,12 @@ use Rattle.model.proofs.Replies.{not-accepted, refused-one, and-then-ok, and-th
 use Rattle.dir_entry.specs.Shown.{headOf}
 use Rattle.path.specs.Path.{lastName, dirPart, steps}
 use Rattle.dir.specs.Resolve.{Held, held, onName, entryOf}
-use Rattle.dir.specs.Hold.{Hold, holdDir, holdFrom, rootHold}
-use Rattle.dir.proofs.Laws.{name-some}
+use Rattle.dir.specs.Hold.{holdFrom, rootHold}
+use Rattle.dir.proofs.Answers.{name-some}
 use Rattle.thm_path.specs.Shown.{wayTo}
 use Rattle.thm_path.proofs.Finds.{lookup-or}
-use Rattle.thm_path.proofs.Holding.{hold-resolve}
-use Rattle.thm_path.proofs.Resolves.{lookup-name, absent-none, Agree, leads, stops, way-agrees, starts, resolve-way, entry-is}
+use Rattle.dir.proofs.HoldLaws.{hold-resolve}
+use Rattle.thm_path.proofs.Resolves.{lookup-name, absent-none, Agree, leads, stops, way-agrees, resolve-way, entry-is}
 use Rattle.thm_path.proofs.Resolves.{entry-missing, entry-stops}
 use Rattle.promises.specs.Refusals.{Spot, entryIn, entryAt}
 
@@ -75,7 +75,7 @@ module _ (g : Geo) (I : List ℕ) (t : Tree maxDepth) (u : ℕ) (l : Laid g I ma
     last = lastName q
 
     -- a name that is in a directory of the tree is not empty
-    pub name-there : (s : Some) → find maxDepth way t ≡ some s → (e : Entry (Below (s .0))) → lookup last (s .1) ≡ some e
+    name-there : (s : Some) → find maxDepth way t ≡ some s → (e : Entry (Below (s .0))) → lookup last (s .1) ≡ some e
         → length last ≡ 0 → ⊥
     name-there s f e k z =
         let m = good-lookup (blockSize g) (GoodBelow (blockSize g) (s .0)) last (s .1) e

@@ -6,3 +6,4 @@ pub mod Refusals
 pub mod Work
 pub mod Exact
 pub mod Promises
+pub mod OwnEntry

@@ -2,7 +2,7 @@
 -- tree t of the image at the call's entry. Its refusals stand in the call's order, the first that holds is given (O1), and where
 -- none holds it gives the value that is answered. Definitions alone; `RefusalIsExact` says that the calls give just these.
 use mathlib.Core.Path.{_≡_}
-use mathlib.Core.Bool.{Bool, true, false, not, _&&_}
+use mathlib.Core.Bool.{Bool, false, not, _&&_}
 use mathlib.Core.Logic.{_↔_}
 use mathlib.Core.Option.{Option, none, some}
 use mathlib.Core.List.{List, [], _∷_}
@@ -34,13 +34,13 @@ use Rattle.file.specs.File.{nameOf, staleFields, moved, toRead}
 use Rattle.file.specs.Writing.{tooLong, blocksToAdd}
 use Rattle.file.specs.OnTree.{NoRoom}
 use Rattle.file.specs.Written.{countedSays}
-use Rattle.mfs.specs.declared.Answer.{Answer}
-use Rattle.mfs.specs.declared.OpenOut.{OpenOut}
-use Rattle.mfs.specs.declared.InfoOut.{InfoOut}
-use Rattle.mfs.specs.declared.Listing.{Listing}
-use Rattle.mfs.specs.Says.{says}
-use Rattle.mfs.specs.Reading.{About, about, Counts, openSays, Opens, infoSays, Informs, listSays, Lists, Reads}
-use Rattle.mfs.specs.Changing.{freshHandle, plainly, CreatesFile, CreatesDir, Deletes, Writes}
+use Rattle.call_volume.specs.declared.Answer.{Answer}
+use Rattle.call_read.specs.declared.OpenOut.{OpenOut}
+use Rattle.call_read.specs.declared.InfoOut.{InfoOut}
+use Rattle.call_read.specs.declared.Listing.{Listing}
+use Rattle.call_volume.specs.Says.{says}
+use Rattle.call_read.specs.Reading.{About, about, Counts, openSays, Opens, infoSays, Informs, listSays, Lists, Reads}
+use Rattle.call_change.specs.Changing.{freshHandle, plainly, CreatesFile, CreatesDir, Deletes, Writes}
 use Rattle.thm_calls.specs.Named.{wayOf, lastOf, allOf, recordsLong, recordsOf, listedFrom}
 use Rattle.promises.specs.Honest.{CreateFull}
 
@@ -206,8 +206,7 @@ pub record RefusalIsExact : Type 0 where
   -- Of a handle whose directory is one of the tree, as it is of a handle that a call answered while that directory stands. Read
   -- does not ask for it (H4), and through a made-up handle it walks any blocks. (A handle's name is an array of 255 bytes.)
   pub reads : (K : ℕ) (I : List ℕ) (w : WellFormed K I) (h : Handle) (q : List Name) → DirAt maxDepth (h .dir .0) q (w .tree)
-      → length (h .name) ≡ 255
-      → (buf out : List ℕ) (o : ReadOut) → Reads K I h buf out o
+      → length (h .name) ≡ 255 → (buf out : List ℕ) (o : ReadOut) → Reads K I h buf out o
       → (countedSays (o .answer) ≡ reply (readNumber h (w .tree)) (toRead h (length buf)))
       × (o .handle ≡ settle (readNumber h (w .tree)) (moved h (h .position + toRead h (length buf))) h)
       × (out ≡ settle (readNumber h (w .tree)) (splice buf 0 (bytesFrom (h .position) (length buf) (fileBy h (w .tree)))) buf)

@@ -22,11 +22,11 @@ use Rattle.file.specs.declared.WriteOut.{WriteOut}
 use Rattle.file.specs.File.{nameOf}
 use Rattle.file.specs.Post.{SoughtIs}
 use Rattle.file.specs.Written.{countedSays}
-use Rattle.mfs.specs.declared.Answer.{Answer}
-use Rattle.mfs.specs.declared.OpenOut.{OpenOut}
-use Rattle.mfs.specs.Says.{says, soughtSays}
-use Rattle.mfs.specs.Reading.{openSays, Opens, Reads}
-use Rattle.mfs.specs.Changing.{CreatesFile, CreatesDir, Deletes, Writes}
+use Rattle.call_volume.specs.declared.Answer.{Answer}
+use Rattle.call_read.specs.declared.OpenOut.{OpenOut}
+use Rattle.call_volume.specs.Says.{says, soughtSays}
+use Rattle.call_read.specs.Reading.{openSays, Opens, Reads}
+use Rattle.call_change.specs.Changing.{CreatesFile, CreatesDir, Deletes, Writes}
 use Rattle.thm_calls.specs.Handles.{HandleOf}
 use Rattle.thm_calls.specs.Named.{wayOf, lastOf}
 
@@ -52,14 +52,14 @@ pub record WorkIsDone : Type 0 where
   -- C12: the handle names a file, and after the write its bytes are the old ones before the position, then the buffer's. They are
   -- read through the handle that the write answers (a handle's name is an array of 255 bytes);
   pub write-then-read : (K : ℕ) (I W : List ℕ) (h : Handle) (buf : List ℕ) (now : ℕ) (o : WriteOut) (J Z : List ℕ)
-      → Writes K I W h buf now o J Z
-      → (k : ℕ) → countedSays (o .answer) ≡ accepted k → now < 2 ^ 64 → length (h .name) ≡ 255 → (w : WellFormed K I)
-      → (f : FileOf h (w .tree)) × ReadsBack K J (o .handle) (h .position + length buf)
-      (take (h .position) (contents (f .size) (f .cells)) ++ buf)
+      → Writes K I W h buf now o J Z → (k : ℕ) → countedSays (o .answer) ≡ accepted k → now < 2 ^ 64
+      → length (h .name) ≡ 255 → (w : WellFormed K I)
+      → (f : FileOf h (w .tree))
+      × ReadsBack K J (o .handle) (h .position + length buf) (take (h .position) (contents (f .size) (f .cells)) ++ buf)
   -- and they are what the file holds, with the call's time, in the tree of J.
   pub write-leaves : (K : ℕ) (I W : List ℕ) (h : Handle) (buf : List ℕ) (now : ℕ) (o : WriteOut) (J Z : List ℕ)
-      → Writes K I W h buf now o J Z
-      → (k : ℕ) → countedSays (o .answer) ≡ accepted k → now < 2 ^ 64 → (w : WellFormed K I) (v : WellFormed K J)
+      → Writes K I W h buf now o J Z → (k : ℕ) → countedSays (o .answer) ≡ accepted k → now < 2 ^ 64
+      → (w : WellFormed K I) (v : WellFormed K J)
       → (f : FileOf h (w .tree)) × (es : List Cell)
       × (fileAt maxDepth (f .path) (nameOf h) (v .tree) ≡ some (h .position + length buf, now, es))
       × (contents (h .position + length buf) es ≡ take (h .position) (contents (f .size) (f .cells)) ++ buf)

@@ -30,13 +30,13 @@ anyIn f (item e a o x w) = pick (f e) true (anyIn f w)
 anyIn f finished = false
 anyIn f damaged = false
 
--- 01, "an entry that is a directory is walked in its turn, depth falling": whether the directory whose first block is `target` is the one at
+-- H4: directories are walked in their turn, the levels falling: whether the directory whose first block is `target` is the one at
 -- a, or is reached from it through at most d levels of directories.
 unfoldable pub reaches : (B D n : ℕ) (I : List ℕ) (target : ℕ) → ℕ → ℕ → Bool
 reaches B D n I target zero a = eqb target a
 reaches B D n I target (suc d) a = pick (eqb target a) true (anyIn (onDir (reaches B D n I target d)) (walk B D n I a))
 
--- 01, "the directory must also be one reached from the root": in the tree, whether there is a path to it.
+-- H4: in the tree, whether there is a path to it.
 abbrev pub hasPath : Option (List Name) → Bool
 hasPath none = false
 hasPath (some p) = true

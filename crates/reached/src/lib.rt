@@ -1,5 +1,5 @@
 // Whether a block is the first of a directory that is reached from the root: what a write asks of its handle.
-// Walking a directory calls walking an entry, which calls back for a subdirectory; the depth falls.
+// Two functions that call each other: one for a directory, one for an entry of it; each directory entered leaves one level less.
 use block::Addr;
 use dir_entry::DirEntry;
 use dir_entry::Kind;

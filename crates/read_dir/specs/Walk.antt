@@ -23,11 +23,11 @@ onSlot (Entry e) k w = k e
 onSlot Stop k w = w
 
 module _ (B D n : ℕ) (I : List ℕ) where
-  -- "D..n-1"
+  -- F3: the data area
   abbrev pub inArea : ℕ → Bool
   inArea a = leb D a && ltb a n
 
-  -- 01, "Entries with address 0 are passed over": the entry e at offset o of block a, then w.
+  -- F11: the entry e at offset o of block a, unless its address is 0, and then w.
   unfoldable pub shown : DirEntry → ℕ → ℕ → Walk → Walk
   shown e a o w = pick (eqb (e .addr .0) 0) w (item e a o (nameAt I (placeAt B a o) (e .len)) w)
 
@@ -36,7 +36,7 @@ module _ (B D n : ℕ) (I : List ℕ) where
   entriesFrom zero a o w = w
   entriesFrom (suc f) a o w = onSlot (slotAt B I a o) (λ e. shown e a o (entriesFrom f a (o + header + e .len) w)) w
 
-  -- 01, "Reading goes on in the next block", "0 ends", and "a walk that leaves D..n-1 or passes n-D blocks in one chain gives 17": the walk of
+  -- F11, R17: on in the next block until that is 0; a block outside the area is damage, and so is one more than k: the walk of
   -- the chain from block a on, of which k blocks may be read.
   unfoldable pub chainFrom : ℕ → ℕ → Walk
   chainFrom zero a = damaged

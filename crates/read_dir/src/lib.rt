@@ -1,5 +1,5 @@
 // The entries of a directory, read from any image: the cursor, lookup, sum and listing.
-// Damage is met on the walk, and a walk ends where its answer is known.
+// Damage is met on the walk, and a walk goes no further than its answer needs (O12).
 use block::Addr;
 use block::LinkedBlock;
 use dir_entry::DirEntry;

@@ -1,7 +1,7 @@
 -- The struct of a volume's numbers, and what reading, making and writing a superblock gives.
 use mathlib.Core.Path.{_≡_}
 use mathlib.Core.List.{List}
-use Prim.Native.Nat.{ℕ, _+_, _*_, _≤_, _<_, _^_}
+use Prim.Native.Nat.{ℕ, _+_, _*_}
 use lib.ListN.{length}
 use Rattle.wire.specs.Be.{bytes, splice}
 use Rattle.limits.specs.Refusals.{refusalNumber}
@@ -10,7 +10,7 @@ use Rattle.super_block.specs.declared.SuperBlock.{SuperBlock}
 use Rattle.super_block.specs.declared.Opened.{Opened}
 use Rattle.super_block.specs.declared.Opened.the-variants.{At, Refused}
 
--- The numbers of the paper that a struct stands for, and the struct of such numbers.
+-- F2: the numbers of a volume that a struct stands for, and the struct of such numbers.
 abbrev pub geoOf : SuperBlock → Geo
 geoOf s = geo (s .addr .0) (s .blocks)
 
@@ -31,7 +31,7 @@ pub record Fit (s : SuperBlock) (I : List ℕ) : Type 0 where
   pub reach : s .reach ≡ reach (geoOf s)
   pub sound : Sound (geoOf s) (length I)
 
--- Reading: the first of 1, 2, 3 that holds, or the numbers that the image's superblock gives.
+-- R1 to R3: reading gives the first of them that holds, or the numbers that the image's superblock says.
 abbrev pub OpenedIs : ℕ → List ℕ → Opened → Type 0
 OpenedIs K I (At s) = (openRefusal K I ≡ 0) × (s ≡ superBlock (geoAt K I))
 OpenedIs K I (Refused r) = openRefusal K I ≡ refusalNumber r

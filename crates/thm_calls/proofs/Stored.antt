@@ -1,15 +1,13 @@
 -- The stores keep an image a list of bytes: each of them stores bytes.
-use mathlib.Core.Path.{_≡_, refl, sym, subst}
 use mathlib.Core.Bool.{Bool, true, false}
 use mathlib.Core.List.{List, [], _∷_, _++_}
-use Prim.Native.Nat.{ℕ, zero, suc, _+_, _-_, _*_, _/_, _%_, _^_, _≤_, _<_}
+use Prim.Native.Nat.{ℕ, zero, suc, _+_, _-_, _*_, _/_, _%_, _<_}
 use native.Mathlib.Omega.{arith}
-use native.Mathlib.Nat.{mod-lt}
 use lib.Dec.{eqb, ltb}
-use lib.ListN.{length, getD, take, drop, set, replicate}
+use lib.ListN.{length, getD, take, drop, set}
 use Rattle.wire.specs.Be.{bytes, splice, zeros}
 use Rattle.wire.specs.Pick.{pick, zeroFrom}
-use Rattle.wire.proofs.Laws.{getD-zeros}
+use Rattle.wire.proofs.Numbers.{getD-zeros}
 use Rattle.bits.specs.Bit.{digit, withDigit, withBit}
 use Rattle.block.specs.Block.{linked, zeroed, next}
 use Rattle.model.specs.Tree.{Name}
@@ -29,7 +27,7 @@ use Rattle.read_dir.specs.Walk.{inArea, walk}
 use Rattle.read_dir.specs.Finds.{sumFrom}
 use Rattle.own_entry.specs.declared.Own.{Own}
 use Rattle.own_entry.specs.declared.Own.the-variants as own
-use Rattle.own_entry.specs.Own.{ownRenewed, ownSummed, sumRenewed}
+use Rattle.own_entry.specs.Own.{ownSummed, sumRenewed}
 use Rattle.create_store.specs.declared.Spot.{Spot}
 use Rattle.create_store.specs.declared.Spot.the-variants as spot
 use Rattle.create_store.specs.Create.{newHead, opened, placeIn, entered, inserted}
@@ -39,25 +37,25 @@ use Rattle.write_store.specs.Write.{hop, grown, extended, dropped, cutAfter, re
 
 -- ---- lists
 
-pub bytes-append : (xs ys : List ℕ) → Bytes xs → Bytes ys → Bytes (xs ++ ys)
+bytes-append : (xs ys : List ℕ) → Bytes xs → Bytes ys → Bytes (xs ++ ys)
 bytes-append [] ys a b i = b i
 bytes-append (x ∷ xs) ys a b zero = a 0
 bytes-append (x ∷ xs) ys a b (suc i) = bytes-append xs ys (λ j. a (suc j)) b i
 
-pub bytes-nil : Bytes []
+bytes-nil : Bytes []
 bytes-nil i = omega arith
 
-pub bytes-more : (x : ℕ) (xs : List ℕ) → x < 256 → Bytes xs → Bytes (x ∷ xs)
+bytes-more : (x : ℕ) (xs : List ℕ) → x < 256 → Bytes xs → Bytes (x ∷ xs)
 bytes-more x xs h b zero = h
 bytes-more x xs h b (suc i) = b i
 
-pub bytes-take : (n : ℕ) (l : List ℕ) → Bytes l → Bytes (take n l)
+bytes-take : (n : ℕ) (l : List ℕ) → Bytes l → Bytes (take n l)
 bytes-take zero l b i = omega arith
 bytes-take (suc n) [] b i = omega arith
 bytes-take (suc n) (x ∷ l) b zero = b 0
 bytes-take (suc n) (x ∷ l) b (suc i) = bytes-take n l (λ j. b (suc j)) i
 
-pub bytes-drop : (n : ℕ) (l : List ℕ) → Bytes l → Bytes (drop n l)
+bytes-drop : (n : ℕ) (l : List ℕ) → Bytes l → Bytes (drop n l)
 bytes-drop zero l b i = b i
 bytes-drop (suc n) [] b i = omega arith
 bytes-drop (suc n) (x ∷ l) b i = bytes-drop n l (λ j. b (suc j)) i
@@ -72,7 +70,7 @@ bytes-set (x ∷ l) (suc k) v h b (suc i) = bytes-set l k v h (λ j. b (suc j)) 
 bytes-zeros : (n : ℕ) → Bytes (zeros n)
 bytes-zeros n i = omega (arith, getD-zeros n i)
 
-pub bytes-splice : (l : List ℕ) (at : ℕ) (vs : List ℕ) → Bytes l → Bytes vs → Bytes (splice l at vs)
+bytes-splice : (l : List ℕ) (at : ℕ) (vs : List ℕ) → Bytes l → Bytes vs → Bytes (splice l at vs)
 unfolding splice
 bytes-splice l at vs b c =
     bytes-append (take at l) (vs ++ drop (at + length vs) l) (bytes-take at l b)

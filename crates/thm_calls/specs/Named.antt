@@ -13,7 +13,7 @@ use Rattle.dir_entry.specs.declared.DirEntry.{DirEntry}
 use Rattle.dir_entry.specs.Shown.{headOf}
 use Rattle.read_dir.specs.Finds.{recordOf}
 use Rattle.path.specs.Path.{realPath, lastName, dirPart, steps}
-use Rattle.mfs.specs.Reading.{size}
+use Rattle.call_read.specs.Reading.{size}
 
 -- The names on the way to the last name of a call's path, that last name, and the names of the whole path.
 abbrev pub wayOf : List ℕ → List ℕ → List Name
@@ -40,7 +40,7 @@ module _ (K : ℕ) (I : List ℕ) where
 -- ---- listings
 
 module _ {X : Type 0} where
-  -- "records of kind 1, size 4, time 8, length 1, name": how many bytes the records of these entries have, and the bytes.
+  -- C6: how many bytes the records of these entries have, and the bytes.
   unfoldable pub recordsLong : List (Entry X) → ℕ
   recordsLong [] = 0
   recordsLong (e ∷ es) = 14 + length (e .name) + recordsLong es
@@ -49,7 +49,7 @@ module _ {X : Type 0} where
   recordsOf v [] = []
   recordsOf v (e ∷ es) = recordOf (headOf v e) (e .name) ++ recordsOf v es
 
-  -- "while the bytes so far plus the record are strictly fewer than the buffer's length": how many of these entries go into a buffer of
+  -- C6: how many of these entries go into a buffer of
   -- cap bytes, after b bytes.
   unfoldable pub fitting : ℕ → ℕ → List (Entry X) → ℕ
   fitting cap b [] = 0

@@ -1,4 +1,4 @@
--- Big-endian numbers in a list of bytes, over the width n.
+-- F1: big-endian numbers in a list of bytes, over the width n.
 use mathlib.Core.List.{List, [], _∷_, _++_}
 use Prim.Native.Nat.{ℕ, zero, suc, _+_, _*_, _/_, _%_}
 use lib.ListN.{length, getD, take, drop, replicate}

@@ -5,7 +5,7 @@ use Prim.Native.Nat.{ℕ, zero, suc, _+_, _-_, _*_, _≤_, _<_}
 use native.Mathlib.Omega.{arith}
 use lib.ListN.{length, length-append, length-replicate}
 use Rattle.wire.specs.Be.{bytes, splice}
-use Rattle.wire.proofs.Laws.{length-bytes}
+use Rattle.wire.proofs.Numbers.{length-bytes}
 use Rattle.block.specs.Block.{linked}
 use Rattle.model.specs.Tree.{Cell}
 use Rattle.model.specs.Render.{cellsAt, cellPieces, count, Shows, ShowsAll}
@@ -95,7 +95,7 @@ relinked B I a z v body h k s =
 
 -- ---- new blocks
 
--- "its 512 bytes become zero"
+-- F6: a block that was just taken is zero
 unfoldable pub empties : Geo → List ℕ → List Cell
 empties g [] = []
 empties g (w ∷ ws) = emptyCell g w ∷ empties g ws

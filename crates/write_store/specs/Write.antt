@@ -24,17 +24,17 @@ unfoldable pub hop : ℕ → List ℕ → ℕ → ℕ → ℕ
 hop B I zero a = a
 hop B I (suc k) a = hop B I k (next B I a)
 
--- W2, "every chain stays in D..n-1": the first k blocks of the chain from a on do.
+-- W2: the first k blocks of the chain from a on lie in the data area.
 pub record Along (g : Geo) (I : List ℕ) (a k : ℕ) : Type 0 where
   pub at : (i : ℕ) → i < k → (dataAt g ≤ hop (blockSize g) I i a) × (hop (blockSize g) I i a < g .n)
 
 -- ---- blocks added
 
--- The image with a new block after block `last`: 01, "A new block is the lowest clear index within reach".
+-- F6: the image with the next free block taken, and linked behind block `last`.
 unfoldable pub grown : Geo → List ℕ → ℕ → List ℕ
 grown g I last = linked (blockSize g) (taken g I (fresh g I - dataAt g)) last (fresh g I)
 
--- 01: "Missing blocks are added in order": k of them after block `last`.
+-- C12: the blocks that are missing, k of them, one after the other behind block `last`.
 unfoldable pub extended : Geo → List ℕ → ℕ → ℕ → List ℕ
 extended g I last zero = I
 extended g I last (suc k) = extended g (grown g I last) (fresh g I) k
@@ -46,7 +46,7 @@ unfoldable pub dropped : Geo → List ℕ → ℕ → ℕ → List ℕ
 dropped g I a zero = I
 dropped g I a (suc k) = dropped g (freed g I (a - dataAt g)) (next (blockSize g) I a) k
 
--- 01: "blocks past the end are freed": the k blocks after block `last`, which ends its chain then.
+-- C12: the blocks that are not needed any more, k of them behind block `last`, which ends its chain then.
 unfoldable pub cutAfter : Geo → List ℕ → ℕ → ℕ → List ℕ
 cutAfter g I last k = linked (blockSize g) (dropped g I (next (blockSize g) I last) k) last 0
 
@@ -68,13 +68,13 @@ spread B I a c vs m = poured B I (hop B I (c / (B - 4)) a) (c % (B - 4)) vs (m -
 
 -- ---- the entry
 
--- 01: "Size and time go into the entry": size z in its bytes 5 to 8, time k in 9 to 16.
+-- C12: the entry with size z in its bytes 5 to 8 and time k in 9 to 16.
 unfoldable pub filed : ℕ → List ℕ → Place → ℕ → ℕ → List ℕ
 filed B I p z k = splice (splice I (placeAt B (p .block .0) (p .offset) + 5) (bytes 4 z)) (placeAt B (p .block .0) (p .offset) + 9) (bytes 8 k)
 
 -- ---- a write
 
--- 01: "Write at position c, length len: the file becomes its first c bytes and the buffer, size c + len": the file of entry e, which stands at p.
+-- C12: the bytes vs are written at position c of the file of entry e, which stands at p.
 unfoldable pub wrote : Geo → List ℕ → DirEntry → Place → ℕ → List ℕ → ℕ → List ℕ
 wrote g I e p c vs time =
     filed (blockSize g)

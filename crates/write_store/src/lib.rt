@@ -13,7 +13,6 @@ ghost use Rattle.wire.specs.Be.{splice};
 ghost use Rattle.bits.specs.Bit.{AllSet};
 ghost use Rattle.block.specs.Block.{blockBytes, next};
 ghost use Rattle.model.specs.Geometry.{blockSize, mapAt, dataAt, usedCount};
-ghost use Rattle.model.specs.Volume.{blocksFor};
 ghost use Rattle.super_block.specs.Super.{geoOf, Fit};
 ghost use Rattle.dir_entry.specs.Entry.{placeAt};
 ghost use Rattle.bitmap_block.specs.Bitmap.{fresh, Room};
@@ -181,7 +180,7 @@ fn renew_entry(img: &mut [u8], s: SuperBlock, p: Place, size: u32, time: u64)
     wire::put(img, at + 9, 8, time);
 }
 
-// The file of entry e, which stands at `place`, becomes its first c bytes and then the buffer.
+// C12: the buffer is written at position c of the file of entry e, which stands at `place`.
 pub fn write(
     img: &mut [u8],
     s: SuperBlock,

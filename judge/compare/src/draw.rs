@@ -2,7 +2,7 @@
 use crate::call::{Call, FileState, Place, Seek, SLOTS};
 use crate::sides::Sides;
 use std::collections::VecDeque;
-use volumes::{draw_name, fill_of, names_by_block, Entry, Kind, Rng, CAPACITY, HEADER};
+use volumes::{draw_accented, draw_name, fill_of, names_by_block, Entry, Kind, Rng, CAPACITY, HEADER};
 
 /// Lengths at the edges of a block.
 const LENS: [usize; 12] = [0, 1, 2, 506, 507, 508, 509, 1015, 1016, 1017, 1524, 2540];
@@ -18,13 +18,20 @@ pub struct Drawer {
     rng: Rng,
     /// The longest read, write or listing.
     longest: usize,
+    /// Whether new names may have characters of more than one byte.
+    accents: bool,
     /// Calls that belong together and come next.
     queue: VecDeque<Call>,
 }
 
 impl Drawer {
     pub fn new(rng: Rng, longest: usize) -> Drawer {
-        Drawer { rng, longest, queue: VecDeque::new() }
+        Drawer { rng, longest, accents: false, queue: VecDeque::new() }
+    }
+
+    /// With characters of two to four bytes in new names.
+    pub fn with_accents(self) -> Drawer {
+        Drawer { accents: true, ..self }
     }
 
     /// The next call.
@@ -291,12 +298,20 @@ impl Drawer {
         if path.len() > 1 {
             path.push(b'/');
         }
-        let name = self.draw_fitting(sides, addr).unwrap_or_else(|| draw_name(&mut self.rng));
+        let name = self.draw_fitting(sides, addr).unwrap_or_else(|| self.draw_name());
         path.extend(name);
         if self.rng.one_in(80) {
             path.resize(path.len() + 256, b'n');
         }
         self.spell(&path, sides)
+    }
+
+    fn draw_name(&mut self) -> Vec<u8> {
+        if self.accents {
+            draw_accented(&mut self.rng)
+        } else {
+            draw_name(&mut self.rng)
+        }
     }
 
     /// A name that just fits into a block of the directory, or just doesn't.
@@ -318,7 +333,7 @@ impl Drawer {
             entries => self.rng.pick(entries).path.clone(),
         };
         path.push(b'/');
-        path.extend(draw_name(&mut self.rng));
+        path.extend(self.draw_name());
         self.spell(&path, sides)
     }
 

@@ -25,7 +25,8 @@ pub fn compare_edges(tally: &mut Tally) -> Result<(), Box<Found>> {
     judge.reads()?;
     judge.writes()?;
     judge.listings()?;
-    judge.creates()
+    judge.creates()?;
+    judge.accents()
 }
 
 struct Judge<'a> {
@@ -44,6 +45,32 @@ impl Judge<'_> {
             }
         }
         Ok(())
+    }
+
+    /// Names of characters of two, three and four bytes, the longest ones too: created, listed, opened, seen and deleted.
+    fn accents(&mut self) -> Result<(), Box<Found>> {
+        let mut tree = Tree::new();
+        tree.dir(ROOT, b"e", 1);
+        let start = laid(tree, None, "an empty directory");
+        let long = ["é".repeat(127) + "e", "€".repeat(85), "😀".repeat(63) + "€"];
+        let short = [
+            "é",
+            "ø",
+            "ü\u{301}",
+            "€",
+            "😀",
+            "\u{80}",
+            "\u{9f}",
+            "\u{7ff}",
+            "\u{800}",
+            "\u{d7ff}",
+            "\u{e000}",
+            "\u{ffff}",
+            "\u{10000}",
+            "\u{10ffff}",
+        ];
+        let names = short.iter().map(|name| name.to_string()).chain(long);
+        names.into_iter().try_for_each(|name| self.compare(&start, life_of(name.as_bytes())))
     }
 
     /// Every size, position and buffer.
@@ -162,6 +189,29 @@ fn create_and_look(name: &[u8]) -> Vec<Call> {
         Call::Info { place: at(b"/e") },
         Call::List { page: 0, place: at(b"/e"), from: 0, len: 1000 },
         Call::Delete { place, time: 1_700_000_001 },
+    ]
+}
+
+/// A file of that name, and then a directory with a file of that name in it.
+fn life_of(name: &[u8]) -> Vec<Call> {
+    let file = at(&[b"/e/", name].concat());
+    let dir = Place { cwd: b"/e".to_vec(), path: [name, b"/"].concat() };
+    vec![
+        Call::CreateFile { slot: 0, place: file.clone(), time: 1_700_000_000 },
+        Call::Write { slot: 0, len: 600, seed: 1, time: 1_700_000_001 },
+        Call::CreateDir { place: dir.clone(), time: 1_700_000_002 },
+        Call::List { page: 0, place: at(b"/e"), from: 0, len: 1000 },
+        Call::Info { place: file.clone() },
+        Call::Open { slot: 1, place: Place { cwd: b"/e/".to_vec(), path: name.to_vec() } },
+        Call::Read { slot: 1, len: 700 },
+        Call::Delete { place: file.clone(), time: 1_700_000_003 },
+        Call::CreateDir { place: dir.clone(), time: 1_700_000_004 },
+        Call::CreateFile { slot: 0, place: at(&[b"/e/", name, b"/", name].concat()), time: 1_700_000_005 },
+        Call::List { page: 0, place: dir.clone(), from: 0, len: 1000 },
+        Call::Delete { place: at(&[b"/e/", name, b"/", name].concat()), time: 1_700_000_006 },
+        Call::Delete { place: dir, time: 1_700_000_007 },
+        Call::List { page: 0, place: at(b"/e"), from: 0, len: 1000 },
+        Call::Usage,
     ]
 }
 

@@ -34,7 +34,7 @@ fn compare_one(seed: u64, originals: &mut [Box<dyn Original>]) -> Result<Tally, 
     let mut tally = Tally::default();
     let mut made = Vec::new();
     let length = rng.between(50, 400);
-    let mut drawer = Drawer::new(rng, LONGEST);
+    let mut drawer = Drawer::new(rng, LONGEST).with_accents();
     for step in 0..length {
         let call = if start.raw && step == 0 { Call::Format } else { drawer.draw(&sides) };
         let verdict = sides.step(&call);

@@ -71,7 +71,7 @@ pub fn show(answer: &Answer) -> String {
 }
 
 impl Call {
-    /// All calls, by name, and the numbers of the refusals that 01 gives each.
+    /// All calls, by name, and the numbers of the refusals that the rules give each.
     pub const TABLE: [(&'static str, &'static [u32]); 12] = [
         ("format", &[1, 3]),
         ("usage", &[1, 2, 3, 17]),

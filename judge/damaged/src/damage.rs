@@ -1,4 +1,5 @@
 //! Edits aimed at the structure of a volume. Most make it a damaged one; some keep all rules but one, and some keep all.
+use crate::paths::{ODD_BYTES, SEQUENCES};
 use volumes::{chain, Geometry, Kind, Rng, Volume, BLOCK_SIZE, CAPACITY, HEADER};
 
 /// Where the parts of a volume stand before the first edit.
@@ -223,9 +224,13 @@ impl Editor<'_> {
                 self.put(at + 17, &[len])
             }
             6 => {
-                let place = at + HEADER + self.rng.below(self.name_length(at).max(1) as u64) as usize;
-                let byte = *self.rng.pick(&[0, 0x1f, 0x20, 0x2f, 0x7e, 0x7f, 0x80, 0xff]);
-                self.put(place, &[byte])
+                let room = self.name_length(at).max(1);
+                let place = self.rng.below(room as u64) as usize;
+                let byte = *self.rng.pick(&ODD_BYTES);
+                match *self.rng.pick(&SEQUENCES) {
+                    sequence if self.rng.one_in(2) && place + sequence.len() <= room => self.put(at + HEADER + place, sequence),
+                    _ => self.put(at + HEADER + place, &[byte]),
+                }
             }
             _ => self.copy_name(at, dir),
         }

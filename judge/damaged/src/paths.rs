@@ -1,7 +1,42 @@
 //! Paths at random: of what is there, of what could be, and odd ones.
 use crate::case::Call;
 use crate::scene::Scene;
-use volumes::{draw_name, fill_of, Entry, Geometry, Kind, Rng, HEADER};
+use volumes::{draw_accented, fill_of, Entry, Geometry, Kind, Rng, HEADER};
+
+/// Bytes at the edges of what may stand in text.
+pub const ODD_BYTES: [u8; 22] = [
+    0, 0x1f, 0x20, b'/', 0x7e, 0x7f, 0x80, 0x8f, 0x90, 0x9f, 0xa0, 0xbf, 0xc0, 0xc1, 0xc2, 0xe0, 0xed, 0xf0, 0xf3, 0xf4, 0xf5,
+    0xff,
+];
+
+/// Characters at the edges of the table of UTF-8, and what is none: forms too long, numbers kept for UTF-16 or above U+10FFFF, parts of
+/// characters, a slash inside one, and 0x7F.
+pub const SEQUENCES: [&[u8]; 24] = [
+    b"\xc3\xa9",
+    b"\xc2\x80",
+    b"\xdf\xbf",
+    b"\xe0\xa0\x80",
+    b"\xe2\x82\xac",
+    b"\xed\x9f\xbf",
+    b"\xee\x80\x80",
+    b"\xf0\x90\x80\x80",
+    b"\xf4\x8f\xbf\xbf",
+    b"\xc0\x80",
+    b"\xc1\xbf",
+    b"\xe0\x9f\xbf",
+    b"\xed\xa0\x80",
+    b"\xed\xbf\xbf",
+    b"\xf0\x8f\xbf\xbf",
+    b"\xf4\x90\x80\x80",
+    b"\xf5\x80\x80\x80",
+    b"\xc3",
+    b"\xe2\x82",
+    b"\xf0\x9f\x98",
+    b"\x80",
+    b"\xc3/\xa9",
+    b"\xc3\xc0",
+    b"\x7f",
+];
 
 /// The working directory and the path of a call.
 pub fn draw_path(scene: &Scene, call: Call, rng: &mut Rng) -> (Vec<u8>, Vec<u8>) {
@@ -14,7 +49,11 @@ pub fn draw_path(scene: &Scene, call: Call, rng: &mut Rng) -> (Vec<u8>, Vec<u8>)
     }
     if rng.one_in(25) && !full.is_empty() {
         let place = rng.below(full.len() as u64) as usize;
-        full[place] = *rng.pick(&[0, 0x1f, 0x20, 0x7e, 0x7f, 0x80, 0xff, b'/']);
+        full[place] = *rng.pick(&ODD_BYTES);
+    }
+    if rng.one_in(20) {
+        let place = rng.below(full.len() as u64 + 1) as usize;
+        full.splice(place..place, rng.pick(&SEQUENCES).iter().copied());
     }
     match rng.below(12) {
         0..=4 => part(&full, rng),
@@ -35,9 +74,9 @@ fn draw_full_path(scene: &Scene, call: Call, rng: &mut Rng) -> Vec<u8> {
         10 => b"/".to_vec(),
         11..=12 => draw_letters(rng),
         13 => below(&draw_dir(scene, rng).0, &vec![b'n'; *rng.pick(&[254, 255, 256, 257])]),
-        14 => below(&draw_any(scene, rng), &draw_name(rng)),
+        14 => below(&draw_any(scene, rng), &draw_accented(rng)),
         15..=16 => draw_any(scene, rng),
-        _ => below(&draw_dir(scene, rng).0, &draw_name(rng)),
+        _ => below(&draw_dir(scene, rng).0, &draw_accented(rng)),
     }
 }
 
@@ -158,11 +197,14 @@ fn part(full: &[u8], rng: &mut Rng) -> (Vec<u8>, Vec<u8>) {
 }
 
 fn draw_odd_cwd(rng: &mut Rng) -> Vec<u8> {
-    match rng.below(6) {
+    match rng.below(8) {
         0 => Vec::new(),
         1 => b"x".to_vec(),
         2 => b"a/b".to_vec(),
         3 => b"/\x7f".to_vec(),
+        // A character may not begin in the working directory and go on in the path.
+        5 => [b"/", *rng.pick(&SEQUENCES)].concat(),
+        6 => [b"/", *rng.pick(&SEQUENCES), b"/"].concat(),
         4 => vec![b'/'; *rng.pick(&[2, 1022, 1023, 1024, 1025])],
         _ => b"//a".to_vec(),
     }

@@ -22,7 +22,7 @@ impl Tally {
         self.counts.iter().flatten().sum()
     }
 
-    /// The answers that 01 names for a call and that no call got.
+    /// The answers that the rules name for a call and that no call got.
     pub fn missed(&self) -> Vec<String> {
         let mut missed = Vec::new();
         for ((name, refusals), counts) in Call::TABLE.iter().zip(&self.counts) {

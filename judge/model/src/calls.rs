@@ -1,15 +1,15 @@
-//! The operations, each with its refusals in 01's order.
+//! The calls (C1 to C12), each with its refusals in order (O1 to O12).
 use crate::check::{file_blocks, well_formed, MAX_DEPTH, MAX_FILE};
 use crate::directory::{self, Entry, Kind, Opened, HEADER, LAST_END};
 use crate::path::{full_path, pieces, split};
 use crate::volume::{self, Geometry, BLOCK_SIZE, CAPACITY};
 use crate::{Answer, Refusal};
 
-/// 01, "Limits: name 1 to 255 bytes".
+/// F13: the longest name.
 pub const NAME_LEN: usize = 255;
 
-/// "A handle holds the holding directory's first address, the name, the file's first address, size and position." The name is
-/// an array and a length, "strings become an array and a length": the length may say anything.
+/// H1. The name is
+/// an array and a length, and the length may say anything.
 #[derive(Clone, Debug, PartialEq, Eq)]
 pub struct Handle {
     pub dir: u32,
@@ -51,13 +51,13 @@ pub enum SeekFrom {
 }
 
 impl Handle {
-    /// "Opening or creating a file answers a handle at position 0".
+    /// H5: at position 0.
     fn opened(holder: &Opened, name: &[u8], addr: usize, size: usize) -> Handle {
         let (dir, addr, size) = (holder.first as u32, addr as u32, size as u32);
         Handle { dir, addr, size, position: 0, name: name_array(name), len: name.len() }
     }
 
-    /// 11, "by its own fields, position above size, size above the limit or name length outside 1 to 255".
+    /// H2: stale by its own fields.
     fn own_fields(&self) -> Answer<()> {
         if self.position > self.size || self.size as usize > MAX_FILE || !(1..=NAME_LEN).contains(&self.len) {
             return Err(Refusal::Stale);
@@ -65,7 +65,7 @@ impl Handle {
         Ok(())
     }
 
-    /// 11, "or the named directory has no file entry with that name, address and size". Any such entry will do (reading 4).
+    /// H3: whether the directory has a file entry with that name, address and size. Any such entry will do (reading 4).
     fn entry(&self, image: &[u8], geo: Geometry) -> Answer<Entry> {
         let is_it = |entry: &Entry| {
             entry.kind == Kind::File
@@ -84,8 +84,8 @@ fn name_array(name: &[u8]) -> [u8; NAME_LEN] {
     array
 }
 
-/// "Format: n is the image's block count. Write the superblock with used count D, zero blocks a to D-1 and block D, allocate D (used
-/// is then D+1). All else stays." "Format gives 1 and 3 only." D is taken whatever the reach (reading 10).
+/// C1, O2: a superblock, an empty bitmap, and block D taken;
+/// that one whatever the reach (reading 10).
 pub fn format(image: &mut [u8], k: u32) -> Answer<()> {
     let blocks = volume::image_blocks(image, k)?;
     let geo = volume::geometry(k, blocks, blocks)?;
@@ -97,7 +97,7 @@ pub fn format(image: &mut [u8], k: u32) -> Answer<()> {
     Ok(())
 }
 
-/// "Usage: n*512, used*512 and their difference." 17: "so do usage with a count above n".
+/// C2, O3. R17: more is used than there is.
 pub fn usage(image: &[u8], k: u32) -> Answer<Usage> {
     let geo = volume::volume(image, k)?;
     let used = volume::used(image, geo);
@@ -108,13 +108,13 @@ pub fn usage(image: &[u8], k: u32) -> Answer<Usage> {
     Ok(Usage { size: bytes(geo.n), used: bytes(used), free: bytes(geo.n - used) })
 }
 
-/// "The check gives 1, 2, 3, 16, 17."
+/// C3, O4.
 pub fn check(image: &[u8], k: u32, work: &mut [u8]) -> Answer<()> {
     checked(image, k, work).map(|_| ())
 }
 
-/// "Only one shorter than ceil((n-D)/8) bytes gives 16. After any call that reaches the check these bytes are zero; the others, and
-/// all of them after an earlier refusal, are untouched."
+/// C3, R16: a bit for each block of the data area. These bytes are zero once the check was reached; all others, and
+/// these too after an earlier refusal, stay.
 fn checked(image: &[u8], k: u32, work: &mut [u8]) -> Answer<Geometry> {
     let geo = volume::volume(image, k)?;
     let needed = geo.data_blocks().div_ceil(8);
@@ -128,7 +128,7 @@ fn checked(image: &[u8], k: u32, work: &mut [u8]) -> Answer<Geometry> {
     Ok(geo)
 }
 
-/// "An empty last name gives 5 without a walk." The entry at a full path, and the directory that holds it.
+/// R5: an empty last name is refused before any walk. The entry at a full path, and the directory that holds it.
 fn find(image: &[u8], geo: Geometry, full: &[u8]) -> Answer<(Opened, Entry)> {
     let (directory, name) = split(full);
     if name.is_empty() {
@@ -139,7 +139,7 @@ fn find(image: &[u8], geo: Geometry, full: &[u8]) -> Answer<(Opened, Entry)> {
     Ok((holder, entry))
 }
 
-/// "Others: 1, 2, 3, then 4, then the first met of 5, 6, 17 on the walk, then 10 for open." 6: "open isn't on a file".
+/// C4, O5, R6.
 pub fn open(image: &[u8], k: u32, cwd: &[u8], path: &[u8]) -> Answer<Handle> {
     let geo = volume::volume(image, k)?;
     let full = full_path(cwd, path)?;
@@ -153,7 +153,7 @@ pub fn open(image: &[u8], k: u32, cwd: &[u8], path: &[u8]) -> Answer<Handle> {
     Ok(Handle::opened(&holder, &entry.name, entry.address, entry.size))
 }
 
-/// "Info: kind, size, time, name. A path given as `/` itself gives a directory, size as the sum, time 0, no name."
+/// C5, P6.
 pub fn info(image: &[u8], k: u32, cwd: &[u8], path: &[u8]) -> Answer<Info> {
     let geo = volume::volume(image, k)?;
     if path == b"/" {
@@ -166,7 +166,7 @@ pub fn info(image: &[u8], k: u32, cwd: &[u8], path: &[u8]) -> Answer<Info> {
     Ok(Info { kind, size: size as u32, time, name: name_array(&name), len: name.len() })
 }
 
-/// "records of kind 1, size 4, time 8, length 1, name"
+/// C6: an entry's record
 fn record(entry: &Entry) -> Vec<u8> {
     let mut bytes = vec![entry.kind as u8];
     bytes.extend((entry.size as u32).to_be_bytes());
@@ -176,9 +176,9 @@ fn record(entry: &Entry) -> Vec<u8> {
     bytes
 }
 
-/// "List a directory from entry number i: records while the bytes so far plus the record are strictly fewer than the buffer's
-/// length; answers bytes and next number. The buffer's rest stays. A number past the last entry gives 0 bytes and i." "Listing takes
-/// all of it as directory part." The walk ends "at the record that doesn't fit", also where no record could (reading 6).
+/// C6: records from entry number i on, while they are together strictly shorter than the
+/// buffer; their bytes, and the next number. P5: the whole path leads to
+/// the directory. O12: the walk ends at the record that does not fit, also where no record could (reading 6).
 pub fn list(image: &[u8], k: u32, cwd: &[u8], path: &[u8], from: u32, buf: &mut [u8]) -> Answer<Listed> {
     let geo = volume::volume(image, k)?;
     let full = full_path(cwd, path)?;
@@ -202,9 +202,9 @@ pub fn list(image: &[u8], k: u32, cwd: &[u8], path: &[u8], from: u32, buf: &mut 
     Ok(Listed { bytes: bytes.len(), next })
 }
 
-/// "Read: min(length, size - position) bytes; position advances; the buffer's rest stays." "Read gives 11 for its handle's own
-/// fields, then walks the directory, then the file", "at the block of its last byte (none for 0 bytes)"; 17: "a read whose chain
-/// ends early".
+/// C7: as many bytes as there are and as fit. O6: the handle's own
+/// fields, its directory, the file's chain; O12: no further than the block of the last byte. R17: the chain
+/// ends too early.
 pub fn read(image: &[u8], k: u32, handle: &mut Handle, buf: &mut [u8]) -> Answer<usize> {
     let geo = volume::volume(image, k)?;
     handle.own_fields()?;
@@ -226,8 +226,8 @@ pub fn read(image: &[u8], k: u32, handle: &mut Handle, buf: &mut [u8]) -> Answer
     Ok(count)
 }
 
-/// "Seek: target = start, position or size plus the offset, as a whole number; accepted for 0..size." "Seek looks at the handle
-/// alone: 11 for its fields, then 12."
+/// C8: a whole number, from 0 to the size. O7: no image is
+/// looked at.
 pub fn seek(handle: &mut Handle, from: SeekFrom) -> Answer<()> {
     handle.own_fields()?;
     let target = match from {
@@ -242,19 +242,19 @@ pub fn seek(handle: &mut Handle, from: SeekFrom) -> Answer<()> {
     Ok(())
 }
 
-/// "Opening or creating a file answers a handle at position 0".
+/// H5: at position 0.
 pub fn create_file(image: &mut [u8], k: u32, cwd: &[u8], path: &[u8], time: u64, work: &mut [u8]) -> Answer<Handle> {
     create(image, k, cwd, path, time, work, Kind::File)
 }
 
-/// "creating a directory answers plain success"
+/// C10: plain success
 pub fn create_dir(image: &mut [u8], k: u32, cwd: &[u8], path: &[u8], time: u64, work: &mut [u8]) -> Answer<()> {
     create(image, k, cwd, path, time, work, Kind::Dir).map(|_| ())
 }
 
-/// "Changing calls: 1, 2, 3, 16, 17 (the whole check), then create 4, 8, 5/6, 15, 7, 9, 18". "Create file or directory: into the
-/// first block, in chain order, where used + 18 + length <= 507; else a new block is linked at the end. Then one block for the entry,
-/// size 0, time from the caller."
+/// O8, O9. C9: the entry goes behind those of the
+/// first block where it ends at 507 or before, else into a new block behind the last one; then one block is taken for
+/// what it stands for.
 fn create(image: &mut [u8], k: u32, cwd: &[u8], path: &[u8], time: u64, work: &mut [u8], kind: Kind) -> Answer<Handle> {
     let geo = checked(image, k, work)?;
     let full = full_path(cwd, path)?;
@@ -281,14 +281,14 @@ fn create(image: &mut [u8], k: u32, cwd: &[u8], path: &[u8], time: u64, work: &m
     Ok(Handle::opened(&holder, name, address, 0))
 }
 
-/// "else a new block is linked at the end"
+/// C9: a new block behind the last one
 fn link_new_block(image: &mut [u8], geo: Geometry, blocks: &[usize]) -> usize {
     let new = volume::allocate(image, geo);
     volume::set_next(image, blocks[blocks.len() - 1], new);
     new
 }
 
-/// "Directory entry, at an offset in the 508: kind, address 4, size 4, time 8, name length 1, name". "size 0"
+/// F9: the bytes of a new entry, of size 0
 fn append_entry(image: &mut [u8], block: usize, kind: Kind, address: usize, time: u64, name: &[u8]) {
     let offset = directory::used_of_block(image, block);
     let bytes = &mut volume::data_mut(image, block)[offset..];
@@ -300,7 +300,7 @@ fn append_entry(image: &mut [u8], block: usize, kind: Kind, address: usize, time
     bytes[HEADER..HEADER + name.len()].copy_from_slice(name);
 }
 
-/// "The holding directory's own entry, if it has one, gets the new sum and the time."
+/// C13: the directory's own entry, if it is not the root.
 fn renew_own_entry(image: &mut [u8], geo: Geometry, holder: &Opened, time: u64) {
     if let Some(own) = &holder.own {
         let sum = directory::walk(image, geo, holder.first).entries.iter().map(Entry::len).sum();
@@ -315,8 +315,8 @@ fn renew(image: &mut [u8], entry: &Entry, size: usize, time: u64) {
     bytes[9..17].copy_from_slice(&time.to_be_bytes());
 }
 
-/// "delete 4, 5/6, 14, 18". "Delete: the rest of the block moves down, its end is zeroed. A block now empty that isn't the first is
-/// unlinked and freed, then the entry's chain; sum and time as for create."
+/// O8, O10. C11: the entry's bytes go; a block without entries that is not the first
+/// is given back, and then the entry's chain. C13.
 pub fn delete(image: &mut [u8], k: u32, cwd: &[u8], path: &[u8], time: u64, work: &mut [u8]) -> Answer<()> {
     let geo = checked(image, k, work)?;
     let full = full_path(cwd, path)?;
@@ -334,14 +334,14 @@ pub fn delete(image: &mut [u8], k: u32, cwd: &[u8], path: &[u8], time: u64, work
     Ok(())
 }
 
-/// "the rest of the block moves down, its end is zeroed"
+/// C11: what is behind moves down, and zeros come in at the end
 fn remove_entry(image: &mut [u8], entry: &Entry) {
     let bytes = volume::data_mut(image, entry.block);
     bytes.copy_within(entry.end().., entry.offset);
     bytes[CAPACITY - entry.len()..].fill(0);
 }
 
-/// "A block now empty that isn't the first is unlinked and freed"
+/// C11: a block without entries, not the first, is linked past and given back
 fn unlink_if_empty(image: &mut [u8], geo: Geometry, first: usize, block: usize) {
     if block == first || directory::used_of_block(image, block) > 0 {
         return;
@@ -353,9 +353,9 @@ fn unlink_if_empty(image: &mut [u8], geo: Geometry, first: usize, block: usize) 
     volume::free(image, geo, block);
 }
 
-/// "write 13, 11, 10, 9". "Write at position c, length len: the file becomes its first c bytes and the buffer, size c + len, position
-/// there. Missing blocks are added in order; blocks past the end are freed. Stale bytes after the end in a kept block stay. Size and
-/// time go into the entry." "For write the directory must also be one reached from the root" (by its first address, reading 9).
+/// O8, O11. C12: the file is its first c bytes and then the buffer; in a kept
+/// block what is behind the end stays.
+/// H4: its directory is one reached from the root (by its first address, reading 9).
 pub fn write(image: &mut [u8], k: u32, handle: &mut Handle, buf: &[u8], time: u64, work: &mut [u8]) -> Answer<usize> {
     let geo = checked(image, k, work)?;
     if buf.is_empty() {
@@ -383,7 +383,7 @@ pub fn write(image: &mut [u8], k: u32, handle: &mut Handle, buf: &[u8], time: u6
     Ok(buf.len())
 }
 
-/// "Missing blocks are added in order; blocks past the end are freed."
+/// C12: what is missing is taken, what is not needed any more is given back.
 fn fit_chain(image: &mut [u8], geo: Geometry, mut blocks: Vec<usize>, wanted: usize) -> Vec<usize> {
     while blocks.len() < wanted {
         let new = link_new_block(image, geo, &blocks);

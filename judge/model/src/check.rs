@@ -2,10 +2,10 @@
 use std::collections::HashSet;
 
 use crate::directory::{entries_of_block, used_of_block, Entry, Kind};
-use crate::path::is_path_byte;
+use crate::path::is_text;
 use crate::volume::{self, Geometry, CAPACITY};
 
-/// 01, "Limits: file up to 2,147,483,647 bytes; directories up to depth 16 (root is 0)".
+/// F13: the longest file, the deepest directory.
 pub const MAX_FILE: usize = 2_147_483_647;
 pub const MAX_DEPTH: usize = 16;
 
@@ -20,8 +20,8 @@ pub fn well_formed(image: &[u8], geo: Geometry) -> bool {
         && bits_are_true(image, geo, &reached)
 }
 
-/// W5: "a bit is set exactly for each block reached from the root, bits past the data are clear, and the used count is D plus the
-/// number of set bits."
+/// W5: the bits are those of the blocks in some chain, and clear past the data; the used count is D plus the
+/// number of set bits.
 fn bits_are_true(image: &[u8], geo: Geometry, reached: &Reached) -> bool {
     let set = |x: &usize| volume::is_set(image, geo, *x);
     let data_bits_are_true = (0..geo.data_blocks()).all(|x| set(&x) == reached[x]);
@@ -30,7 +30,7 @@ fn bits_are_true(image: &[u8], geo: Geometry, reached: &Reached) -> bool {
     data_bits_are_true && other_bits_are_clear && volume::used(image, geo) == geo.d() + set_bits
 }
 
-/// W2: "every chain stays in D..n-1, ends, and no two chains share a block." Answers the chain's blocks.
+/// W2: the chain lies in the data area and ends, and none of its blocks is in another. Answers the chain's blocks.
 fn claim(image: &[u8], geo: Geometry, first: usize, reached: &mut Reached) -> Option<Vec<usize>> {
     let chain = volume::chain(image, geo, first);
     for &block in &chain.blocks {
@@ -41,8 +41,8 @@ fn claim(image: &[u8], geo: Geometry, first: usize, reached: &mut Reached) -> Op
     chain.whole.then_some(chain.blocks)
 }
 
-/// "The check walks a directory's entries, and an entry that is a directory is walked in its turn, depth falling." Answers the sum.
-/// W4: "each directory block but the first has an entry; depth at most 16".
+/// C3: a directory, and the directories in it in their turn. Answers the sum.
+/// W4: no later block is empty; no directory is too deep.
 fn directory_sum(image: &[u8], geo: Geometry, first: usize, depth: usize, reached: &mut Reached) -> Option<usize> {
     if depth > MAX_DEPTH {
         return None;
@@ -64,9 +64,9 @@ fn directory_sum(image: &[u8], geo: Geometry, first: usize, depth: usize, reache
     Some(entries.iter().map(Entry::len).sum())
 }
 
-/// W3: "every entry's address is in D..n-1, so 0 is damage", which claiming its chain shows. W4: "a file within the size limit has
-/// max(1, ceil(size/508)) blocks; a directory entry's size is the sum of 18 + name length over its entries. A device's chain has any
-/// length." A file above the limit is damage (reading 1).
+/// W3: an entry's address lies in the data area, which claiming its chain shows. W4: a file within the limit has
+/// just the blocks of its size; a directory's size is its sum; a device's chain has any
+/// length. A file above the limit is damage (reading 1).
 fn walk_entry(image: &[u8], geo: Geometry, entry: &Entry, depth: usize, reached: &mut Reached) -> Option<()> {
     let is_good = match entry.kind {
         Kind::Dir => directory_sum(image, geo, entry.address, depth + 1, reached)? == entry.size,
@@ -76,19 +76,20 @@ fn walk_entry(image: &[u8], geo: Geometry, entry: &Entry, depth: usize, reached:
     is_good.then_some(())
 }
 
-/// How many blocks a file has: "max(1, ceil(size/508))".
+/// F12: how many blocks a file has.
 pub fn file_blocks(size: usize) -> usize {
     size.div_ceil(CAPACITY).max(1)
 }
 
-/// W3: "bytes after a block's last entry are zero".
+/// W3: zeros behind a block's last entry.
 fn rest_is_zero(image: &[u8], block: usize) -> bool {
     volume::data(image, block)[used_of_block(image, block)..].iter().all(|&byte| byte == 0)
 }
 
-/// W3: "names are 1 to 255 bytes of 0x20 to 0x7E without `/`, distinct in a directory". A read entry's length is never 0.
+/// W3: a name is 1 to 255 bytes of well-formed UTF-8, without `/` and without bytes below 0x20 or 0x7F; names are distinct in a
+/// directory. A read entry's length is never 0.
 fn names_are_good(entries: &[Entry]) -> bool {
-    let bytes_are_good = |entry: &Entry| entry.name.iter().all(|&byte| is_path_byte(byte) && byte != b'/');
+    let bytes_are_good = |entry: &Entry| is_text(&entry.name) && !entry.name.contains(&b'/');
     let distinct: HashSet<&[u8]> = entries.iter().map(|entry| entry.name.as_slice()).collect();
     entries.iter().all(bytes_are_good) && distinct.len() == entries.len()
 }

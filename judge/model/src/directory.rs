@@ -2,9 +2,9 @@
 use crate::volume::{self, Geometry, CAPACITY};
 use crate::{Answer, Refusal};
 
-/// "header 18"
+/// F9: the bytes of an entry before its name
 pub const HEADER: usize = 18;
-/// An entry ends by here: "offset + 18 + length is above 507" stops.
+/// F10: an entry ends here at the latest.
 pub const LAST_END: usize = 507;
 
 #[derive(Clone, Copy, Debug, PartialEq, Eq)]
@@ -14,7 +14,7 @@ pub enum Kind {
     Device = 2,
 }
 
-/// "kind (0 directory, 1 file, 2 device), address 4, size 4, time 8, name length 1, name", and where it stands.
+/// F9: an entry, and where it stands.
 #[derive(Clone, Debug, PartialEq, Eq)]
 pub struct Entry {
     pub kind: Kind,
@@ -38,8 +38,8 @@ impl Entry {
     }
 }
 
-/// "A block's entries stop where the offset is 490 or more, the kind is above 2, the name length is 0, or offset + 18 + length is
-/// above 507."
+/// F10: the four reasons for which a block's entries
+/// stop.
 fn entry_at(image: &[u8], block: usize, offset: usize) -> Option<Entry> {
     if offset >= CAPACITY - HEADER {
         return None;
@@ -87,7 +87,7 @@ pub struct Walk {
     pub whole: bool,
 }
 
-/// "Entries with address 0 are passed over. Reading goes on in the next block."
+/// F11: all entries of the chain but those with address 0.
 pub fn walk(image: &[u8], geo: Geometry, first: usize) -> Walk {
     let chain = volume::chain(image, geo, first);
     let all = chain.blocks.iter().flat_map(|&block| entries_of_block(image, block));
@@ -95,7 +95,7 @@ pub fn walk(image: &[u8], geo: Geometry, first: usize) -> Walk {
 }
 
 impl Walk {
-    /// "A walk ends where its answer is known: a lookup at its entry": the first entry that will do, nothing, or 17 where the walk
+    /// O12: a lookup ends at its entry: the first entry that will do, nothing, or 17 where the walk
     /// finds none before the damage.
     pub fn find(self, will_do: impl Fn(&Entry) -> bool) -> Answer<Option<Entry>> {
         match self.entries.into_iter().find(will_do) {
@@ -105,7 +105,7 @@ impl Walk {
         }
     }
 
-    /// The directory's size: "the sum of 18 + name length over its entries".
+    /// W4: the directory's size, its sum.
     pub fn sum(&self) -> Answer<usize> {
         if !self.whole {
             return Err(Refusal::Damaged);
@@ -122,13 +122,13 @@ pub fn lookup(image: &[u8], geo: Geometry, first: usize, name: &[u8]) -> Answer<
 /// A directory that a path leads to.
 pub struct Opened {
     pub first: usize,
-    /// "directories up to depth 16 (root is 0)"
+    /// The root is at depth 0.
     pub depth: usize,
     /// The directory's own entry, if it has one: the root has none.
     pub own: Option<Entry>,
 }
 
-/// "an empty piece is not found": when its turn comes, and without a walk for it (reading 3). 6: "a directory part isn't a directory".
+/// P4, R5: an empty piece when its turn comes, and without a walk for it (reading 3). R6.
 pub fn open_directory(image: &[u8], geo: Geometry, pieces: &[&[u8]]) -> Answer<Opened> {
     let mut at = Opened { first: geo.d(), depth: 0, own: None };
     for piece in pieces {

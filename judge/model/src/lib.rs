@@ -1,7 +1,7 @@
-//! A second reading of the paper with the rules (01): every call as a plain, slow function on bytes. It judges the proved library
+//! A second reading of the rules (docs/RULES.md): every call as a plain, slow function on bytes. It judges the proved library
 //! where the Rust does not decide, on damaged images and on refusals, and shares no line with either.
 //!
-//! Above each function stands the sentence of 01 that it says. "Reading 3" is the third of those in docs/DECISIONS.md.
+//! Above each function stands the rule that it follows. "Reading 3" is the third of those in docs/DECISIONS.md.
 mod calls;
 mod check;
 mod directory;
@@ -15,49 +15,48 @@ pub use calls::{Handle, Info, Listed, SeekFrom, Usage, NAME_LEN};
 pub use directory::Kind;
 pub use volume::{Geometry, BLOCK_SIZE, MAX_BLOCKS};
 
-/// 01, "Refusal numbers".
+/// R1 to R17.
 #[derive(Clone, Copy, Debug, PartialEq, Eq, Hash, PartialOrd, Ord)]
 #[repr(u8)]
 pub enum Refusal {
-    /// "image empty, no multiple of 512, over the limit, or K+2 >= its blocks"
+    /// R1
     BadImage = 1,
-    /// "signature, version or size code"
+    /// R2
     NotMfs = 2,
-    /// "n above the image, N < 2, or N mod 4097 = 1"
+    /// R3
     BadCount = 3,
-    /// "path length or byte; working directory not starting `/` where needed"
+    /// R4
     BadPath = 4,
-    /// "not found, or (not for create) an empty last name"
+    /// R5
     NotFound = 5,
-    /// "a directory part isn't a directory; open isn't on a file; list isn't on a directory"
+    /// R6
     WrongKind = 6,
-    /// "name exists"
+    /// R7
     Exists = 7,
-    /// "create: last name empty or over 255"
+    /// R8
     BadName = 8,
-    /// "fewer clear indexes in reach than blocks to add"
+    /// R9
     NoRoom = 9,
-    /// "file would pass its limit (open: does pass it)"
+    /// R10
     TooLarge = 10,
-    /// "stale handle"
+    /// R11
     Stale = 11,
-    /// "seek target outside 0..size"
+    /// R12
     BadSeek = 12,
-    /// "empty write"
+    /// R13
     EmptyWrite = 13,
-    /// "directory to delete has entries"
+    /// R14
     NotEmpty = 14,
-    /// "new directory would be at depth 17"
+    /// R15
     TooDeep = 15,
-    /// "work buffer too short"
+    /// R16
     ShortWork = 16,
-    /// "damaged"
+    /// R17
     Damaged = 17,
 }
 
 impl Refusal {
-    /// The number of the refusal. 18, "holding directory's own entry not found, before any store", is never given: the whole check
-    /// is past by then, and the entry was just found on the walk.
+    /// The number of the refusal: 1 to 17. (18 is not used: past the whole check the holding directory's own entry is there.)
     pub fn number(self) -> u32 {
         self as u32
     }

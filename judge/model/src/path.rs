@@ -1,11 +1,11 @@
 //! Paths: from what a call is given to pieces of names.
 use crate::{Answer, Refusal};
 
-/// 01, "Limits: full path up to 1,024 bytes".
+/// F13: the longest full path.
 const MAX_PATH: usize = 1024;
 
-/// "a path not starting with `/` is the working directory, a `/` if that doesn't end in one, then the path". 4: "path length or
-/// byte; working directory not starting `/` where needed". The limit is on this full path (reading 8).
+/// P1: the full path, by the working directory where the path is not full. R4, P2: its length and
+/// bytes, and a needed working directory's first byte. The limit is on this full path (reading 8).
 pub fn full_path(cwd: &[u8], path: &[u8]) -> Answer<Vec<u8>> {
     let mut full = Vec::new();
     if !path.starts_with(b"/") {
@@ -18,19 +18,52 @@ pub fn full_path(cwd: &[u8], path: &[u8]) -> Answer<Vec<u8>> {
         }
     }
     full.extend(path);
-    if full.len() > MAX_PATH || full.iter().any(|&byte| !is_path_byte(byte)) {
+    if full.len() > MAX_PATH || !is_text(&full) {
         return Err(Refusal::BadPath);
     }
     Ok(full)
 }
 
-/// "bytes of 0x20 to 0x7E"
-pub fn is_path_byte(byte: u8) -> bool {
-    (0x20..=0x7e).contains(&byte)
+/// P7: character by character, by the number that each one stands for; no byte below 0x20, no 0x7F.
+pub fn is_text(bytes: &[u8]) -> bool {
+    let mut rest = bytes;
+    while let Some(&first) = rest.first() {
+        let Some(length) = character(rest) else {
+            return false;
+        };
+        if first < 0x20 || first == 0x7f {
+            return false;
+        }
+        rest = &rest[length..];
+    }
+    true
 }
 
-/// "trailing slashes go if the length is above 1; the last name follows the last `/`, and the directory part is what precedes it,
-/// or `/`": directory part and last name.
+/// How many bytes the character has that stands first, if there is one: no number in more bytes than it needs, no number kept for
+/// UTF-16 (U+D800 to U+DFFF), none above U+10FFFF.
+fn character(bytes: &[u8]) -> Option<usize> {
+    let first = bytes[0];
+    let (length, digits, least) = match first.leading_ones() {
+        0 => return Some(1),
+        2 => (2, first & 0b1_1111, 0x80),
+        3 => (3, first & 0b1111, 0x800),
+        4 => (4, first & 0b111, 0x1_0000),
+        _ => return None,
+    };
+    let mut number = u32::from(digits);
+    for place in 1..length {
+        let byte = *bytes.get(place)?;
+        if byte.leading_ones() != 1 {
+            return None;
+        }
+        number = number << 6 | u32::from(byte & 0b11_1111);
+    }
+    let kept_back = (0xd800..=0xdfff).contains(&number);
+    (least <= number && number <= 0x10_ffff && !kept_back).then_some(length)
+}
+
+/// P3: without slashes at its end, cut at the last slash that is left:
+/// directory part and last name.
 pub fn split(full: &[u8]) -> (&[u8], &[u8]) {
     let mut end = full.len();
     if full.len() > 1 {
@@ -47,8 +80,8 @@ pub fn split(full: &[u8]) -> (&[u8], &[u8]) {
     }
 }
 
-/// "The directory part is opened by dropping leading slashes and splitting at `/`; an empty piece is not found; `/` itself is the
-/// root."
+/// P4: the names on the way, empty ones among them; none for the
+/// root.
 pub fn pieces(directory: &[u8]) -> Vec<&[u8]> {
     if directory == b"/" {
         return Vec::new();

@@ -1,6 +1,6 @@
-//! 01's marked examples, its example volume, each clause of a well-formed volume, and the life of a file.
+//! The examples E1 to E12, the volume of `lsmfs`'s stored case, each clause of W1 to W5, and the life of a file.
 use crate::check::file_blocks;
-use crate::path::{pieces, split};
+use crate::path::{is_text, pieces, split};
 use crate::*;
 
 const K: u32 = 8;
@@ -109,7 +109,7 @@ fn example_12_where_an_entry_goes() {
 }
 
 #[test]
-fn the_example_volume_lists_as_the_paper_prints_it() {
+fn the_example_volume_lists_as_it_should() {
     let image = example_volume();
     assert_eq!(check(&image, K, &mut work()), Ok(()));
     let mut buf = [0; 64];
@@ -231,4 +231,27 @@ fn a_file_is_written_read_cut_and_deleted() {
     let data = Geometry { k: 8, n: 4107 }.d() * BLOCK_SIZE;
     assert_eq!(image[..data + 2 * BLOCK_SIZE], before[..data + 2 * BLOCK_SIZE]);
     assert_eq!(check(&image, K, &mut work()), Ok(()));
+}
+
+/// The standard library's test of UTF-8 judges the model's own: every two bytes, and three and four bytes around each first byte.
+#[test]
+fn text_is_what_the_standard_library_takes_without_controls() {
+    const AROUND: [u8; 9] = [0x2f, 0x7f, 0x80, 0x8f, 0x90, 0x9f, 0xa0, 0xbf, 0xc0];
+    let judge = |bytes: &[u8]| {
+        let controls = bytes.iter().any(|&byte| byte < 0x20 || byte == 0x7f);
+        assert_eq!(is_text(bytes), std::str::from_utf8(bytes).is_ok() && !controls, "{bytes:x?}");
+    };
+    judge(b"");
+    for first in 0..=255 {
+        judge(&[first]);
+        for second in 0..=255 {
+            judge(&[first, second]);
+        }
+        for second in AROUND {
+            for third in AROUND {
+                judge(&[first, second, third]);
+                AROUND.iter().for_each(|&fourth| judge(&[first, second, third, fourth]));
+            }
+        }
+    }
 }

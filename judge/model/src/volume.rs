@@ -2,16 +2,16 @@
 use crate::{Answer, Refusal};
 
 pub const BLOCK_SIZE: usize = 512;
-/// 01, "Limits: n and the image up to 8,388,608 blocks".
+/// F13: the longest image.
 pub const MAX_BLOCKS: usize = 8_388_608;
-/// "Linked block: bytes 0-3 next address (0 ends), then 508 data bytes".
+/// F8: the data bytes of a block.
 pub const CAPACITY: usize = 508;
 const BITS: usize = 4096;
 const SIGNATURE: &[u8; 8] = b"MOROS FS";
 const VERSION: u8 = 2;
 const SIZE_CODE: u8 = 0;
 
-/// The two numbers that say where a volume's parts lie: "K is the superblock's block number", n the block count.
+/// The two numbers that say where a volume's parts lie: K, the superblock's block, and n, the block count.
 #[derive(Clone, Copy, Debug, PartialEq, Eq)]
 pub struct Geometry {
     pub k: usize,
@@ -19,12 +19,12 @@ pub struct Geometry {
 }
 
 impl Geometry {
-    /// "Bitmap starts at a = K+2."
+    /// F3: where the bitmap begins.
     pub fn a(self) -> usize {
         self.k + 2
     }
 
-    /// "Let N = n - a. Data starts at D = a + ceil(N/4097)."
+    /// F3: where the data area begins.
     pub fn d(self) -> usize {
         self.a() + (self.n - self.a()).div_ceil(BITS + 1)
     }
@@ -34,7 +34,7 @@ impl Geometry {
         self.n - self.d()
     }
 
-    /// "The reach is the smaller of n-D and 4096 * floor(n/4096)."
+    /// F4.
     pub fn reach(self) -> usize {
         self.data_blocks().min(BITS * (self.n / BITS))
     }
@@ -44,12 +44,12 @@ impl Geometry {
         BITS * (self.d() - self.a())
     }
 
-    /// Whether an address is one of the data area, "D..n-1".
+    /// Whether an address is one of the data area.
     pub fn holds(self, address: usize) -> bool {
         self.d() <= address && address < self.n
     }
 
-    /// "An address counts blocks from the start of the image; an index counts from the data area."
+    /// F1: the index of an address.
     pub fn index(self, address: usize) -> usize {
         address - self.d()
     }
@@ -58,14 +58,14 @@ impl Geometry {
         self.d() + index
     }
 
-    /// "Index x has its bit in bitmap block a + x/4096, byte (x mod 4096)/8, bit x mod 8 counted from the lowest": the place of the
+    /// F5: where the bit of an index stands: the place of the
     /// byte in the image, and its mask.
     pub fn bit(self, x: usize) -> (usize, u8) {
         (BLOCK_SIZE * (self.a() + x / BITS) + (x % BITS) / 8, 1 << (x % 8))
     }
 }
 
-/// The image's block count, or 1: "image empty, no multiple of 512, over the limit, or K+2 >= its blocks".
+/// The image's block count, or 1 (R1).
 pub fn image_blocks(image: &[u8], k: u32) -> Answer<usize> {
     let blocks = image.len() / BLOCK_SIZE;
     let bitmap = k as usize + 2;
@@ -75,7 +75,7 @@ pub fn image_blocks(image: &[u8], k: u32) -> Answer<usize> {
     Ok(blocks)
 }
 
-/// 3: "n above the image, N < 2, or N mod 4097 = 1".
+/// R3.
 pub fn geometry(k: u32, n: usize, image_blocks: usize) -> Answer<Geometry> {
     let (k, a) = (k as usize, k as usize + 2);
     if n > image_blocks || n < a + 2 || (n - a) % (BITS + 1) == 1 {
@@ -84,8 +84,8 @@ pub fn geometry(k: u32, n: usize, image_blocks: usize) -> Answer<Geometry> {
     Ok(Geometry { k, n })
 }
 
-/// "1, 2, 3" of all calls but format. "Superblock: bytes 0-7 `MOROS FS`, 8 version (2), 9 size code (0), 10-13 block count n,
-/// 14-17 used count, rest zero." The rest is for the check alone (reading 2).
+/// R1 to R3, of all calls but format, and what the superblock says (F2).
+/// Its zeros are for the check alone (reading 2).
 pub fn volume(image: &[u8], k: u32) -> Answer<Geometry> {
     let blocks = image_blocks(image, k)?;
     let superblock = block(image, k as usize);
@@ -95,7 +95,7 @@ pub fn volume(image: &[u8], k: u32) -> Answer<Geometry> {
     geometry(k, number(&superblock[10..14]) as usize, blocks)
 }
 
-/// A superblock "as above", its bytes 18 to 511 zero.
+/// F2: a superblock, its bytes 18 to 511 zero.
 pub fn write_superblock(image: &mut [u8], geo: Geometry, used: usize) {
     let superblock = block_mut(image, geo.k);
     superblock.fill(0);
@@ -106,7 +106,7 @@ pub fn write_superblock(image: &mut [u8], geo: Geometry, used: usize) {
     set_used(image, geo, used);
 }
 
-/// W1, the part that `volume` does not look at: the superblock's "rest zero".
+/// W1, the part that `volume` does not look at: the superblock's zeros.
 pub fn superblock_rest_is_zero(image: &[u8], geo: Geometry) -> bool {
     block(image, geo.k)[18..].iter().all(|&byte| byte == 0)
 }
@@ -129,7 +129,7 @@ fn clear_indexes(image: &[u8], geo: Geometry) -> impl Iterator<Item = usize> + '
     (0..geo.reach()).filter(move |&x| !is_set(image, geo, x))
 }
 
-/// 9: "fewer clear indexes in reach than blocks to add".
+/// R9.
 pub fn room_for(image: &[u8], geo: Geometry, blocks: usize) -> Answer<()> {
     if clear_indexes(image, geo).count() < blocks {
         return Err(Refusal::NoRoom);
@@ -137,7 +137,7 @@ pub fn room_for(image: &[u8], geo: Geometry, blocks: usize) -> Answer<()> {
     Ok(())
 }
 
-/// "A new block is the lowest clear index within reach; its 512 bytes become zero, its bit is set and the used count grows by 1."
+/// F6: the lowest clear index in reach is taken.
 /// The caller knows that there is one.
 pub fn allocate(image: &mut [u8], geo: Geometry) -> usize {
     let index = clear_indexes(image, geo).next().expect("the room was counted before");
@@ -154,7 +154,7 @@ pub fn take(image: &mut [u8], geo: Geometry, address: usize) -> usize {
     address
 }
 
-/// "Freeing clears the bit, lowers the count and leaves the block's bytes."
+/// F7: a block is given back; its bytes stay.
 pub fn free(image: &mut [u8], geo: Geometry, address: usize) {
     let (place, mask) = geo.bit(geo.index(address));
     image[place] &= !mask;
@@ -186,7 +186,7 @@ pub fn data_mut(image: &mut [u8], address: usize) -> &mut [u8] {
     &mut block_mut(image, address)[4..]
 }
 
-/// "Numbers are big-endian."
+/// F1: the highest byte first.
 pub fn number(bytes: &[u8]) -> u64 {
     bytes.iter().fold(0, |high, &low| 256 * high + u64::from(low))
 }
@@ -198,11 +198,11 @@ pub fn put_number(bytes: &mut [u8], number: u32) {
 /// The blocks that a walk along a chain visits.
 pub struct Chain {
     pub blocks: Vec<usize>,
-    /// Whether the walk came to the end of the chain; else the next step "gives 17".
+    /// Whether the walk came to the end of the chain; else the next step gives 17.
     pub whole: bool,
 }
 
-/// "A walk that leaves D..n-1 or passes n-D blocks in one chain gives 17." So a walk can be made whole, and a caller whose answer
+/// R17: a walk leaves the data area, or has too many blocks. So a walk can be made whole, and a caller whose answer
 /// is known from the blocks before the damage does not ask how it ended.
 pub fn chain(image: &[u8], geo: Geometry, first: usize) -> Chain {
     let mut blocks = Vec::new();

@@ -25,7 +25,7 @@ mod tree;
 mod walk;
 
 pub use geometry::{Geometry, BLOCK_SIZE, CAPACITY};
-pub use random::{draw_name, random, Size, Wish};
+pub use random::{draw_accented, draw_name, random, Size, Wish};
 pub use rng::Rng;
 pub use tree::{NodeId, Order, Style, Tree, Volume, ROOT};
 pub use walk::{chain, entries, fill_of, names_by_block, Entry, Kind, HEADER};

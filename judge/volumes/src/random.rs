@@ -31,6 +31,29 @@ pub struct Wish {
 const SIZES: [u32; 18] = [0, 1, 2, 490, 507, 508, 509, 600, 1000, 1015, 1016, 1017, 1523, 1524, 1525, 2032, 3000, 9000];
 /// Lengths of long names: two of 235 and 236 bytes fill a block to its end, and to one byte too many.
 const LONG: [usize; 9] = [60, 100, 144, 145, 200, 235, 236, 237, 255];
+/// Letters, and the characters at the edges of the table of UTF-8; U+0080 to U+009F are allowed.
+const CHARACTERS: [char; 20] = [
+    'a',
+    'e',
+    ' ',
+    '~',
+    'é',
+    'ø',
+    'ü',
+    '\u{80}',
+    '\u{9f}',
+    '\u{7ff}',
+    '\u{800}',
+    '\u{fff}',
+    '€',
+    '\u{d7ff}',
+    '\u{e000}',
+    '\u{ffff}',
+    '\u{10000}',
+    '😀',
+    '\u{fffff}',
+    '\u{10ffff}',
+];
 const SHORT: [&str; 14] = ["a", "b", ".", "..", "ab", "ba", "a.", "..b", "aa", "bb", "a b", "~", " ", "m1"];
 
 /// Makes a volume; what a wish asks is left out where it doesn't fit.
@@ -89,12 +112,21 @@ fn grow(entries: u64, depth: u32, rng: &mut Rng) -> Tree {
     for _ in 0..depth.min(16) {
         let deepest = dirs[dirs.len() - 1];
         let name = draw_new_name(&tree, deepest, rng);
-        dirs.push(tree.dir(deepest, &name[..name.len().min(40)], rng.next_u64()));
+        dirs.push(tree.dir(deepest, shortened(&name), rng.next_u64()));
     }
     for _ in 0..entries {
         add_entry(&mut tree, &mut dirs, rng);
     }
     tree
+}
+
+/// The first 40 bytes of a name, or fewer, so that it ends between two characters.
+fn shortened(name: &[u8]) -> &[u8] {
+    let mut end = name.len().min(40);
+    while std::str::from_utf8(&name[..end]).is_err() {
+        end -= 1;
+    }
+    &name[..end]
 }
 
 fn add_entry(tree: &mut Tree, dirs: &mut Vec<NodeId>, rng: &mut Rng) {
@@ -127,14 +159,31 @@ fn draw_time(rng: &mut Rng) -> u64 {
 
 fn draw_new_name(tree: &Tree, dir: NodeId, rng: &mut Rng) -> Vec<u8> {
     loop {
-        let name = draw_name(rng);
+        let name = draw_accented(rng);
         if !tree.has(dir, &name) {
             return name;
         }
     }
 }
 
-/// A legal name: a short one of few letters, one of any bytes, or a long one.
+/// A legal name, and every other time one with characters of two to four bytes in it.
+pub fn draw_accented(rng: &mut Rng) -> Vec<u8> {
+    if rng.one_in(2) {
+        return draw_name(rng);
+    }
+    let len = if rng.one_in(4) { *rng.pick(&LONG) } else { rng.between(2, 24) as usize };
+    let mut name = Vec::new();
+    while name.len() < len {
+        let mut bytes = [0; 4];
+        match rng.pick(&CHARACTERS).encode_utf8(&mut bytes).as_bytes() {
+            character if name.len() + character.len() <= len => name.extend(character),
+            _ => name.push(b'e'),
+        }
+    }
+    name
+}
+
+/// A legal name of plain bytes: a short one of few letters, one of any bytes, or a long one.
 pub fn draw_name(rng: &mut Rng) -> Vec<u8> {
     let any_byte = |rng: &mut Rng| match rng.between(0x20, 0x7e) as u8 {
         b'/' => b'x',

@@ -110,7 +110,8 @@ impl Tree {
     }
 
     fn add(&mut self, parent: NodeId, name: &[u8], kind: Kind, size: u32, time: u64, blocks: u32) -> NodeId {
-        assert!((1..=255).contains(&name.len()) && name.iter().all(|b| (0x20..0x7f).contains(b) && *b != b'/'), "an illegal name");
+        let banned = name.iter().any(|&b| b < 0x20 || b == 0x7f || b == b'/');
+        assert!((1..=255).contains(&name.len()) && std::str::from_utf8(name).is_ok() && !banned, "an illegal name");
         assert!(self.names.insert((parent, name.to_vec())), "the name is there already");
         assert!(self.nodes[parent.0].kind == Kind::Dir, "only a directory holds entries");
         let depth = self.depth(parent) + 1;

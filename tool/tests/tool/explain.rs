@@ -72,7 +72,7 @@ fn put_number(volume: &mut Volume, at: usize, number: u32) {
 fn a_sound_card_has_no_finding() {
     let bench = Bench::new();
     bench.file("card.img", &volume().image);
-    assert_eq!(bench.ok(&["check", "--explain", "card.img"]), "card.img: well formed\n  1 directories, 5 files, 1 devices\n");
+    assert_eq!(bench.ok(&["check", "--explain", "card.img"]), "card.img: well formed\n  1 directory, 5 files, 1 device\n");
 }
 
 #[test]

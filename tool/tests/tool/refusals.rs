@@ -74,6 +74,8 @@ fn refusals_of_paths() {
     let not_found = "nothing has that name, or the name is empty: 'mfs ls card.img /street' shows what is there";
     bench.fails(&["cat", "card.img", "/street/x"], 1, &format!("mfs: card.img:/street/x: refused 5: {not_found}"));
     bench.fails(&["rm", "card.img", "/street/x/y"], 1, &format!("mfs: card.img:/street/x/y: refused 5: {not_found}"));
+    let no_dir = "mfs: card.img:/none/f: refused 5: a directory on the way is not there: 'mfs mkdir -p' makes it";
+    bench.fails(&["put", "card.img", "f", "/none/"], 1, no_dir);
     let kind = "a part of the path is no directory, or what it leads to is of the wrong kind: \
                 'mfs ls -l card.img /street' shows what is what";
     bench.fails(&["cat", "card.img", "/street/old"], 1, &format!("mfs: card.img:/street/old: refused 6: {kind}"));
@@ -252,6 +254,8 @@ fn files_of_the_host_that_fail() {
     let bench = Bench::with_card();
     bench.fails(&["ls", "none.img"], 3, "mfs: none.img: No such file or directory (os error 2)");
     bench.fails(&["mkdir", "none.img", "/d"], 3, "mfs: none.img: No such file or directory (os error 2)");
+    bench.fails(&["ls", "."], 3, "mfs: .: is a folder, and no image");
+    bench.fails(&["mkdir", ".", "/d"], 3, "mfs: .: Is a directory (os error 21)");
     bench.fails(
         &["map", "--svg", "no/such/folder.svg", "card.img"],
         3,

@@ -1,9 +1,7 @@
-use Prim.Native.Nat.{_+_, _-_, _≤_, _<_}
+use Prim.Native.Nat.{_-_, _≤_}
 use mathlib.Core.Path.{_≡_}
 use lib.ListN.{length}
-use native.Mathlib.Omega.{arith}
 use borrow.Author.Needs.{needs}
-use Rattle.cases.proofs.Laws.{part-length}
 use Rattle.cases.proofs.follow_all.Statement.{statement}
 use Rattle.cases.proofs.follow_all.Tie as tie
 use Rattle.cases.proofs.follow_all.Reads as reads
@@ -14,7 +12,8 @@ use Rattle.cases.proofs.line_end.Reads as line-end-reads
 use Rattle.cases.proofs.put.Reads as put-reads
 
 abbrev Inv-loop : tie.InvT-loop
-Inv-loop list img₀ base₀ text₀ s₀ at₀ t8 img base text s at = (at ≤ length list) × (length img ≡ length img₀) × (length base ≡ length base₀) × (length text ≡ length text₀)
+Inv-loop list img₀ base₀ text₀ s₀ at₀ t8 img base text s at =
+    (at ≤ length list) × (length img ≡ length img₀) × (length base ≡ length base₀) × (length text ≡ length text₀)
 
 abbrev μ-loop : tie.MeasureT-loop
 μ-loop list img₀ base₀ text₀ s₀ at₀ t8 img base text s at = length list - at
@@ -57,7 +56,7 @@ loop-again c = search needs
 
 -- src/main.rt:1239:9
 slice-aggregate-put : tie.Need-slice-aggregate-put Inv-loop μ-loop
-slice-aggregate-put c = search (part-length, needs)
+slice-aggregate-put c = search needs
 
 -- src/main.rt:1239:5
 put-requires : tie.Need-put-requires Inv-loop μ-loop

@@ -1,6 +1,5 @@
 use Prim.Native.Nat.{_-_, _≤_}
 use lib.ListN.{length}
-use native.Mathlib.Omega.{arith}
 use borrow.Author.Needs.{needs}
 use Rattle.cases.proofs.line_end.Statement.{statement}
 use Rattle.cases.proofs.line_end.Tie as tie

@@ -1,9 +1,5 @@
-use Prim.Native.Nat.{_+_, _-_, _≤_, _<_}
-use mathlib.Core.Path.{_≡_}
-use lib.ListN.{length}
-use native.Mathlib.Omega.{arith}
+use Prim.Native.Nat.{_-_, _≤_}
 use borrow.Author.Needs.{needs}
-use Rattle.cases.proofs.Laws.{part-length}
 use Rattle.cases.proofs.put_hex.Statement.{statement}
 use Rattle.cases.proofs.put_hex.Tie as tie
 use Rattle.cases.proofs.put_hex.Reads as reads
@@ -19,7 +15,7 @@ abbrev μ-loop : tie.MeasureT-loop
 
 -- src/main.rt:120:9
 slice-aggregate-put : tie.Need-slice-aggregate-put Inv-loop μ-loop
-slice-aggregate-put c = search (part-length, needs)
+slice-aggregate-put c = search needs
 
 -- src/main.rt:120:5
 put-requires : tie.Need-put-requires Inv-loop μ-loop
@@ -27,7 +23,7 @@ put-requires c κs = search needs
 
 -- src/main.rt:122:13
 slice-aggregate-put-2 : tie.Need-slice-aggregate-put-2 Inv-loop μ-loop
-slice-aggregate-put-2 c = search (part-length, needs)
+slice-aggregate-put-2 c = search needs
 
 -- src/main.rt:122:9
 put-requires-2 : tie.Need-put-requires-2 Inv-loop μ-loop

@@ -1,9 +1,5 @@
-use Prim.Native.Nat.{_+_, _-_, _≤_, _<_}
-use mathlib.Core.Path.{_≡_}
-use lib.ListN.{length}
-use native.Mathlib.Omega.{arith}
+use Prim.Native.Nat.{_-_, _≤_}
 use borrow.Author.Needs.{needs}
-use Rattle.cases.proofs.Laws.{part-length}
 use Rattle.cases.proofs.put_shades.Statement.{statement}
 use Rattle.cases.proofs.put_shades.Tie as tie
 use Rattle.cases.proofs.put_shades.Reads as reads
@@ -24,7 +20,7 @@ returns c = search needs
 
 -- src/main.rt:936:9
 slice-aggregate-put : tie.Need-slice-aggregate-put Inv-loop μ-loop
-slice-aggregate-put c = search (part-length, needs)
+slice-aggregate-put c = search needs
 
 -- src/main.rt:936:5
 put-requires : tie.Need-put-requires Inv-loop μ-loop

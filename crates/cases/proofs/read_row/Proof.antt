@@ -1,9 +1,5 @@
-use Prim.Native.Nat.{_+_, _-_, _≤_, _<_}
-use mathlib.Core.Path.{_≡_}
-use lib.ListN.{length}
-use native.Mathlib.Omega.{arith}
+use Prim.Native.Nat.{_-_, _≤_}
 use borrow.Author.Needs.{needs}
-use Rattle.cases.proofs.Laws.{part-length}
 use Rattle.cases.proofs.read_row.Statement.{statement}
 use Rattle.cases.proofs.read_row.Tie as tie
 use Rattle.cases.proofs.read_row.Reads as reads

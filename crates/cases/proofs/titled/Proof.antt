@@ -1,9 +1,4 @@
-use Prim.Native.Nat.{_+_, _-_, _≤_, _<_}
-use mathlib.Core.Path.{_≡_}
-use lib.ListN.{length}
-use native.Mathlib.Omega.{arith}
 use borrow.Author.Needs.{needs}
-use Rattle.cases.proofs.Laws.{part-length}
 use Rattle.cases.proofs.titled.Statement.{statement}
 use Rattle.cases.proofs.titled.Tie as tie
 use Rattle.cases.proofs.titled.Reads as reads

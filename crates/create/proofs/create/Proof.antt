@@ -1,4 +1,5 @@
-use Rattle.create.proofs.Sites.{path-bad, path-bad-leaves, short-name, held-from, held-to, path-refused, path-leaves, path-done, path-stored}
+use Rattle.create.proofs.Sites.{path-bad, path-bad-leaves, short-name, path-refused, path-leaves, path-done, path-stored}
+use Rattle.dir.proofs.HoldLaws.{held-inside}
 use borrow.Author.Needs.{needs}
 use Rattle.create.proofs.create.Statement.{statement}
 use Rattle.create.proofs.create.Tie as tie
@@ -48,9 +49,8 @@ part-create-in-end c = search needs
 create-in-requires : tie.Need-create-in-requires
 create-in-requires c κs =
     let pre = c .before .before .before .before .before .before .before .before .before .before .before .before .before .pre in
-    let e = c .before .before .before .before .before .hold .ensures .1 in
     let n = c .before .before .before .before .before .before .before .before .bad-name .ensures in
-    (pre .0, (pre .1 .0, (pre .1 .1 .0, (short-name _ _ n (c .before .before .before .before .before .before .before .if1 .left), (search (held-from, e), search (held-to, e))))))
+    (pre .0, (pre .1 .0, (pre .1 .1 .0, (short-name _ _ n (c .before .before .before .before .before .before .before .if1 .left), search held-inside))))
 
 same-length : tie.Need-same-length
 same-length c = search needs

@@ -1,4 +1,4 @@
-use Rattle.create.proofs.Sites.{create-refused, create-leaves, create-block, create-stores, asked-room, asked-spot, asked-own}
+use Rattle.create.proofs.Sites.{create-refused, create-leaves, create-block, create-stores, asked-room, asked-spot}
 use borrow.Author.Needs.{needs}
 use Rattle.create.proofs.create_in.Statement.{statement}
 use Rattle.create.proofs.create_in.Tie as tie
@@ -17,27 +17,19 @@ enum-known-sited-2 : tie.Need-enum-known-sited-2
 enum-known-sited-2 c = search needs
 
 insert-requires : tie.Need-insert-requires
-insert-requires c κs =
-    let pre = c .before .before .before .before .before .before .before .before .before .before .pre in
-    let e = c .before .before .before .before .before .site-in .ensures .1 in
-    (pre .0, (search (asked-room, e), (search (asked-spot, e), (pre .1 .1 .1 .0, search (asked-own, e)))))
+insert-requires c κs = (search needs, (search asked-room, (search asked-spot, (search needs, search needs))))
 
 same-length : tie.Need-same-length
 same-length c = search needs
 
 returns : tie.Need-returns
-returns c =
-    let e = c .before .before .before .site-in .ensures .0 in
-    (search (create-refused, e), search (create-leaves, e))
+returns c = (search create-refused, search create-leaves)
 
 same-length-2 : tie.Need-same-length-2
 same-length-2 c = search needs
 
 returns-2 : tie.Need-returns-2
-returns-2 c =
-    let e = c .before .before .before .before .before .before .before .before .site-in .ensures .0 in
-    let i = c .before .before .insert .ensures in
-    (search (create-block, e, i), search (create-stores, e, i))
+returns-2 c = (search create-block, search create-stores)
 
 pub create-in-spec : {M : Type 1} → statement M
 create-in-spec =

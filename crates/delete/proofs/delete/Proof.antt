@@ -1,4 +1,4 @@
-use Rattle.delete.proofs.Laws.{begins-in, lies-from, lies-below, lies-ends, mark-inside, deleted-done, image-done, deleted-refused, image-refused}
+use Rattle.delete.proofs.Answers.{begins-in, lies-from, lies-below, lies-ends, own-inside, deleted-done, image-done, deleted-refused, image-refused}
 use borrow.Author.Needs.{needs}
 use Rattle.delete.proofs.delete.Statement.{statement}
 use Rattle.delete.proofs.delete.Tie as tie
@@ -17,7 +17,7 @@ enum-known-marked c = search needs
 
 -- src/lib.rt:120:13
 remove-requires : tie.Need-remove-requires
-remove-requires c κs = (search needs, (search begins-in, (search lies-from, (search lies-below, (search lies-ends, search mark-inside)))))
+remove-requires c κs = (search needs, (search begins-in, (search lies-from, (search lies-below, (search lies-ends, search own-inside)))))
 
 -- src/lib.rt:123:25
 enum-known-marked-2 : tie.Need-enum-known-marked-2

@@ -1,4 +1,5 @@
-use Rattle.dir.proofs.Laws.{name-empty, enter-at, enter-none, enter-bad}
+use Rattle.dir.proofs.Answers.{name-empty}
+use Rattle.dir.proofs.HoldLaws.{enter-at, enter-none, enter-bad}
 use borrow.Author.Needs.{needs}
 use Rattle.dir.proofs.enter.Statement.{statement}
 use Rattle.dir.proofs.enter.Tie as tie

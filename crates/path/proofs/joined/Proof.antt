@@ -8,7 +8,7 @@ use Rattle.path.proofs.joined.Lts as lts
 use Rattle.path.proofs.fits.Reads as fits-reads
 use Rattle.path.proofs.gap.Reads as gap-reads
 use Rattle.path.proofs.join.Reads as join-reads
-use Rattle.path.proofs.path_bytes.Reads as path-bytes-reads
+use Rattle.text.proofs.text.Reads as text-reads
 use Rattle.path.proofs.starts_slash.Reads as starts-slash-reads
 
 starts-slash-requires : tie.Need-starts-slash-requires
@@ -26,14 +26,14 @@ fits-requires c κs = search needs
 returns-2 : tie.Need-returns-2
 returns-2 c = search (joined-long, not-true, needs)
 
-path-bytes-requires : tie.Need-path-bytes-requires
-path-bytes-requires c κs = search needs
+text-requires : tie.Need-text-requires
+text-requires c κs = search needs
 
 returns-3 : tie.Need-returns-3
 returns-3 c = search (joined-first, not-true, needs)
 
-path-bytes-requires-2 : tie.Need-path-bytes-requires-2
-path-bytes-requires-2 c κs = search needs
+text-requires-2 : tie.Need-text-requires-2
+text-requires-2 c κs = search needs
 
 returns-4 : tie.Need-returns-4
 returns-4 c = search (joined-second, not-true, needs)
@@ -64,9 +64,9 @@ returns-5 c =
     let s = i1 .before in
     let a = s .before .before .before .before in
     joined-good (a .args .cwd .now) (a .args .path .now) (a .args .full .now) (a .pre .1) (g .gap .result) (g .gap .ensures .1) (j .join .last .0)
-    (s .starts-slash .result) (f .fits2 .result) (p1 .path-bytes .result) (p2 .path-bytes2 .result)
+    (s .starts-slash .result) (f .fits2 .result) (p1 .text .result) (p2 .text2 .result)
     (s .starts-slash .ensures) (not-false _ (i1 .if1 .left)) (f .fits2 .ensures) (not-false _ (i2 .if2 .left))
-    (p1 .path-bytes .ensures) (not-false _ (i3 .if3 .left)) (p2 .path-bytes2 .ensures) (not-false _ (i4 .if4 .left)) (j .join .ensures)
+    (p1 .text .ensures) (not-false _ (i3 .if3 .left)) (p2 .text2 .ensures) (not-false _ (i4 .if4 .left)) (j .join .ensures)
 
 pub joined-spec : {M : Type 1} → statement M
 joined-spec =
@@ -77,9 +77,9 @@ joined-spec =
     gap-requires
     fits-requires
     returns-2
-    path-bytes-requires
+    text-requires
     returns-3
-    path-bytes-requires-2
+    text-requires-2
     returns-4
     join-requires
     add-t12

@@ -5,14 +5,14 @@ use Rattle.path.proofs.plain.Statement.{statement}
 use Rattle.path.proofs.plain.Tie as tie
 use Rattle.path.proofs.plain.Reads as reads
 use Rattle.path.proofs.plain.Lts as lts
-use Rattle.path.proofs.path_bytes.Reads as path-bytes-reads
+use Rattle.text.proofs.text.Reads as text-reads
 use Rattle.wire.proofs.copy.Reads as copy-reads
 
 returns : tie.Need-returns
 returns c = search (plain-long, needs)
 
-path-bytes-requires : tie.Need-path-bytes-requires
-path-bytes-requires c κs = search needs
+text-requires : tie.Need-text-requires
+text-requires c κs = search needs
 
 returns-2 : tie.Need-returns-2
 returns-2 c = search (plain-byte, not-true, needs)
@@ -28,4 +28,4 @@ returns-3 c = search (plain-good, not-false, needs)
 
 pub plain-spec : {M : Type 1} → statement M
 plain-spec =
-    tie.close (tie.spec returns path-bytes-requires returns-2 copy-requires same-length returns-3)
+    tie.close (tie.spec returns text-requires returns-2 copy-requires same-length returns-3)
