@@ -2,7 +2,7 @@
 use mathlib.Core.Path.{_≡_, refl, sym, ap, _∙_, subst}
 use mathlib.Core.Bool.{true, false}
 use mathlib.Core.List.{List}
-use Prim.Native.Nat.{ℕ, zero, suc, _+_, _-_, _*_, _/_, _≤_, _<_, min}
+use Prim.Native.Nat.{ℕ, zero, suc, _+_, _-_, _*_, _/_, _%_, _≤_, _<_, min}
 use native.Mathlib.Numerals.{add-one}
 use native.Mathlib.Decide.{decLt}
 use native.Mathlib.Omega.{arith}
@@ -12,8 +12,8 @@ use borrow.Author.Tests.{lt-ltb, le-ltb, le-leb, lt-leb}
 use Rattle.wire.specs.Pick.{pick}
 use Rattle.wire.proofs.Picks.{pick-true, pick-false}
 use Rattle.bits.specs.Bit.{ones}
-use Rattle.bits.proofs.Laws.{ones-le, ones-none, ones-more, bit-lt}
-use Rattle.bits.proofs.Words.{ones-cut}
+use Rattle.bits.proofs.Bits.{ones-le, ones-none, ones-more, bit-lt}
+use Rattle.bits.proofs.Words.{ones-byte, ones-parts}
 use Rattle.model.specs.Answers.{accepted}
 use Rattle.model.specs.Geometry.{Geo, blockSize, mapAt, reach, geoAt, openRefusal}
 use Rattle.model.proofs.Replies.{reply-none}
@@ -27,12 +27,16 @@ use Rattle.super_block.specs.declared.Opened.the-variants as opened
 use Rattle.super_block.specs.Super.{geoOf, Fit, OpenedIs}
 use Rattle.super_block.proofs.Fits.{opened-fit}
 use Rattle.bitmap_block.specs.Bitmap.{clears}
-use Rattle.bitmap_block.proofs.Laws.{from-is, clear-many}
+use Rattle.bitmap_block.proofs.Answers.{clear-many}
 use Rattle.call_room.specs.Room.{clearIn, bytesRead, bytesFor, toldOf, roomIn, Asks}
 use Rattle.call_room.specs.declared.Told.{Told}
 use Rattle.call_room.specs.declared.RoomOut.the-variants.{Known, Refused}
 
 -- ---- the clear bits of the first n
+
+-- (by itself, so that `omega` reads few terms)
+ending : (a b c a' b' c' n m d : ℕ) → a + b + c ≡ n → a' + b' + c' ≡ m → c ≡ d → a' ≡ a → b' ≡ b → c' ≡ 0 → n ≡ m + d
+ending a b c a' b' c' n m d p q r s t u = omega arith
 
 module _ (l : List ℕ) (from : ℕ) where
   -- set bits grow by no more than the bits
@@ -48,6 +52,25 @@ module _ (l : List ℕ) (from : ℕ) where
       let e : n + (m - n) ≡ m = omega arith in
       let g : ones l from m ≤ ones l from n + (m - n) = rw e at (ones-grow n (m - n)) in
       omega (arith, g, ones-le l from n, ones-le l from m)
+
+  -- the bits of a last part of a byte
+  ones-last : (i r : ℕ) → r < 8 → ones l from (8 * i + r) ≡ ones l from (8 * i) + ones l (from + i) r
+  ones-last i r h =
+      let n : ℕ = 8 * i + r in
+      let w : 8 * i / 64 ≡ n / 64 = omega arith in
+      let b : 8 * i % 64 / 8 ≡ n % 64 / 8 = omega arith in
+      let z : 8 * i % 8 ≡ 0 = omega arith in
+      let c : n % 8 ≡ r = omega arith in
+      let a : from + 8 * (n / 64) + n % 64 / 8 ≡ from + i = omega arith in
+      let all = ones-parts l from n _ _ _ refl refl refl in
+      let few = ones-parts l from (8 * i) _ _ _ refl refl refl in
+      let at : ones l (from + 8 * (n / 64) + n % 64 / 8) (n % 8) ≡ ones l (from + i) r = λ j. ones l (a j) (c j) in
+      let u : ones l from (64 * (8 * i / 64)) ≡ ones l from (64 * (n / 64)) = ap (λ (x : ℕ). ones l from (64 * x)) w in
+      let v : ones l (from + 8 * (8 * i / 64)) (8 * (8 * i % 64 / 8)) ≡ ones l (from + 8 * (n / 64)) (8 * (n % 64 / 8)) =
+      λ j. ones l (from + 8 * w j) (8 * b j) in
+      let o : ones l (from + 8 * (8 * i / 64) + 8 * i % 64 / 8) (8 * i % 8) ≡ 0 =
+      ap (ones l (from + 8 * (8 * i / 64) + 8 * i % 64 / 8)) z ∙ ones-none l _ in
+      ending _ _ _ _ _ _ _ _ _ all few at u v o
 
   module _ (limit : ℕ) where
     pub clear-mono : (n m : ℕ) → n ≤ m → clearIn l from limit n ≤ clearIn l from limit m
@@ -69,15 +92,13 @@ module _ (l : List ℕ) (from : ℕ) where
         → clearIn l from limit i + (rest - c) ≡ clearIn l from limit (i + 1)
     clear-part i rest c h e p q =
         let f : limit ≡ 8 * i + rest = omega arith in
-        let o : ones l from limit ≡ ones l from (8 * i) + ones l (from + i) rest = ap (ones l from) f ∙ ones-cut l from i rest in
+        let o : ones l from limit ≡ ones l from (8 * i) + ones l (from + i) rest = ap (ones l from) f ∙ ones-last i rest p in
         omega (arith, o, clear-whole i (omega arith), clear-all (i + 1) (omega arith), ones-le l (from + i) rest)
 
     pub clear-byte : (i rest c : ℕ) → 8 * i < limit → rest ≡ limit - 8 * i → 8 ≤ rest → c + ones l (from + i) 8 ≡ 8
         → clearIn l from limit i + c ≡ clearIn l from limit (i + 1)
     clear-byte i rest c h e p q =
-        let f : 8 * (i + 1) ≡ 8 * i + 8 = omega arith in
-        let o : ones l from (8 * (i + 1)) ≡ ones l from (8 * i) + ones l (from + i) 8 = ap (ones l from) f ∙ ones-cut l from i 8 in
-        omega (arith, o, clear-whole i (omega arith), clear-whole (i + 1) (omega arith))
+        omega (arith, ones-byte l from i, clear-whole i (omega arith), clear-whole (i + 1) (omega arith))
 
     -- what the words that were passed leave to find
     pub clear-words : (w left need : ℕ) → 64 * w ≤ limit → need + ones l from (64 * w) ≡ 64 * w + left → clearIn l from limit (8 * w) + left ≡ need
@@ -173,6 +194,9 @@ module _ (l : List ℕ) (from limit k : ℕ) where
 -- ---- an opened volume
 
 module _ (s : SuperBlock) (I : List ℕ) (at : ℕ) (f : Fit s I) (e : at ≡ 512 * s .bitmap .0) where
+  from-is : at ≡ blockSize (geoOf s) * mapAt (geoOf s)
+  from-is = e ∙ ap (λ (a : ℕ). 512 * a) (f .bitmap)
+
   pub room-of : (k : ℕ) (r : Told) → r ≡ toldOf I at (s .reach) k → r ≡ roomIn (geoOf s) I k
   unfolding toldOf roomIn
   room-of k r q =
@@ -180,7 +204,7 @@ module _ (s : SuperBlock) (I : List ℕ) (at : ℕ) (f : Fit s I) (e : at ≡ 51
       let n : clearIn I at (s .reach) (bytesFor (s .reach)) ≡ length (clears g I) =
       omega (arith, clear-all I at (s .reach) (bytesFor (s .reach)) (omega arith), clear-many f e refl) in
       let b : bytesRead I at (s .reach) k (bytesFor (s .reach)) ≡ bytesRead I (blockSize g * mapAt g) (reach g) k (bytesFor (reach g)) =
-      λ i. bytesRead I (from-is f e i) (f .reach i) k (bytesFor (f .reach i)) in
+      λ i. bytesRead I (from-is i) (f .reach i) k (bytesFor (f .reach i)) in
       q ∙ (λ i. record { enough = leb k (n i); bytes = b i })
 
 module _ (K : ℕ) (I : List ℕ) (k : ℕ) (r : Opened) (o : OpenedIs K I r) where

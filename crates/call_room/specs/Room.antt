@@ -1,4 +1,4 @@
--- C17: is there room for k blocks? Whether, and how many bytes of the bitmap that takes to tell. Definitions alone.
+-- C18: is there room for k blocks? Whether, and how many bytes of the bitmap that takes to tell. Definitions alone.
 use mathlib.Core.Path.{_≡_}
 use mathlib.Core.List.{List}
 use Prim.Native.Nat.{ℕ, zero, suc, _+_, _-_, _*_, _/_, min}

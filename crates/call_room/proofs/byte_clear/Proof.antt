@@ -1,6 +1,6 @@
 use native.Mathlib.Omega.{arith}
 use Rattle.bits.proofs.Words.{byte-ones}
-use Rattle.bits.proofs.Laws.{ones-le}
+use Rattle.bits.proofs.Bits.{ones-le}
 use borrow.Author.Needs.{needs}
 use Rattle.call_room.proofs.byte_clear.Statement.{statement}
 use Rattle.call_room.proofs.byte_clear.Tie as tie

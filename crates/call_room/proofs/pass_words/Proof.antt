@@ -3,7 +3,7 @@ use mathlib.Core.Path.{_≡_}
 use native.Mathlib.Omega.{arith}
 use borrow.Author.Needs.{needs}
 use Rattle.bits.specs.Bit.{ones}
-use Rattle.bits.proofs.Laws.{ones-none}
+use Rattle.bits.proofs.Bits.{ones-none}
 use Rattle.bits.proofs.Words.{ones-word}
 use Rattle.call_room.proofs.pass_words.Statement.{statement}
 use Rattle.call_room.proofs.pass_words.Tie as tie

@@ -1,4 +1,4 @@
-use Rattle.bitmap_block.proofs.Laws.{reach-place, reach-few}
+use Rattle.bitmap_block.proofs.Answers.{reach-place, reach-few}
 use Rattle.call_room.proofs.Laws.{room-of}
 use borrow.Author.Needs.{needs}
 use Rattle.call_room.proofs.room_in.Statement.{statement}

@@ -5,7 +5,7 @@ use lib.Count.{ones}
 use Rattle.wire.specs.Be.{be}
 use Rattle.bits.specs.Bit.{ones as bits}
 use Rattle.bits.proofs.Words.{word-ones}
-use Rattle.bits.proofs.Laws.{ones-le}
+use Rattle.bits.proofs.Bits.{ones-le}
 use borrow.Author.Needs.{needs}
 use Rattle.call_room.proofs.word_clear.Statement.{statement}
 use Rattle.call_room.proofs.word_clear.Tie as tie
