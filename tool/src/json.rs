@@ -62,7 +62,8 @@ fn push_text(line: &mut String, value: &str) {
             '"' => line.push_str("\\\""),
             '\\' => line.push_str("\\\\"),
             '\n' => line.push_str("\\n"),
-            c if (c as u32) < 0x20 || c as u32 == 0x7f => line.push_str(&format!("\\u{:04x}", c as u32)),
+            // More than JSON asks: a terminal obeys those above 0x7F, too.
+            c if c.is_control() => line.push_str(&format!("\\u{:04x}", c as u32)),
             c => line.push(c),
         }
     }
@@ -75,7 +76,10 @@ mod tests {
 
     #[test]
     fn fields_keep_their_order_and_odd_bytes_are_escaped() {
-        let object = Object::new().text("a", "x\"\\\n\u{1}").number("n", 7u32).flag("f", true).bytes("b", b"\xff!");
-        assert_eq!(object.line(), "{\"a\":\"x\\\"\\\\\\n\\u0001\",\"n\":7,\"f\":true,\"b\":\"\u{fffd}!\",\"b_hex\":\"ff21\"}");
+        let object = Object::new().text("a", "x\"\\\n\u{1}\u{80}").number("n", 7u32).flag("f", true).bytes("b", b"\xff!");
+        assert_eq!(
+            object.line(),
+            "{\"a\":\"x\\\"\\\\\\n\\u0001\\u0080\",\"n\":7,\"f\":true,\"b\":\"\u{fffd}!\",\"b_hex\":\"ff21\"}"
+        );
     }
 }

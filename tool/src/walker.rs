@@ -295,14 +295,11 @@ enum Wrong {
     SetPastTheData,
 }
 
-/// Whether the library takes names with accents: well-formed UTF-8 in place of plain ASCII.
-const ACCENTS: bool = false;
-
 /// W3: the place of the first byte that no name may have: a slash, a control byte, or one that is no text. An entry's name is
 /// never empty.
 fn bad_byte(name: &[u8]) -> Option<usize> {
     let is_control = |byte: u8| byte < 0x20 || byte == 0x7f;
-    let text = if ACCENTS { well_formed(name) } else { name.iter().take_while(|byte| byte.is_ascii()).count() };
+    let text = well_formed(name);
     let end = (text < name.len()).then_some(text);
     name[..text].iter().position(|&byte| is_control(byte) || byte == b'/').or(end)
 }

@@ -1,2 +1,2 @@
-pub mod Steps
-pub mod Laws
+pub mod Stores
+pub mod Answers

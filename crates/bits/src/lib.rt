@@ -1,7 +1,7 @@
 // Bits of a lent slice, numbered from byte `from` on: bit x is in byte x / 8, at x % 8 counted from the lowest.
 // The bitmap of a volume and the work buffer of the check are both read and written here, by shifts and masks.
 ghost use mathlib.Core.Path.{_≡_};
-ghost use Prim.Native.Nat.{ℕ, _+_, _*_, _/_, _<_, _≤_};
+ghost use Prim.Native.Nat.{_+_, _*_, _/_, _<_, _≤_};
 ghost use lib.ListN.{length};
 ghost use Rattle.bits.specs.Bit.{bit, withBit, ones, BitIs, BitsFit, AllSet};
 ghost use Rattle.bits.specs.Find.{Lowest};

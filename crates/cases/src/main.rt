@@ -38,6 +38,10 @@
 //   g DIGEST                                    the digest of the whole image now
 // DIGEST of bytes: from 0, for each byte d = (d * 257 + byte) mod 4,294,967,291. A step that cannot be read is answered `unread`.
 use block::Addr;
+use call_read::Listing;
+use call_read::OpenOut;
+use call_volume::Answer;
+use call_volume::Space;
 use dir_entry::Kind;
 use file::Counted;
 use file::Handle;
@@ -45,10 +49,6 @@ use file::Outcome;
 use file::SeekFrom;
 use file::WriteOut;
 use limits::Refusal;
-use mfs::Answer;
-use mfs::Listing;
-use mfs::OpenOut;
-use mfs::Space;
 use super_block::Opened;
 use super_block::SuperBlock;
 ghost use mathlib.Core.Path.{_≡_};

@@ -12,7 +12,7 @@ use Rattle.wire.specs.Pick.{same, zeroFrom}
 use Rattle.wire.proofs.Picks.{same-eq, same-agree, and-both}
 use Rattle.wire.proofs.Zeros.{zeros-shown, zeros-pass}
 use Rattle.bits.specs.Bit.{bit}
-use Rattle.bits.proofs.Laws.{bit-ext, bit-zero}
+use Rattle.bits.proofs.Bits.{bit-ext, bit-zero}
 use Rattle.model.specs.Geometry.{Geo, blockSize, mapAt, dataAt, mapBits, Sound}
 use Rattle.model.specs.Steps.{Bytes}
 use Rattle.model.proofs.Areas.{area}
@@ -45,10 +45,10 @@ byte-clear I from i b h = byte-agrees I [] from i b no-bytes (λ k q. h k q ∙ 
 
 -- the marks have room in the bitmap, and the bitmap in the image
 module _ (g : Geo) (len : ℕ) (s : Sound g len) where
-  pub marks-room : markLong g ≤ mapLong g
+  marks-room : markLong g ≤ mapLong g
   marks-room = omega (arith, area g len s .enough)
 
-  pub map-inside : mapFrom g + mapLong g ≤ len
+  map-inside : mapFrom g + mapLong g ≤ len
   map-inside =
       let a = area g len s in
       let k : mapAt g + (dataAt g - mapAt g) ≡ dataAt g = omega (arith, a .maps) in

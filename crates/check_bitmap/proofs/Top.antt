@@ -3,7 +3,7 @@
 use mathlib.Core.Path.{_≡_, sym, ap, _∙_, subst}
 use mathlib.Core.Bool.{true}
 use mathlib.Core.List.{List, [], _∷_, _++_}
-use Prim.Native.Nat.{ℕ, _+_, _-_, _*_, _^_, _<_}
+use Prim.Native.Nat.{ℕ, _+_, _-_, _*_, _<_}
 use native.Mathlib.Omega.{arith}
 use lib.Dec.{eqb}
 use lib.ListN.{length, getD, take, drop, length-append, length-replicate}
@@ -11,7 +11,7 @@ use lib.Seq.{getD-take, getD-drop}
 use borrow.Author.Tests.{eqb-true, eq-eqb}
 use Rattle.wire.specs.Be.{be, bytes, zeros}
 use Rattle.wire.specs.Pick.{same, zeroFrom}
-use Rattle.wire.proofs.Laws.{length-bytes, getD-zeros}
+use Rattle.wire.proofs.Numbers.{length-bytes, getD-zeros}
 use Rattle.wire.proofs.Picks.{same-eq}
 use Rattle.wire.proofs.Zeros.{zeros-shown, zeros-pass}
 use Rattle.block.specs.Block.{blockBytes}
@@ -22,8 +22,8 @@ use Rattle.model.specs.Volume.{Volume}
 use Rattle.model.specs.Steps.{Bytes}
 use Rattle.model.proofs.Areas.{sound-geo}
 use Rattle.model.proofs.Commit.{shows-both, shows-two}
-use Rattle.model.proofs.Entries.{be-shown, bytes-shown}
-use Rattle.model.proofs.OneVolume.{top-reads, used-set}
+use Rattle.model.proofs.Entries.{bytes-shown}
+use Rattle.model.proofs.OneVolume.{used-set}
 use Rattle.model.proofs.Opens.{opens-sound}
 
 -- signature, version and size code
@@ -56,7 +56,7 @@ super-shown I K n u m a b z =
     ap (λ (j : ℕ). getD I j 0) e ∙ z i (omega arith) ∙ sym (getD-zeros (512 - length (mark ++ (N ++ U))) i))
 
 -- An image that opens, and whose superblock ends in zeros, shows the superblock of its numbers and its used count.
-pub rest-shown : (K : ℕ) (I : List ℕ) → openRefusal K I ≡ 0 → Bytes I → zeroFrom I (blockBytes * K + 18) (blockBytes - 18) ≡ true
+rest-shown : (K : ℕ) (I : List ℕ) → openRefusal K I ≡ 0 → Bytes I → zeroFrom I (blockBytes * K + 18) (blockBytes - 18) ≡ true
     → Shows I (blockSize (geoAt K I) * K) (superBytes (geoAt K I) (usedCount (geoAt K I) I))
 unfolding countAt usedCount
 rest-shown K I o b z =
@@ -73,17 +73,12 @@ rest-zeros K n I u s i h =
     let lz : length (zeros (512 - length T)) ≡ 512 - length T = length-replicate {A = ℕ} (512 - length T) 0 in
     ap (λ (j : ℕ). getD I j 0) e ∙ shows-two I (512 * K) T (zeros (512 - length T)) s i (omega arith) ∙ getD-zeros (512 - length T) i
 
-pub rest-passes : (g : Geo) (I : List ℕ) (u : ℕ) → Sound g (length I) → Shows I (blockSize g * g .K) (superBytes g u)
+rest-passes : (g : Geo) (I : List ℕ) (u : ℕ) → Sound g (length I) → Shows I (blockSize g * g .K) (superBytes g u)
     → zeroFrom I (blockBytes * g .K + 18) (blockBytes - 18) ≡ true
 rest-passes g I u s t =
     let r : Shows I (512 * g .K) (superBytes (geo (g .K) (g .n)) u)
     = subst (λ (x : Geo). Shows I (blockSize x * x .K) (superBytes x u)) (sound-geo g (length I) s) t in
     zeros-pass I 494 (512 * g .K + 18) (rest-zeros (g .K) (g .n) I u r)
-
--- and its used count is read.
-pub count-shown : (g : Geo) (I : List ℕ) (u : ℕ) → Shows I (blockSize g * g .K) (superBytes g u) → u < 2 ^ 32 → usedCount g I ≡ u
-unfolding usedCount
-count-shown g I u s h = be-shown I (blockSize g * g .K + 14) 4 u h (top-reads I (blockSize g * g .K) g u s .used)
 
 -- ---- with the used count
 

@@ -20,7 +20,7 @@ not-so true f = absurd (f refl)
 not-so false f = refl
 
 -- equality does not mind the order
-pub same-sym : (x y : Name) (b : Bool) → same x y ≡ b → same y x ≡ b
+same-sym : (x y : Name) (b : Bool) → same x y ≡ b → same y x ≡ b
 same-sym x y true e = ap (λ (z : Name). same y z) (same-eq x y e) ∙ same-refl y
 same-sym x y false e = not-so (same y x) (λ t. not-both (ap (λ (z : Name). same x z) (same-eq y x t) ∙ same-refl x) e)
 
@@ -31,15 +31,15 @@ unfolding oneOf any
 none-of-none x = refl
 
 module _ (x y : Name) (ys : List Name) where
-  pub one-here : same x y ≡ true → oneOf x (y ∷ ys) ≡ true
+  one-here : same x y ≡ true → oneOf x (y ∷ ys) ≡ true
   unfolding oneOf
   one-here e = any-here (same x) y ys e
 
-  pub one-there : same x y ≡ false → oneOf x (y ∷ ys) ≡ oneOf x ys
+  one-there : same x y ≡ false → oneOf x (y ∷ ys) ≡ oneOf x ys
   unfolding oneOf
   one-there e = any-there (same x) y ys e
 
-  pub one-later : oneOf x ys ≡ true → oneOf x (y ∷ ys) ≡ true
+  one-later : oneOf x ys ≡ true → oneOf x (y ∷ ys) ≡ true
   one-later t = go (either (same x y))
     where
       go : (same x y ≡ true) ⊎ (same x y ≡ false) → oneOf x (y ∷ ys) ≡ true

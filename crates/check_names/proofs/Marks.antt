@@ -13,7 +13,7 @@ use borrow.Author.Tests.{eq-eqb, eqb-true, ne-eqb}
 use Rattle.wire.specs.Be.{zeros}
 use Rattle.wire.proofs.Picks.{not-both, and-both}
 use Rattle.bits.specs.Bit.{bit, withBit}
-use Rattle.bits.proofs.Laws.{length-with, byte-with-other, bit-with-same, bit-with-other}
+use Rattle.bits.proofs.Bits.{length-with, byte-with-other, bit-with-same, bit-with-other}
 use Rattle.model.specs.Tree.{Name}
 use Rattle.check_names.specs.Names.{oneOf}
 use Rattle.check_names.specs.Filter.{hashOf, filterBytes, lowBit, highBit, clear, filtered, noted, wiped, Covers, OffFilter, Only}
@@ -63,7 +63,7 @@ set-both F h t =
 
 -- The filter with a hash noted, and with its bytes zero.
 module _ (F : List ℕ) (h : ℕ) where
-  pub length-noted : length (noted F h) ≡ length F
+  length-noted : length (noted F h) ≡ length F
   unfolding noted
   length-noted = length-with (withBit F 0 (lowBit h) 1) 0 (highBit h) 1 ∙ length-with F 0 (lowBit h) 1
 
@@ -71,7 +71,7 @@ module _ (F : List ℕ) (h : ℕ) where
   unfolding noted
   noted-other j p q = byte-with-other (withBit F 0 (lowBit h) 1) 0 (highBit h) 1 j (λ e. q (omega arith)) ∙ byte-with-other F 0 (lowBit h) 1 j (λ e. p (omega arith))
 
-  pub length-wiped : length (wiped F h) ≡ length F
+  length-wiped : length (wiped F h) ≡ length F
   unfolding wiped
   length-wiped = length-set (set F (lowBit h / 8) 0) (highBit h / 8) 0 ∙ length-set F (lowBit h / 8) 0
 
@@ -119,7 +119,7 @@ pub clear-zeros : zeros 16384 ≡ clear
 unfolding clear
 clear-zeros = refl
 
-pub clear-long : length clear ≡ filterBytes
+clear-long : length clear ≡ filterBytes
 unfolding clear
 clear-long = length-replicate {A = ℕ} filterBytes 0
 

@@ -19,7 +19,7 @@ use Rattle.super_block.proofs.Fits.{placed}
 use Rattle.check_volume.specs.Survey.{Claimed, withFound, claim, cellsOf, chainOf}
 use Rattle.check_bitmap.specs.Tally.{markBytes}
 use Rattle.check_volume.specs.Marks.{seenOf, MarksAnswer, Inside}
-use Rattle.check_volume.proofs.Goes.{Check, Goes, goes-refl, goes-end, goes-stop, goes-no, goes-yes}
+use Rattle.check_volume.proofs.Remaining.{Check, Goes, goes-refl, goes-end, goes-stop, goes-no, goes-yes}
 
 -- ---- what is claimed along the chain
 

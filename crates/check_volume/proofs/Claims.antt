@@ -11,7 +11,7 @@ use lib.ListN.{length, getD}
 use borrow.Author.Tests.{le-leb, lt-leb, lt-ltb, le-ltb, eq-eqb, ne-eqb}
 use Rattle.wire.proofs.Picks.{pick-true, pick-false}
 use Rattle.bits.specs.Bit.{bit, withBit}
-use Rattle.bits.proofs.Laws.{length-with, byte-with-other, bit-with-same, bit-with-other}
+use Rattle.bits.proofs.Bits.{length-with, byte-with-other, bit-with-same, bit-with-other}
 use Rattle.model.specs.Render.{count}
 use Rattle.model.proofs.Counts.{count-same, count-other}
 use Rattle.check_volume.specs.Survey.{claim}
@@ -22,15 +22,15 @@ pub beyond-refl : (D n : ℕ) (W : List ℕ) → Beyond D n W W
 beyond-refl D n W = record { long = refl; rest = λ j h. refl }
 
 module _ (B D n : ℕ) (I : List ℕ) (a : ℕ) (seen : List ℕ) where
-  pub claim-below : a < D → claim B D n I a seen ≡ none
+  claim-below : a < D → claim B D n I a seen ≡ none
   unfolding claim
   claim-below h = pick-false _ _ (ap (λ (b : Bool). (b && ltb a n) && eqb (count a seen) 0) (lt-leb D a h))
 
-  pub claim-above : D ≤ a → n ≤ a → claim B D n I a seen ≡ none
+  claim-above : D ≤ a → n ≤ a → claim B D n I a seen ≡ none
   unfolding claim
   claim-above h k = pick-false _ _ (ap (λ (b : Bool). (b && ltb a n) && eqb (count a seen) 0) (le-leb D a h) ∙ ap (λ (b : Bool). b && eqb (count a seen) 0) (le-ltb a n k))
 
-  pub claim-taken : D ≤ a → a < n → count a seen ≡ 1 → claim B D n I a seen ≡ none
+  claim-taken : D ≤ a → a < n → count a seen ≡ 1 → claim B D n I a seen ≡ none
   unfolding claim
   claim-taken h k e =
       pick-false _ _ (ap (λ (b : Bool). (b && ltb a n) && eqb (count a seen) 0) (le-leb D a h) ∙ ap (λ (b : Bool). b && eqb (count a seen) 0) (lt-ltb a n k)

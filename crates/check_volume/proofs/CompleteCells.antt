@@ -9,7 +9,7 @@ use lib.ListN.{length, take, drop}
 use borrow.Author.Tests.{eq-eqb, ne-eqb}
 use Rattle.wire.specs.Be.{bytes}
 use Rattle.wire.specs.Pick.{pick}
-use Rattle.wire.proofs.Laws.{length-bytes}
+use Rattle.wire.proofs.Numbers.{length-bytes}
 use Rattle.wire.proofs.Picks.{pick-true, pick-false}
 use Rattle.block.specs.Block.{next}
 use Rattle.model.specs.Tree.{Cell, then}
@@ -88,7 +88,7 @@ module _ {B D n : ℕ} {I : List ℕ} (g : Ground B D n I) where
   more k s a = pick (eqb a 0) (some (record { found = []; seen = s })) (chainOf B D n I k a s)
 
   -- A device's chain of at most k blocks.
-  pub find-chain : (k : ℕ) (c : Cell) (cs : List Cell) (seen : List ℕ) → length cs ≤ k → All (GoodCell B) (c ∷ cs) → ShowsAll B I (cellPieces (c ∷ cs))
+  find-chain : (k : ℕ) (c : Cell) (cs : List Cell) (seen : List ℕ) → length cs ≤ k → All (GoodCell B) (c ∷ cs) → ShowsAll B I (cellPieces (c ∷ cs))
       → Free D n seen (λ i. tally i (cellPieces (c ∷ cs))) → Yields (chainOf B D n I (suc k) (c .at) seen) (c ∷ cs) seen (λ i. tally i (cellPieces (c ∷ cs)))
   unfolding chainOf cellPieces cellsAt more
   find-chain k c [] seen l m s r =

@@ -10,7 +10,7 @@ use Rattle.model.specs.Volume.{named, namedIn}
 use Rattle.check_names.specs.Names.{distinct}
 use Rattle.check_volume.specs.Survey.{RawBlock, namesOf, allNames}
 use Rattle.check_volume.proofs.CompleteRaws.{rawsOf}
-use Rattle.check_volume.proofs.Times.{times, times-append, once-distinct}
+use Rattle.check_volume.proofs.Distinct.{times, times-append, once-distinct}
 
 -- The blocks of a directory as their bytes show them.
 unfoldable pub rawBlocks : {X : Type 0} → View X → List (Block X) → List RawBlock

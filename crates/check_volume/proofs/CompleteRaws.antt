@@ -1,5 +1,5 @@
 -- The entries of a directory's block that an image shows are those that the check reads.
-use mathlib.Core.Path.{_≡_, refl, ap, _∙_}
+use mathlib.Core.Path.{_≡_, ap, _∙_}
 use mathlib.Core.Bool.{true}
 use mathlib.Core.Option.{Option, some}
 use mathlib.Core.List.{List, [], _∷_}
@@ -15,7 +15,6 @@ use Rattle.model.specs.Render.{View, padded, entryBytes, entriesBytes, Shows}
 use Rattle.model.specs.Volume.{All}
 use Rattle.dir_entry.specs.declared.DirEntry.{DirEntry}
 use Rattle.dir_entry.specs.declared.Slot.{Slot}
-use Rattle.dir_entry.specs.declared.Slot.the-variants as slot
 use Rattle.dir_entry.specs.Entry.{placeAt, nameAt}
 use Rattle.dir_entry.specs.Shown.{headOf}
 use Rattle.dir_entry.proofs.Shown.{Legible, less-left, first-shown, zero-at, block-stops, slot-is, name-is}

@@ -12,7 +12,7 @@ use lib.Seq.{ext-getD}
 use native.Mathlib.Decide.{decLt}
 use Rattle.wire.specs.Be.{splice}
 use Rattle.wire.specs.Pick.{zeroFrom}
-use Rattle.wire.proofs.Laws.{length-splice, splice-in, splice-after}
+use Rattle.wire.proofs.Numbers.{length-splice, splice-in, splice-after}
 use Rattle.wire.proofs.Picks.{either, not-both}
 use Rattle.bits.specs.Bit.{bit, digit}
 use Rattle.bits.proofs.Digits.{digit-of-zero}
@@ -31,7 +31,7 @@ use Rattle.check_volume.specs.Survey.{survey}
 use Rattle.check_volume.specs.Marks.{Marks, Beyond, seenOf, Answers, MarksAnswer}
 use Rattle.check_volume.specs.Steps.{openDir, through, entryCheck, dirCheck}
 use Rattle.check_volume.specs.Whole.{bitsAre, bitsOf, whole}
-use Rattle.check_volume.proofs.Goes.{Check, goes-last, step-no, step-yes}
+use Rattle.check_volume.proofs.Remaining.{Check, goes-last, step-no, step-yes}
 use Rattle.check_volume.proofs.WalkedDirs.{dir-steps}
 use Rattle.check_volume.proofs.Wholes.{bits-told, bits-pass, claimsOf, claimed-past}
 

@@ -20,12 +20,12 @@ use Rattle.check_volume.specs.Marks.{seenOf, MarksAnswer, Inside}
 use Rattle.check_volume.specs.Steps.{heldAt, mayStand, blockCheck, openDir}
 use Rattle.check_volume.specs.declared.Held.{Held}
 use Rattle.check_volume.specs.declared.Held.the-variants as held
-use Rattle.check_volume.proofs.Goes.{Check, Goes, goes-end, goes-stop, goes-last, step-no, step-yes}
+use Rattle.check_volume.proofs.Remaining.{Check, Goes, goes-end, goes-stop, goes-last, step-no, step-yes}
 use Rattle.check_volume.proofs.Chains.{Along, Left, left-step, left-stop}
 use Rattle.check_volume.proofs.WalkedBlocks.{block-steps, later-steps, later-end, later-over, open-steps}
 
 -- a test at the end answers the check
-pub test-end : (D n : ℕ) (f : Check) (t b : Bool) (W Z : List ℕ) → Goes D n f (λ s. pick t (some s) none) W Z → b ≡ t → MarksAnswer D n f W Z b
+test-end : (D n : ℕ) (f : Check) (t b : Bool) (W Z : List ℕ) → Goes D n f (λ s. pick t (some s) none) W Z → b ≡ t → MarksAnswer D n f W Z b
 test-end D n f t true W Z l e = goes-end D n f _ W Z l (λ s. pick-true _ _ (sym e))
 test-end D n f t false W Z l e = goes-stop D n f _ W Z l (λ s. pick-false _ _ (sym e))
 
@@ -71,10 +71,10 @@ module _ (D n : ℕ) (I : List ℕ) where
   abbrev pub laterCheck : Along
   laterCheck k a seen = seenOf (laterOf 512 D n I k a seen)
 
-  pub later-stop : (b j : ℕ) → (b ≡ 0 → ⊥) → (seen : List ℕ) → blockCheck 512 D n I true b seen ≡ none → laterCheck (suc j) b seen ≡ none
+  later-stop : (b j : ℕ) → (b ≡ 0 → ⊥) → (seen : List ℕ) → blockCheck 512 D n I true b seen ≡ none → laterCheck (suc j) b seen ≡ none
   later-stop b j z seen e = later-steps 512 D n I j b seen z ∙ then-none _ e
 
-  pub later-next : (b c j : ℕ) → (b ≡ 0 → ⊥) → c ≡ next 512 I b → (seen s : List ℕ) → blockCheck 512 D n I true b seen ≡ some s → laterCheck (suc j) b seen ≡ laterCheck j c s
+  later-next : (b c j : ℕ) → (b ≡ 0 → ⊥) → c ≡ next 512 I b → (seen s : List ℕ) → blockCheck 512 D n I true b seen ≡ some s → laterCheck (suc j) b seen ≡ laterCheck j c s
   later-next b c j z h seen s e = later-steps 512 D n I j b seen z ∙ then-some _ e ∙ ap (λ (x : ℕ). laterCheck j x s) (sym h)
 
   module _ (W₀ : List ℕ) (k a : ℕ) (W : List ℕ) (b left : ℕ) (l : Left D n laterCheck W₀ k a W b left) where

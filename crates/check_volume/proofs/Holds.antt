@@ -93,7 +93,7 @@ module _ (B : ℕ) (I : List ℕ) (a : ℕ) where
       ap (λ (z : Option (List Raw)). pick (passes e (nameAt I (placeAt B a o) (e .len))) (then z (λ rs. some (record { head = e; name = nameAt I (placeAt B a o) (e .len) } ∷ rs))) none)
       (raws-bound f k (o + header + e .len) w five (omega arith) (omega arith)))
 
-  pub raws-step : (o : ℕ) → o ≤ B - 5 → 5 ≤ B → rawsFrom B I B a o ≡ onSlot (slotAt B I a o) (reads B o) (stops o)
+  raws-step : (o : ℕ) → o ≤ B - 5 → 5 ≤ B → rawsFrom B I B a o ≡ onSlot (slotAt B I a o) (reads B o) (stops o)
   raws-step o l five = go B refl
     where
       go : (f : ℕ) → f ≡ B → rawsFrom B I B a o ≡ onSlot (slotAt B I a o) (reads B o) (stops o)

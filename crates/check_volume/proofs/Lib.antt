@@ -1,5 +1,5 @@
 pub mod Claims
-pub mod Goes
+pub mod Remaining
 pub mod Chains
 pub mod Holds
 pub mod SoundLaws
@@ -8,7 +8,7 @@ pub mod SoundRaws
 pub mod Walked
 pub mod WalkedBlocks
 pub mod WalkedDirs
-pub mod Times
+pub mod Distinct
 pub mod SoundDirs
 pub mod Sound
 pub mod CompleteLaws

@@ -10,7 +10,7 @@ use lib.Seq.{getD-take, getD-drop, length-take-le}
 use borrow.Author.Tests.{eqb-true}
 use Rattle.wire.specs.Be.{be, bytes}
 use Rattle.wire.specs.Pick.{pick}
-use Rattle.wire.proofs.Laws.{length-bytes}
+use Rattle.wire.proofs.Numbers.{length-bytes}
 use Rattle.block.specs.Block.{next}
 use Rattle.model.specs.Tree.{Cell}
 use Rattle.model.specs.Render.{cellsAt, cellPieces, ats, Shows, ShowsAll}

@@ -10,7 +10,7 @@ use lib.ListN.{length}
 use borrow.Author.Tests.{eqb-true, leb-true}
 use Rattle.wire.specs.Be.{bytes}
 use Rattle.wire.specs.Pick.{pick, same}
-use Rattle.wire.proofs.Laws.{length-bytes}
+use Rattle.wire.proofs.Numbers.{length-bytes}
 use Rattle.wire.proofs.Picks.{not-both}
 use Rattle.model.specs.Tree.{Name, Node, file, device, Entry, Block, called, weight, used, Filled, Packed}
 use Rattle.model.specs.Render.{Piece, View, blocksAt, padded, kindOf, addressOf, sizeOf, entryBytes, entriesBytes, nodePieces, entryPieces, dirPieces, ats, count, Shows, ShowsAll}
@@ -28,7 +28,7 @@ use Rattle.check_volume.specs.Survey.{Raw, RawBlock, namesOf, allNames, 
 use Rattle.check_volume.proofs.SoundLaws.{Each, each-some, each-then, each-test, each-with, Claims, claims-none, claims-both, claims-same}
 use Rattle.check_volume.proofs.SoundCells.{cells-found, chain-found}
 use Rattle.check_volume.proofs.SoundRaws.{GoodRaw, rawBytes, rawsBytes, rawsUsed, rawsAt, rawAts, BlockFound, ChainFound, RawFilled, RawPacked, blocks-found}
-use Rattle.check_volume.proofs.Times.{times, times-append, distinct-once}
+use Rattle.check_volume.proofs.Distinct.{times, times-append, distinct-once}
 
 -- a directory's blocks: its own, and those below
 blocks-split : (i a : ℕ) (ps qs : List Piece) (own inner : List ℕ) → count i (ats qs) ≡ count i own + count i inner

@@ -1,6 +1,6 @@
 -- The blocks of entries that the check finds: the image shows the entries' bytes, then zeros.
 use mathlib.Core.Path.{_≡_, refl, sym, ap, _∙_, subst}
-use mathlib.Core.Bool.{true, not, _&&_}
+use mathlib.Core.Bool.{true, not}
 use mathlib.Core.Option.{Option, some}
 use mathlib.Core.List.{List, [], _∷_, _++_}
 use Prim.Native.Nat.{ℕ, zero, suc, _+_, _-_, _*_, _^_, _≤_, _<_}
@@ -136,7 +136,7 @@ module _ (B D n : ℕ) (I : List ℕ) (all-bytes : Bytes I) (a : ℕ) (whole : B
       }
 
   -- Whatever `rawsFrom` finds stands there so.
-  pub raws-found : (f o : ℕ) → o ≤ B - 5 → Each (RawsFound B I a o) (rawsFrom B I f a o)
+  raws-found : (f o : ℕ) → o ≤ B - 5 → Each (RawsFound B I a o) (rawsFrom B I f a o)
   unfolding rawsFrom
   raws-found zero o l = each-none (RawsFound B I a o)
   raws-found (suc f) o l =

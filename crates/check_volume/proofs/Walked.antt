@@ -45,7 +45,7 @@ unfolding rawsWalk namesIn namesOf
 raws-names a o [] w = refl
 raws-names a o (r ∷ rs) w = ap (λ (l : List Name). r .name ∷ l) (raws-names a (o + header + r .head .len) rs w)
 
-pub walk-names : (bs : List RawBlock) → namesIn (blocksWalk bs) ≡ allNames bs
+walk-names : (bs : List RawBlock) → namesIn (blocksWalk bs) ≡ allNames bs
 unfolding blocksWalk namesIn allNames
 walk-names [] = refl
 walk-names (b ∷ bs) = raws-names (b .at) 0 (b .raws) (blocksWalk bs) ∙ ap (λ (l : List Name). namesOf (b .raws) ++ l) (walk-names bs)
@@ -55,7 +55,7 @@ unfolding rawsWalk ends
 raws-ends a o [] w = refl
 raws-ends a o (r ∷ rs) w = raws-ends a (o + header + r .head .len) rs w
 
-pub walk-ends : (bs : List RawBlock) → ends (blocksWalk bs) ≡ true
+walk-ends : (bs : List RawBlock) → ends (blocksWalk bs) ≡ true
 unfolding blocksWalk ends
 walk-ends [] = refl
 walk-ends (b ∷ bs) = raws-ends (b .at) 0 (b .raws) (blocksWalk bs) ∙ walk-ends bs
@@ -110,7 +110,7 @@ module _ (B D n : ℕ) (I : List ℕ) where
       (λ _. each-some (Walks (suc f) a o) [] (λ w. stop-walk f a o w q)))
 
   -- The entries that `rawsFrom` finds are those of the walk.
-  pub raws-walk : (f a o : ℕ) (rs : List Raw) → rawsFrom B I f a o ≡ some rs → (w : Walk) → entriesFrom B D n I f a o w ≡ rawsWalk a o rs w
+  raws-walk : (f a o : ℕ) (rs : List Raw) → rawsFrom B I f a o ≡ some rs → (w : Walk) → entriesFrom B D n I f a o w ≡ rawsWalk a o rs w
   raws-walk f a o rs g w = each-walk f a o .is rs g w
 
   -- Their names are as long as they say.
@@ -127,7 +127,7 @@ module _ (B D n : ℕ) (I : List ℕ) where
       (λ rs g. each-some (All LongName) _ (sym (part-long I (placeAt B a o + header) (e .len) l), each-long a whole f (o + header + e .len) .is rs g))))
       (λ q. each-test (All LongName) (zeroFrom I (placeAt B a o) (B - 4 - o)) _ (λ _. each-some (All LongName) [] tt))
 
-  pub raws-long : (f a o : ℕ) (rs : List Raw) → B * a + B ≤ length I → rawsFrom B I f a o ≡ some rs → All LongName rs
+  raws-long : (f a o : ℕ) (rs : List Raw) → B * a + B ≤ length I → rawsFrom B I f a o ≡ some rs → All LongName rs
   raws-long f a o rs whole g = each-long a whole f o .is rs g
 
   -- ---- a directory's blocks

@@ -48,7 +48,7 @@ seen-test true o = refl
 seen-test false o = refl
 
 -- the same of what is found already
-pub then-pass : {X Y : Type 0} (t : Bool) (x : X) (f : X → Option Y) → then (pick t (some x) none) f ≡ pick t (f x) none
+then-pass : {X Y : Type 0} (t : Bool) (x : X) (f : X → Option Y) → then (pick t (some x) none) f ≡ pick t (f x) none
 unfolding then pick
 then-pass true x f = refl
 then-pass false x f = refl

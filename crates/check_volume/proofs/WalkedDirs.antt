@@ -48,7 +48,7 @@ blocks-sum s (b ∷ bs) l =
     let e : s + rawsUsed (b .raws) + rawSum bs ≡ s + (rawsUsed (b .raws) + rawSum bs) = omega arith in
     raws-sum s (b .at) 0 (b .raws) (blocksWalk bs) (l .0) ∙ blocks-sum (s + rawsUsed (b .raws)) bs (l .1) ∙ ap summed.Total e
 
-pub walk-sum : (bs : List RawBlock) → LongNames bs → sumFrom 0 (blocksWalk bs) ≡ summed.Total (rawSum bs)
+walk-sum : (bs : List RawBlock) → LongNames bs → sumFrom 0 (blocksWalk bs) ≡ summed.Total (rawSum bs)
 walk-sum bs l = let e : 0 + rawSum bs ≡ rawSum bs = omega arith in blocks-sum 0 bs l ∙ ap summed.Total e
 
 -- ---- over any check of what is below
@@ -71,7 +71,7 @@ module _ (B D n : ℕ) (I : List ℕ) {X : Type 0} (below : ℕ → List ℕ →
       (λ x e. each-with (λ c. sum (c .found) ≡ rawSum (b ∷ bs)) _ (dirOf B D n I below size bs (x .seen))
       (λ c f. let p = entries-sum (b .raws) seen .is x e in let q = each-sum bs (x .seen) .is c f in omega (arith, p, q)))
 
-  pub dir-sum : (bs : List RawBlock) (seen : List ℕ) (c : Claimed (List (Block X))) → dirOf B D n I below size bs seen ≡ some c → sum (c .found) ≡ rawSum bs
+  dir-sum : (bs : List RawBlock) (seen : List ℕ) (c : Claimed (List (Block X))) → dirOf B D n I below size bs seen ≡ some c → sum (c .found) ≡ rawSum bs
   dir-sum bs seen c e = each-sum bs seen .is c e
 
   -- the entries one after another, each checked by f
@@ -89,7 +89,7 @@ module _ (B D n : ℕ) (I : List ℕ) {X : Type 0} (below : ℕ → List ℕ →
         ∙ sym (then-then (nodeOf B D n I below size (r .head .kind) (r .head) seen) _ (through f w))
         ∙ ap (λ (y : Option (List ℕ)). then y (through f w)) (sym (seen-then (nodeOf B D n I below size (r .head .kind) (r .head) seen) _))
 
-    pub through-blocks : (bs : List RawBlock) (seen : List ℕ) → through f (blocksWalk bs) seen ≡ seenOf (dirOf B D n I below size bs seen)
+    through-blocks : (bs : List RawBlock) (seen : List ℕ) → through f (blocksWalk bs) seen ≡ seenOf (dirOf B D n I below size bs seen)
     unfolding through blocksWalk dirOf
     through-blocks [] seen = unfold seenOf in unfold then in refl
     through-blocks (b ∷ bs) seen =
@@ -140,11 +140,6 @@ module _ (B D n : ℕ) (I : List ℕ) where
   entry-is : (d : ℕ) (e : DirEntry) (seen : List ℕ) → entryCheck B D n I d e seen ≡ seenOf (nodeOf B D n I (checkBelow B D n I d) (sumBelow d) (e .kind) e seen)
   unfolding entryCheck
   entry-is d e seen = refl
-
-  -- the entries of blocks that are found, in the order of their walk
-  pub through-dir : (d : ℕ) (bs : List RawBlock) (seen : List ℕ)
-      → through (entryCheck B D n I d) (blocksWalk bs) seen ≡ seenOf (dirOf B D n I (checkBelow B D n I d) (sumBelow d) bs seen)
-  through-dir d bs seen = through-blocks B D n I (checkBelow B D n I d) (sumBelow d) (entryCheck B D n I d) (entry-is d) bs seen
 
   -- the check of a directory is that of the code
   survey-is : (d a : ℕ) (seen : List ℕ) → survey B D n I d a seen ≡ checkDir B D n I {X = Below d} (checkBelow B D n I d) (sumBelow d) a seen

@@ -32,11 +32,11 @@ use Rattle.check_volume.specs.Survey.{cellsOf, chainOf}
 use Rattle.check_volume.specs.Marks.{seenOf, MarksAnswer}
 use Rattle.check_volume.specs.Steps.{openDir, through, isTotal, entryCheck, subCheck}
 use Rattle.check_volume.proofs.Claims.{beyond-refl}
-use Rattle.check_volume.proofs.Goes.{Check, Goes, goes-refl, goes-from, goes-end, goes-stop, goes-no, goes-yes, goes-last, step-no, step-yes}
+use Rattle.check_volume.proofs.Remaining.{Check, Goes, goes-refl, goes-from, goes-end, goes-stop, goes-no, goes-yes, goes-last, step-no, step-yes}
 use Rattle.check_volume.proofs.WalkedDirs.{sub-steps, sub-none, file-steps, device-steps}
 
 -- the same check in other words
-pub checks-as : (D n : ℕ) (f g : Check) (W Z : List ℕ) (r : Bool) → ((seen : List ℕ) → g seen ≡ f seen) → MarksAnswer D n f W Z r → MarksAnswer D n g W Z r
+checks-as : (D n : ℕ) (f g : Check) (W Z : List ℕ) (r : Bool) → ((seen : List ℕ) → g seen ≡ f seen) → MarksAnswer D n f W Z r → MarksAnswer D n g W Z r
 checks-as D n f g W Z r e q = goes-last D n g f W W Z r (goes-from D n g f f W W e (goes-refl D n f W)) q
 
 -- a filter that comes back as it was is still clear, and as long

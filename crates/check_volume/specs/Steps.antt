@@ -5,7 +5,6 @@ use mathlib.Core.List.{List}
 use Prim.Native.Nat.{ℕ, zero, suc, _-_}
 use lib.Dec.{eqb}
 use Rattle.wire.specs.Pick.{pick, zeroFrom}
-use Rattle.block.specs.Block.{next}
 use Rattle.model.specs.Tree.{Below, then, sum}
 use Rattle.dir_entry.specs.declared.DirEntry.{DirEntry}
 use Rattle.read_dir.specs.Walk.{Walk, item, finished, damaged, walk}

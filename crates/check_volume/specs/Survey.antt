@@ -1,6 +1,5 @@
 -- The check of W2 to W4 as a function on the bytes of any image: the tree that stands at an address, or nothing. Definitions alone.
 -- B is the block size, D the data area's first address and n the volume's blocks.
-use mathlib.Core.Path.{_≡_}
 use mathlib.Core.Bool.{Bool, true, false, not, _&&_}
 use mathlib.Core.Option.{Option, none, some}
 use mathlib.Core.List.{List, [], _∷_, _++_}

@@ -21,7 +21,7 @@ ghost use lib.ListN.{length};
 ghost use Rattle.wire.specs.Be.{zeros, splice};
 ghost use Rattle.wire.specs.Pick.{pick};
 ghost use Rattle.model.specs.Volume.{fileLimit, blocksFor, maxDepth};
-ghost use Rattle.block.specs.Block.{blockBytes, next};
+ghost use Rattle.block.specs.Block.{blockBytes};
 ghost use Rattle.super_block.specs.Super.{geoOf, Fit};
 ghost use Rattle.check_bitmap.specs.Tally.{markBytes};
 ghost use Rattle.dir_entry.specs.Entry.{header, placeAt, nameAt};

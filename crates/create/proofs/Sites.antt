@@ -20,7 +20,7 @@ use Rattle.super_block.specs.declared.SuperBlock.{SuperBlock}
 use Rattle.super_block.specs.Super.{geoOf, Fit}
 use Rattle.super_block.proofs.Fits.{well-volume}
 use Rattle.bitmap_block.specs.Bitmap.{clears, Room}
-use Rattle.bitmap_block.proofs.Steps.{volume-clears, volume-room}
+use Rattle.bitmap_block.proofs.Stores.{volume-clears, volume-room}
 use Rattle.dir_entry.specs.declared.DirEntry.{DirEntry}
 use Rattle.dir_entry.specs.declared.Kind.{Kind}
 use Rattle.dir_entry.specs.declared.Kind.the-variants.{Dir}

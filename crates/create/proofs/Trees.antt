@@ -2,7 +2,7 @@
 use mathlib.Core.Path.{_≡_, refl, sym, ap, _∙_, subst}
 use mathlib.Core.Bool.{Bool, true, false, _&&_}
 use mathlib.Core.Logic.{_⊎_, inl, inr, _↔_}
-use mathlib.Core.Option.{none, some}
+use mathlib.Core.Option.{some}
 use mathlib.Core.List.{List, [], _∷_}
 use Prim.Native.Nat.{ℕ, zero, suc, _+_, _^_, _≤_, _<_}
 use native.Mathlib.Omega.{arith}
@@ -18,9 +18,8 @@ use Rattle.model.specs.Geometry.{Geo, blockSize, dataAt}
 use Rattle.model.specs.Volume.{maxDepth, GoodName, Volume}
 use Rattle.model.specs.Calls.{freeBlocks, entryRoom, toCreate, entryBlock, TreeCreatesFile, TreeCreatesDir}
 use Rattle.model.proofs.Opens.{when-true, when-false, when-none, first-of-one}
-use Rattle.model.proofs.Lists.{not-some}
-use Rattle.model.proofs.Replies.{not-accepted, accepted-one, given-none, given-some, given-accepted, given-refused, then-accepted, then-refused, and-then-ok, and-then-no}
-use Rattle.bitmap_block.proofs.Steps.{volume-clears}
+use Rattle.model.proofs.Replies.{not-accepted, accepted-one, given-none, given-some, given-accepted, given-refused, then-accepted, then-refused, and-then-ok}
+use Rattle.bitmap_block.proofs.Stores.{volume-clears}
 use Rattle.dir_entry.specs.declared.Kind.{Kind}
 use Rattle.dir_entry.specs.declared.Kind.the-variants.{Dir, File}
 use Rattle.dir_entry.specs.Entry.{isDir}
@@ -32,7 +31,7 @@ use Rattle.create_store.specs.Create.{spotFor, needed, SpotIn, insertedAt}
 use Rattle.create_store.proofs.Inserted.{inserted-file, inserted-dir, inserted-entry, spot-inside, spot-adds}
 use Rattle.text.specs.Text.{isText}
 use Rattle.path.specs.Path.{lastName, dirPart, steps}
-use Rattle.path.proofs.Laws.{last-name}
+use Rattle.path.proofs.FullPaths.{last-name}
 use Rattle.dir.specs.Hold.{Hold, holdDir}
 use Rattle.thm_path.specs.Held.{HeldAt}
 use Rattle.thm_path.proofs.Finds.{lookup-or, find-is, find-missing}
@@ -168,7 +167,7 @@ module _ (g : Geo) (I : List ℕ) (t : Tree maxDepth) (v : Volume g I maxDepth t
       ∙ ap (λ (b : Bool). given (when 9 b) (accepted site)) room-is
 
   -- The tree's refusal if there is one, and else the site: never 17.
-  pub site-is : siteIn g I k n h ≡ given (treeRefusal g free k n dir) (accepted site)
+  site-is : siteIn g I k n h ≡ given (treeRefusal g free k n dir) (accepted site)
   unfolding siteIn
   site-is =
       ap (λ (b : Bool). given (when 15 b) (given (existsNumber (findIn n (walk (blockSize g) (dataAt g) (g .n) I (h .dir)))) (siteAt g I h at))) deep-is
@@ -223,16 +222,6 @@ module _ (g : Geo) (I : List ℕ) (t : Tree maxDepth) (v : Volume g I maxDepth t
             ∙ site-is g I t v way (r .0) q k last
             ∙ ap (λ (d : Some). given (treeRefusal g unused k last d) (accepted (site g I t v way (r .0) q k last))) (one-there s (r .0) q f)),
       )
-
-  -- Where it has none: 8, then 5 or 6.
-  pub answer-none : find maxDepth way t ≡ none → (j : ℕ) × ((j ≡ 5) ⊎ (j ≡ 6)) × (siteOf g I k l ≡ given (when 8 (badName last)) (refused j))
-  unfolding siteOf
-  answer-none f = go (holdDir (blockSize g) (dataAt g) (g .n) I (dirPart l)) refl
-    where
-      go : (r : Reply Hold) → holdDir (blockSize g) (dataAt g) (g .n) I (dirPart l) ≡ r → (j : ℕ) × ((j ≡ 5) ⊎ (j ≡ 6)) × (siteOf g I k l ≡ given (when 8 (badName last)) (refused j))
-      go (accepted h) e = absurd (not-some f (held h e .found))
-      go (refused j) e =
-          (j, hold-refused g I maxDepth t _ way (v .laid) j e .1, ap (given (when 8 (badName last))) (and-then-no j (siteIn g I k last) e))
 
   -- A refusal is 8, 5 or 6, or 15, 7 or 9: damage, 17, is never met.
   pub refused-is : (j : ℕ) → siteOf g I k l ≡ refused j → (j ≡ 8) ⊎ (((j ≡ 5) ⊎ (j ≡ 6)) ⊎ InDir j)

@@ -7,7 +7,7 @@ use native.Mathlib.Nat.{add-zero}
 use native.Mathlib.Omega.{arith}
 use lib.ListN.{length, getD, drop, length-append}
 use Rattle.wire.specs.Be.{bytes, splice, zeros}
-use Rattle.wire.proofs.Laws.{length-bytes}
+use Rattle.wire.proofs.Numbers.{length-bytes}
 use Rattle.wire.proofs.Picks.{pick-true, pick-false}
 use Rattle.block.specs.Block.{linked}
 use Rattle.model.specs.Tree.{Name, Entry, Block, Tree, used, fill, insert}
@@ -19,7 +19,7 @@ use Rattle.model.proofs.Areas.{size-large}
 use Rattle.model.proofs.Cuts.{upTo, dir-split, entries-split, bytes-split}
 use Rattle.model.proofs.Full.{length-entries}
 use Rattle.bitmap_block.specs.Bitmap.{clears, fresh}
-use Rattle.bitmap_block.proofs.Steps.{fresh-index}
+use Rattle.bitmap_block.proofs.Stores.{fresh-index}
 use Rattle.dir_entry.specs.declared.Kind.{Kind}
 use Rattle.dir_entry.specs.Entry.{headBytes}
 use Rattle.dir_entry.proofs.Heads.{length-head}
@@ -121,7 +121,7 @@ module _ (g : Geo) (I : List ℕ) (d : ℕ) (t : Tree d) (us : List Piece) (vol 
       fits : 4 + used es + length text ≤ B
       fits = omega (arith, length-text, r .room, size-large g)
 
-      pub gap-stage : (w : ℕ) → Stage g I d t us (entered g J (placed (r .block .at) (used es)) k n now) (dirPieces B v (insert (entryRoom g) w e bs)) free
+      gap-stage : (w : ℕ) → Stage g I d t us (entered g J (placed (r .block .at) (used es)) k n now) (dirPieces B v (insert (entryRoom g) w e bs)) free
       gap-stage w =
           let s₁ : Stage g I d t us (grown g J) (zeroPiece B x ∷ (front ++ (here es ∷ (entryPieces v es ++ dirPieces B v (r .later))))) free
           = subst (λ (l : List Piece). Stage g I d t us (grown g J) (zeroPiece B x ∷ l) free) before (stage-grown J (dirPieces B v bs) x free s) in
@@ -195,7 +195,7 @@ module _ (g : Geo) (I : List ℕ) (d : ℕ) (t : Tree d) (us : List Piece) (vol 
           ∙ ap (λ (l : List ℕ). bytes 4 0 ++ padded (C - 4) l) (sym (new .bytes-are) ∙ sym (append-nil (entryBytes v e))) in
           λ i. record { at = w; full = f i }
 
-      pub full-stage : Stage g I d t us (entered g link (placed w 0) k n now) (dirPieces C v (insert (entryRoom g) w e bs)) free
+      full-stage : Stage g I d t us (entered g link (placed w 0) k n now) (dirPieces C v (insert (entryRoom g) w e bs)) free
       full-stage =
           let Q : List Piece = head ++ (tail w ∷ entryPieces v old) in
           let s₁ : Stage g I d t us (grown g link) (zeroPiece C x ∷ (zeroPiece C w ∷ Q)) free = stage-grown link (zeroPiece C w ∷ Q) x free link-stage in
@@ -207,7 +207,7 @@ module _ (g : Geo) (I : List ℕ) (d : ℕ) (t : Tree d) (us : List Piece) (vol 
           subst (λ (l : List Piece). Stage g I d t us (entered g link (placed w 0) k n now) l free) all-is
           (subst (λ (L : List ℕ). Stage g I d t us L (Q ++ (one ∷ (zeroPiece C x ∷ []))) free) (entered-is link w 0 (fresh-is link (zeroPiece C w ∷ Q) x free link-stage)) s₄)
 
-      pub full-block : fresh g link ≡ x
+      full-block : fresh g link ≡ x
       full-block = fresh-is link (zeroPiece C w ∷ (head ++ (tail w ∷ entryPieces v old))) x free link-stage
 
     -- ---- in either case

@@ -11,7 +11,7 @@ use lib.ListN.{length, length-append}
 use lib.Seq.{take-append-seam, drop-append-add, drop-at}
 use borrow.Author.Tests.{leb-true}
 use Rattle.wire.specs.Be.{bytes, splice, zeros}
-use Rattle.wire.proofs.Laws.{length-bytes, drop-zeros, splice-past}
+use Rattle.wire.proofs.Numbers.{length-bytes, drop-zeros, splice-past}
 use Rattle.wire.proofs.Picks.{either, pick-true, pick-false}
 use Rattle.model.specs.Tree.{Name, Entry, Block, any, weight, used, fill, insert}
 use Rattle.model.specs.Render.{padded}

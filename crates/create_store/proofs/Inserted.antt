@@ -1,13 +1,13 @@
 -- The stores of a create are the tree's edit: the theorem on the definitions of specs/, for files and for directories.
 use mathlib.Core.Path.{_≡_, refl, sym, ap, _∙_, subst}
-use mathlib.Core.Logic.{_⊎_, inl, inr, _↔_}
+use mathlib.Core.Logic.{_⊎_, inl, inr}
 use mathlib.Core.Option.{some}
 use mathlib.Core.List.{List, [], _∷_, _++_}
 use Prim.Native.Nat.{ℕ, zero, suc, _+_, _-_, _^_, _≤_, _<_}
 use native.Mathlib.Omega.{arith}
 use lib.ListN.{length, length-replicate}
 use Rattle.wire.specs.Be.{bytes, zeros}
-use Rattle.block.proofs.Laws.{kept-less}
+use Rattle.block.proofs.Blocks.{kept-less}
 use Rattle.model.specs.Tree.{Name, file, sub, Entry, Block, Below, Tree, weight, used, sum, Packed, Absent, insert, Edit, edit, Some, find, blank}
 use Rattle.model.specs.Render.{Piece, View, cellsAt, blocksAt, padded, addressOf, sizeOf, entriesBytes, cellPieces, nodePieces, entryPieces, dirPieces, view, render, ats, count, blocks}
 use Rattle.model.specs.Geometry.{Geo, blockSize, dataAt}
@@ -22,14 +22,12 @@ use Rattle.model.proofs.Good.{good-insert}
 use Rattle.model.proofs.Levels.{good-dir-added}
 use Rattle.model.proofs.Inserts.{insert-at}
 use Rattle.super_block.specs.declared.SuperBlock.{SuperBlock}
-use Rattle.super_block.specs.Super.{geoOf, Fit}
-use Rattle.bitmap_block.specs.Bitmap.{clears, Room}
-use Rattle.bitmap_block.proofs.Steps.{volume-clears, volume-room, aside-data, aside-other}
+use Rattle.super_block.specs.Super.{Fit}
+use Rattle.bitmap_block.proofs.Stores.{aside-data, aside-other}
 use Rattle.dir_entry.specs.declared.Kind.{Kind}
 use Rattle.dir_entry.specs.declared.Kind.the-variants.{Dir, File}
 use Rattle.dir_entry.specs.Shown.{headOf}
 use Rattle.dir_entry.proofs.Shown.{entry-bytes}
-use Rattle.read_dir.specs.declared.Summed.the-variants as summed
 use Rattle.thm_walk.proofs.Parts.{Stored, Part, laid-part, part-find, stored-right, stored-in}
 use Rattle.own_entry.specs.declared.Own.{Own}
 use Rattle.own_entry.specs.Own.{OwnOf}
@@ -101,7 +99,7 @@ module _ (g : Geo) (I : List ℕ) (d : ℕ) (t : Tree d) (v : Volume g I d t) (p
         go (b ∷ bs) q i m a = insert-entered g I d t (render B (s .0) (s .1)) v inner (view B (s .0)) k n now few x e new I b bs free i m a
 
     -- The entry's own block.
-    pub inserted-block : insertedAt g I spot ≡ x
+    inserted-block : insertedAt g I spot ≡ x
     inserted-block = enters .block
 
     module _ (clock : now < 2 ^ 64) (f : Edit) (becomes : f (s .0) (s .1) ≡ insert (entryRoom g) (dirBlock free) e (s .1)) (good : GoodTree B (s .0) (f (s .0) (s .1))) where
@@ -131,7 +129,7 @@ module _ (g : Geo) (I : List ℕ) (d : ℕ) (t : Tree d) (v : Volume g I d t) (p
           }
 
       -- The stores of a create make the edited tree.
-      pub inserted-makes : (own : Own) → OwnOf B d p t own → Makes g d (edit d p (λ _. now) f t) [] I (inserted g I (blocksAt (s .1)) spot own k n now)
+      inserted-makes : (own : Own) → OwnOf B d p t own → Makes g d (edit d p (λ _. now) f t) [] I (inserted g I (blocksAt (s .1)) spot own k n now)
       unfolding inserted
       inserted-makes own w = sum-makes g I stored d t p now f s [] own v h all-made w clock
 
@@ -256,21 +254,6 @@ module _ (g : Geo) (I : List ℕ) (d : ℕ) (t : Tree d) (n : Name) where
       pub spot-adds : needed at ≡ toCreate (entryRoom g) n (s .1)
       spot-adds = both .1
 
-      -- and where they are free there is room for them.
-      pub spot-room : toCreate (entryRoom g) n (s .1) ≤ length (freeBlocks g d t) → Room g I (needed at)
-      spot-room r = volume-room g I d t v (needed at) (omega (arith, spot-adds))
-
-      -- They are free where as many indexes in reach are clear.
-      pub spot-free : (needed at ≤ length (clears g I)) ↔ (toCreate (entryRoom g) n (s .1) ≤ length (freeBlocks g d t))
-      spot-free =
-          let e : length (clears g I) ≡ length (freeBlocks g d t) = ap length (volume-clears g I d t v) in
-          (λ q. omega (arith, spot-adds), λ q. omega (arith, spot-adds))
-
 -- ---- as code has it, by the struct's own numbers
 
 module _ (b : SuperBlock) (I : List ℕ) (f : Fit b I) (at : Spot) (len : ℕ) where
-  pub code-spot : (dir : ℕ) → at ≡ spotFor 512 (b .area .0) (b .blocks) I dir len → at ≡ spotFor (blockSize (geoOf b)) (dataAt (geoOf b)) (geoOf b .n) I dir len
-  code-spot dir e = e ∙ ap (λ (D : ℕ). spotFor 512 D (b .blocks) I dir len) (f .area)
-
-  pub code-inside : SpotIn (blockSize (geoOf b)) (dataAt (geoOf b)) (geoOf b .n) len at → SpotIn 512 (b .area .0) (b .blocks) len at
-  code-inside q = subst (λ (D : ℕ). SpotIn 512 D (b .blocks) len at) (sym (f .area)) q

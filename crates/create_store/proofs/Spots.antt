@@ -15,7 +15,6 @@ use Rattle.dir_entry.specs.Entry.{header, slotAt}
 use Rattle.dir_entry.proofs.Slots.{stop-offset, slot-stands}
 use Rattle.read_dir.specs.Walk.{inArea}
 use Rattle.read_dir.specs.Finds as finds
-use Rattle.super_block.proofs.Fits.{placed}
 use Rattle.create_store.specs.declared.Spot.{Spot}
 use Rattle.create_store.specs.declared.Spot.the-variants.{In, After, Damaged}
 use Rattle.create_store.specs.Create.{stopOr, stopFrom, usedAt, spotFrom}
@@ -33,7 +32,7 @@ module _ (B : ℕ) (I : List ℕ) (a : ℕ) where
   stop-past f o e h = ap (λ (z : Slot). stopOr z (λ d. stopFrom B I f a (o + header + d .len)) o) h
 
   -- any two bounds that the block's rest does not pass give the same
-  pub stop-enough : (f h o : ℕ) → B ≤ o + f → B ≤ o + h → stopFrom B I f a o ≡ stopFrom B I h a o
+  stop-enough : (f h o : ℕ) → B ≤ o + f → B ≤ o + h → stopFrom B I f a o ≡ stopFrom B I h a o
   stop-enough zero h o p q = stop-here zero o (stop-offset B I a o (omega arith)) ∙ sym (stop-here h o (stop-offset B I a o (omega arith)))
   stop-enough (suc f) zero o p q = stop-here (suc f) o (stop-offset B I a o (omega arith)) ∙ sym (stop-here zero o (stop-offset B I a o (omega arith)))
   stop-enough (suc f) (suc h) o p q = go (slotAt B I a o) refl (λ k. stop-enough f h k)
@@ -67,16 +66,16 @@ module _ (I : List ℕ) (a o : ℕ) (inv : (o ≤ 507) × (stopFrom 512 I (512 -
 -- ---- where a new entry goes
 
 module _ (B D n : ℕ) (I : List ℕ) (len : ℕ) where
-  pub spot-over : (a : ℕ) → spotFrom B D n I len 0 a ≡ Damaged
+  spot-over : (a : ℕ) → spotFrom B D n I len 0 a ≡ Damaged
   unfolding spotFrom
   spot-over a = refl
 
   module _ (k a : ℕ) where
-    pub spot-below : a < D → spotFrom B D n I len (suc k) a ≡ Damaged
+    spot-below : a < D → spotFrom B D n I len (suc k) a ≡ Damaged
     unfolding spotFrom
     spot-below h = pick-false _ _ (rw (lt-leb D a h))
 
-    pub spot-above : D ≤ a → n ≤ a → spotFrom B D n I len (suc k) a ≡ Damaged
+    spot-above : D ≤ a → n ≤ a → spotFrom B D n I len (suc k) a ≡ Damaged
     unfolding spotFrom
     spot-above h q = pick-false _ _ (rw (le-leb D a h, le-ltb _ _ q))
 

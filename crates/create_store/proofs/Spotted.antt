@@ -18,7 +18,6 @@ use Rattle.model.specs.Volume.{All, GoodBlock, GoodBelow, Laid}
 use Rattle.model.specs.Calls.{entryRoom, hasRoom, toCreate}
 use Rattle.model.proofs.Areas.{area}
 use Rattle.model.proofs.Sums.{chain-long}
-use Rattle.dir_entry.specs.declared.Slot.the-variants as slot
 use Rattle.dir_entry.specs.Entry.{header, placeAt}
 use Rattle.dir_entry.specs.Shown.{headOf}
 use Rattle.dir_entry.proofs.Shown.{Legible, head-weight, first-shown, block-stops, slot-is}
@@ -50,7 +49,7 @@ module _ (g : Geo) (I : List ℕ) (sound : Sound g (length I)) (d : ℕ) where
   shows = view (blockSize g) d
 
   -- The bytes that a block's entries use on the image.
-  pub block-used : (b : Block (Below d)) (bs : Tree d) → GoodBlock (blockSize g) (GoodBelow (blockSize g) d) b → Stored g I (dirPieces (blockSize g) shows (b ∷ bs))
+  block-used : (b : Block (Below d)) (bs : Tree d) → GoodBlock (blockSize g) (GoodBelow (blockSize g) d) b → Stored g I (dirPieces (blockSize g) shows (b ∷ bs))
       → usedAt (blockSize g) I (b .at) ≡ used (b .entries)
   block-used b bs a s =
       let e : All (Legible shows) (b .entries) = entries-legible g I sound d (b .entries) (a .each) (below-stored g I shows b bs s) in
@@ -97,7 +96,7 @@ module _ (g : Geo) (I : List ℕ) (sound : Sound g (length I)) (d : ℕ) where
           ∙ ap (spotFrom (blockSize g) (dataAt g) (g .n) I (length n) (suc k)) m ∙ r ∙ sym (pick-false _ _ c)
 
 -- The spot in a directory that the image holds.
-pub part-spot : (g : Geo) (I : List ℕ) (d : ℕ) (t : Tree d) (n : Name) → Part g I d t
+part-spot : (g : Geo) (I : List ℕ) (d : ℕ) (t : Tree d) (n : Name) → Part g I d t
     → spotFor (blockSize g) (dataAt g) (g .n) I (blocksAt t) (length n) ≡ spotOn (entryRoom g) n 0 t
 unfolding blocksAt render
 part-spot g I d [] n p = absurd (p .good .packed)

@@ -7,9 +7,9 @@ use native.Mathlib.Decide.{decLt, ℕ-discrete}
 use native.Mathlib.Omega.{arith}
 use lib.ListN.{length, getD, length-replicate, getD-replicate}
 use Rattle.wire.specs.Be.{splice, zeros}
-use Rattle.wire.proofs.Laws.{length-splice, splice-before, splice-in, splice-after}
+use Rattle.wire.proofs.Numbers.{length-splice, splice-before, splice-in, splice-after}
 use Rattle.block.specs.Block.{cell, Off, Kept}
-use Rattle.block.proofs.Laws.{kept-refl, kept-trans, kept-less, splice-kept}
+use Rattle.block.proofs.Blocks.{kept-refl, kept-trans, kept-less, splice-kept}
 use Rattle.model.specs.Tree.{Tree}
 use Rattle.model.specs.Render.{Piece, ats, count, blocks, render, Shows, ShowsAll}
 use Rattle.model.specs.Geometry.{Geo, blockSize, dataAt, mapBits, superBytes, usedCount, Sound}
@@ -26,7 +26,7 @@ use Rattle.model.proofs.OneVolume.{used-is, used-set}
 use Rattle.model.proofs.Owns.{shows-kept}
 use Rattle.model.proofs.Lists.{all-append, all-left, all-right}
 use Rattle.bitmap_block.specs.Bitmap.{mark, clears, taken}
-use Rattle.bitmap_block.proofs.Steps.{mark-is, Aside, aside-data, sound-kept, used-kept, mark-kept, clears-kept, index-in, taken-kept, used-taken, top-taken, mark-taken, mark-taken-other, cell-taken, first-in, first-clear, clears-taken, volume-clears, volume-room}
+use Rattle.bitmap_block.proofs.Stores.{mark-is, Aside, aside-data, sound-kept, used-kept, mark-kept, clears-kept, index-in, taken-kept, used-taken, top-taken, mark-taken, mark-taken-other, cell-taken, first-in, first-clear, clears-taken, volume-clears, volume-room}
 
 -- a block of zeros
 abbrev pub zeroPiece : ℕ → ℕ → Piece
@@ -42,7 +42,7 @@ unfolding cell
 kept-block B P I J k b f i h = k .at b i (f i) h
 
 -- what a block shows after a store in it
-pub shows-splice : (I : List ℕ) (k o : ℕ) (l vs : List ℕ) → o + length vs ≤ length l → k + length l ≤ length I → Shows I k l → Shows (splice I (k + o) vs) k (splice l o vs)
+shows-splice : (I : List ℕ) (k o : ℕ) (l vs : List ℕ) → o + length vs ≤ length l → k + length l ≤ length I → Shows I k l → Shows (splice I (k + o) vs) k (splice l o vs)
 shows-splice I k o l vs h m s i q = go (decLt i o) (decLt i (o + length vs))
   where
     fits : k + o + length vs ≤ length I
@@ -95,11 +95,11 @@ module _ (g : Geo) (I : List ℕ) (d : ℕ) (t : Tree d) (us : List Piece) where
     }
 
     -- a directory's piece once at most
-    pub stage-once : (J : List ℕ) (xs : List Piece) (free : List ℕ) → Stage J xs free → (i : ℕ) → count i (ats xs) ≤ 1
+    stage-once : (J : List ℕ) (xs : List Piece) (free : List ℕ) → Stage J xs free → (i : ℕ) → count i (ats xs) ≤ 1
     stage-once J xs free s i = omega (arith, s .apart i, part i)
 
     module _ (J : List ℕ) (xs : List Piece) where
-      pub stage-sound : (free : List ℕ) → Stage J xs free → Sound g (length J)
+      stage-sound : (free : List ℕ) → Stage J xs free → Sound g (length J)
       stage-sound free s = sound-kept g I (v .laid .sound) _ J (s .kept)
 
       -- ---- a block taken

@@ -7,25 +7,24 @@ use native.Mathlib.Omega.{arith}
 use lib.ListN.{length, getD, take, drop, length-append}
 use lib.Seq.{take-all}
 use Rattle.wire.specs.Be.{splice}
-use Rattle.wire.proofs.Laws.{length-splice}
+use Rattle.wire.proofs.Numbers.{length-splice}
 use Rattle.block.specs.declared.Addr.{Addr}
 use Rattle.block.specs.Block.{linked, Off, Kept}
-use Rattle.block.proofs.Laws.{linked-kept}
+use Rattle.block.proofs.Blocks.{linked-kept}
 use Rattle.model.specs.Tree.{Name}
 use Rattle.model.specs.Geometry.{Geo, blockSize, dataAt, Sound}
-use Rattle.model.proofs.Areas.{area, few, size-large, block-inside}
+use Rattle.model.proofs.Areas.{area, size-large, block-inside}
 use Rattle.super_block.specs.declared.SuperBlock.{SuperBlock}
 use Rattle.super_block.specs.Super.{geoOf, Fit}
 use Rattle.super_block.proofs.Fits.{placed, fit-long}
 use Rattle.bitmap_block.specs.Bitmap.{clears, taken, Room, fresh}
-use Rattle.bitmap_block.proofs.Laws.{found-in}
-use Rattle.bitmap_block.proofs.Steps.{Aside, sound-kept, used-kept, clears-kept, taken-kept, room-taken, fresh-low, fresh-index, fresh-first, fresh-data, fresh-high}
+use Rattle.bitmap_block.proofs.Answers.{found-in}
+use Rattle.bitmap_block.proofs.Stores.{Aside, sound-kept, used-kept, clears-kept, taken-kept, room-taken, fresh-low, fresh-index, fresh-first, fresh-data, fresh-high}
 use Rattle.dir_entry.specs.declared.Kind.{Kind}
 use Rattle.dir_entry.specs.declared.DirEntry.{DirEntry}
 use Rattle.dir_entry.specs.Entry.{headBytes, placeAt}
 use Rattle.dir_entry.proofs.Heads.{length-head, splice-then}
 use Rattle.read_dir.specs.declared.Place.{Place}
-use Rattle.read_dir.specs.declared.Summed.the-variants as summed
 use Rattle.read_dir.specs.Finds as finds
 use Rattle.own_entry.specs.declared.Own.{Own}
 use Rattle.own_entry.specs.declared.Own.the-variants.{Root, At}
@@ -38,24 +37,24 @@ use Rattle.create_store.specs.Create.{needed, SpotIn, grown, opened, pla
 
 module _ (g : Geo) (I : List ℕ) (h : 1 ≤ length (clears g I)) (s : Sound g (length I)) where
   -- every byte but the used count, the bitmap and the new block's is as it was
-  pub grown-kept : Kept (blockSize g) (λ b o. Aside g b o × (b ≡ fresh g I → ⊥)) I (grown g I)
+  grown-kept : Kept (blockSize g) (λ b o. Aside g b o × (b ≡ fresh g I → ⊥)) I (grown g I)
   unfolding grown
   grown-kept =
       let k = taken-kept g I s (fresh g I - dataAt g) (fresh-data g I h s) in
       record { size = k .size; at = λ b o p q. k .at b o (p .0, λ e. p .1 (e ∙ fresh-index g I h)) q }
 
-  pub length-grown : length (grown g I) ≡ length I
+  length-grown : length (grown g I) ≡ length I
   length-grown = grown-kept .size
 
-  pub sound-grown : Sound g (length (grown g I))
+  sound-grown : Sound g (length (grown g I))
   sound-grown = sound-kept g I s _ (grown g I) grown-kept
 
-  pub room-grown : (k : ℕ) → Room g I (k + 1) → Room g (grown g I) k
+  room-grown : (k : ℕ) → Room g I (k + 1) → Room g (grown g I) k
   unfolding grown
   room-grown k r = room-taken g I s (fresh g I - dataAt g) (drop 1 (clears g I)) (fresh-first g I h) k r
 
 -- a store in a data block leaves the room
-pub room-kept : (g : Geo) (I : List ℕ) → Sound g (length I) → (P : ℕ → ℕ → Type 0) (J : List ℕ) → Kept (blockSize g) P I J → ((b o : ℕ) → b < dataAt g → P b o) → (k : ℕ) → Room g I k → Room g J k
+room-kept : (g : Geo) (I : List ℕ) → Sound g (length I) → (P : ℕ → ℕ → Type 0) (J : List ℕ) → Kept (blockSize g) P I J → ((b o : ℕ) → b < dataAt g → P b o) → (k : ℕ) → Room g I k → Room g J k
 room-kept g I s P J c f k r =
     let m = area g (length I) s .maps in
     record {
@@ -72,31 +71,31 @@ module _ (g : Geo) (I : List ℕ) (s : Sound g (length I)) (len : ℕ) where
       linked-kept (blockSize g) (grown g I) a (omega (arith, size-large g))
       (block-inside g (length (grown g I)) (sound-grown g I (omega (arith, r .clear)) s) a h) (fresh g I)
 
-  pub opened-long : (t : Spot) → SpotIn (blockSize g) (dataAt g) (g .n) len t → Room g I (needed t) → length (opened g I t) ≡ length I
+  opened-long : (t : Spot) → SpotIn (blockSize g) (dataAt g) (g .n) len t → Room g I (needed t) → length (opened g I t) ≡ length I
   opened-long (In p) q r = refl
   opened-long (After a) q r = linked-in (a .0) (q .0) (q .1) r .size ∙ length-grown g I (omega (arith, r .clear)) s
   opened-long Damaged q r = refl
 
-  pub opened-room : (t : Spot) → SpotIn (blockSize g) (dataAt g) (g .n) len t → Room g I (needed t) → Room g (opened g I t) 1
+  opened-room : (t : Spot) → SpotIn (blockSize g) (dataAt g) (g .n) len t → Room g I (needed t) → Room g (opened g I t) 1
   opened-room (In p) q r = r
   opened-room (After a) q r =
       let h : 1 ≤ length (clears g I) = omega (arith, r .clear) in
       room-kept g (grown g I) (sound-grown g I h s) (Off (a .0) 0 4) _ (linked-in (a .0) (q .0) (q .1) r) (λ b o k e _ _. omega (arith, q .0)) 1 (room-grown g I h s 1 r)
   opened-room Damaged q r = absurd q
 
-  pub place-data : (t : Spot) → SpotIn (blockSize g) (dataAt g) (g .n) len t → Room g I (needed t) → (dataAt g ≤ placeIn g I t .block .0) × (placeIn g I t .block .0 < g .n)
+  place-data : (t : Spot) → SpotIn (blockSize g) (dataAt g) (g .n) len t → Room g I (needed t) → (dataAt g ≤ placeIn g I t .block .0) × (placeIn g I t .block .0 < g .n)
   place-data (In p) q r = (q .0, q .1)
   place-data (After a) q r = let h : 1 ≤ length (clears g I) = omega (arith, r .clear) in (fresh-low g I h, fresh-high g I h s)
   place-data Damaged q r = absurd q
 
-  pub place-room : (t : Spot) → SpotIn (blockSize g) (dataAt g) (g .n) len t → len ≤ 255 → placeIn g I t .offset + 18 + len ≤ blockSize g - 5
+  place-room : (t : Spot) → SpotIn (blockSize g) (dataAt g) (g .n) len t → len ≤ 255 → placeIn g I t .offset + 18 + len ≤ blockSize g - 5
   place-room (In p) q r = q .2
   place-room (After a) q r = omega (arith, size-large g)
   place-room Damaged q r = absurd q
 
 -- ---- the entry stored
 
-pub length-entered : (g : Geo) (I : List ℕ) → Sound g (length I) → Room g I 1 → (p : Place) (k : Kind) (name : Name) (time : ℕ)
+length-entered : (g : Geo) (I : List ℕ) → Sound g (length I) → Room g I 1 → (p : Place) (k : Kind) (name : Name) (time : ℕ)
     → blockSize g * p .block .0 + blockSize g ≤ length I → p .offset + 18 + length name ≤ blockSize g - 5 → length (entered g I p k name time) ≡ length I
 unfolding entered
 length-entered g I s r p k name time h q =

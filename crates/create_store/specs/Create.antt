@@ -16,7 +16,6 @@ use Rattle.dir_entry.specs.declared.Slot.{Slot}
 use Rattle.dir_entry.specs.declared.Slot.the-variants.{Entry, Stop}
 use Rattle.dir_entry.specs.Entry.{header, headBytes, placeAt, slotAt}
 use Rattle.read_dir.specs.declared.Place.{Place}
-use Rattle.read_dir.specs.declared.Summed.the-variants as summed
 use Rattle.read_dir.specs.Walk.{inArea}
 use Rattle.read_dir.specs.Finds.{placed}
 use Rattle.own_entry.specs.declared.Own.{Own}

@@ -22,7 +22,7 @@ use Rattle.read_dir.proofs.Unroll.{area-true, chain-out}
 use Rattle.path.specs.Path.{lastName, dirPart}
 use Rattle.dir.specs.Resolve.{onName}
 use Rattle.dir.specs.Hold.{Hold, onPlaced, holdDir}
-use Rattle.delete.specs.Deleting.{Doomed, hasEntries, doomedAt, doomedIn, doomedOf, deletedOn, imageAt, deletedImage}
+use Rattle.delete.specs.Deleting.{Doomed, hasEntries, doomedAt, doomedIn, doomedOf, deletedOn}
 
 -- ---- replies
 
@@ -78,20 +78,10 @@ module _ (g : Geo) (I l : List ℕ) where
 -- ---- the call's answer
 
 module _ (g : Geo) (I l : List ℕ) where
-  -- plain success is an entry that is accepted,
-  pub done-doomed : deletedOn g I l ≡ accepted tt → (x : Doomed) × (doomedOf g I l ≡ accepted x)
-  unfolding deletedOn
-  done-doomed k = let r = then-accepted (doomedOf g I l) (λ d. accepted tt) tt k in (r .0, r .1)
-
   -- a refusal is that of the entry,
-  pub refused-doomed : (k : ℕ) → deletedOn g I l ≡ refused k → doomedOf g I l ≡ refused k
+  refused-doomed : (k : ℕ) → deletedOn g I l ≡ refused k → doomedOf g I l ≡ refused k
   unfolding deletedOn
   refused-doomed k e = first-refused (doomedOf g I l) (λ d. tt) k e
-
-  -- and it leaves the image.
-  pub refused-keeps : (k time : ℕ) → deletedOn g I l ≡ refused k → deletedImage g I l time ≡ I
-  unfolding deletedImage
-  refused-keeps k time e = ap (imageAt g I time) (refused-doomed k e)
 
 -- ---- what the stores ask of it
 

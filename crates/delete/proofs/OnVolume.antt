@@ -32,14 +32,14 @@ use Rattle.delete_store.proofs.Removes.{removed-is}
 use Rattle.path.specs.Path.{lastName, dirPart, steps}
 use Rattle.dir.specs.Resolve.{onName}
 use Rattle.dir.specs.Hold.{Hold, onPlaced, holdDir}
-use Rattle.dir.proofs.Laws.{name-some}
+use Rattle.dir.proofs.Answers.{name-some}
 use Rattle.thm_walk.specs.Shown.{spotOf}
 use Rattle.thm_path.specs.Held.{HeldAt}
 use Rattle.thm_path.proofs.Finds.{lookup-or, find-is, find-missing, found-is}
 use Rattle.thm_path.proofs.Resolves.{lookup-name, absent-none}
 use Rattle.thm_path.proofs.Holding.{hold-is, hold-refused, hold-some}
-use Rattle.delete.specs.Deleting.{Doomed, hasEntries, doomedAt, doomedIn, doomedOf, deletedOn, imageAt, deletedImage}
-use Rattle.delete.proofs.Accepted.{DoomedBy, doomed-by, done-doomed}
+use Rattle.delete.specs.Deleting.{Doomed, hasEntries, doomedAt, doomedIn, doomedOf, imageAt, deletedImage}
+use Rattle.delete.proofs.Accepted.{DoomedBy, doomed-by}
 
 -- ---- a directory has no entries where its size is 0
 
@@ -72,11 +72,11 @@ node-bare B (suc d) (sub x) h = ap not (eq-eqb (sum x) 0 (bare-sum x h))
 
 -- R14: the size in an entry of the tree tells exactly whether the entry is bare.
 module _ (B d : ℕ) (e : Entry (Below d)) where
-  pub bare-is : hasEntries (headOf (view B d) e) ≡ false → Bare d (e .node)
+  bare-is : hasEntries (headOf (view B d) e) ≡ false → Bare d (e .node)
   unfolding hasEntries headOf
   bare-is h = bare-node B d (e .node) h
 
-  pub is-bare : Bare d (e .node) → hasEntries (headOf (view B d) e) ≡ false
+  is-bare : Bare d (e .node) → hasEntries (headOf (view B d) e) ≡ false
   unfolding hasEntries headOf
   is-bare h = node-bare B d (e .node) h
 
@@ -104,10 +104,6 @@ module _ (g : Geo) (I : List ℕ) (d : ℕ) (t : Tree d) (l : List ℕ) (v : Vol
       (removed-is g I d t way (lastName l) s (e .0) (x .entry) (x .place) (x .dir) now (x .own) v (q .found) (q .starts ∙ sym (b .dir))
       (subst (OwnOf (blockSize g) d way t) (sym (b .own)) (q .own)) (e .1)
       (bare-is (blockSize g) (s .0) (e .0) (ap hasEntries (sym (e .2)) ∙ b .bare)) (e .2) (e .3) small)
-
-  -- The same of the call's own answer.
-  pub done-is : (now : ℕ) → now < 2 ^ 64 → deletedOn g I l ≡ accepted tt → TreeDeletes g d way (lastName l) now t I (deletedImage g I l now)
-  done-is now small k = let r = done-doomed g I l k in deleted-is now (r .0) small (r .1)
 
 -- ---- a refused one
 
@@ -222,7 +218,7 @@ module _ (g : Geo) (I : List ℕ) (d : ℕ) (t : Tree d) (l : List ℕ) (v : Vol
       not-some (absent-none (lastName l) (o .dir .1) (subst (λ (y : Some). Absent (lastName l) (y .1)) (same-some s (o .dir) (sym f ∙ o .there)) a)) (o .held) in
       vacant b (r .0) (r .1) (r .2)
 
-  pub answered : Answer
+  answered : Answer
   answered = go holding refl
     where
       go : (r : Reply Hold) → holding ≡ r → Answer
@@ -236,16 +232,6 @@ module _ (g : Geo) (I : List ℕ) (d : ℕ) (t : Tree d) (l : List ℕ) (v : Vol
 
   same-number : (j k : ℕ) → doomedOf g I l ≡ refused j → doomedOf g I l ≡ refused k → j ≡ k
   same-number j k p q = let e : _≡_ {A = Reply Doomed} (refused j) (refused k) = sym p ∙ q in cc
-
-  -- So 14 is refused only where the entry is there and has entries,
-  pub refused-full : doomedOf g I l ≡ refused 14 → (o : There) × (Bare (o .dir .0) (o .entry .node) → ⊥)
-  refused-full q = go answered
-    where
-      go : Answer → (o : There) × (Bare (o .dir .0) (o .entry .node) → ⊥)
-      go (goes o b x r) = absurd (not-accepted 14 x (sym q ∙ r))
-      go (full o b r) = (o, b)
-      go (vacant b j (inl h) r) = absurd (omega (arith, same-number j 14 r q))
-      go (vacant b j (inr h) r) = absurd (omega (arith, same-number j 14 r q))
 
   -- and there is no other refusal: damage, 17, is never met.
   pub refused-is : (k : ℕ) → doomedOf g I l ≡ refused k → (k ≡ 5) ⊎ ((k ≡ 6) ⊎ (k ≡ 14))

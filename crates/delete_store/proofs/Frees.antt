@@ -9,9 +9,9 @@ use lib.ListN.{length}
 use borrow.Author.Tests.{eq-eqb, ne-eqb, lt-leb}
 use Rattle.wire.specs.Be.{bytes}
 use Rattle.wire.proofs.Picks.{pick-true, pick-false}
-use Rattle.bits.proofs.Laws.{bit-lt}
+use Rattle.bits.proofs.Bits.{bit-lt}
 use Rattle.block.specs.Block.{cell, next, Kept}
-use Rattle.block.proofs.Laws.{kept-refl, kept-trans}
+use Rattle.block.proofs.Blocks.{kept-refl, kept-trans}
 use Rattle.model.specs.Render.{Piece, ats, count, Shows, ShowsAll}
 use Rattle.model.specs.Geometry.{Geo, blockSize, mapAt, dataAt, mapBits, superBytes, usedCount, Sound}
 use Rattle.model.specs.Volume.{All}
@@ -21,7 +21,7 @@ use Rattle.model.proofs.Frame.{SameBlock, shows-frame}
 use Rattle.model.proofs.Full.{Whole}
 use Rattle.model.proofs.Entries.{next-shown}
 use Rattle.bitmap_block.specs.Bitmap.{mark, freed}
-use Rattle.bitmap_block.proofs.Steps.{Aside, aside-data, sound-kept, freed-kept, used-freed, top-freed, mark-freed, mark-freed-other}
+use Rattle.bitmap_block.proofs.Stores.{Aside, aside-data, sound-kept, freed-kept, used-freed, top-freed, mark-freed, mark-freed-other}
 use Rattle.thm_walk.proofs.Walks.{in-area}
 use Rattle.delete_store.specs.Delete.{released, chainFreed}
 
@@ -34,10 +34,10 @@ allReleased g I (a ∷ gone) = allReleased g (released g I a) gone
 abbrev pub Within : Geo → List ℕ → Type 0
 Within g gone = (i : ℕ) → 1 ≤ count i gone → (dataAt g ≤ i) × (i < g .n)
 
-pub within-head : (g : Geo) (a : ℕ) (gone : List ℕ) → Within g (a ∷ gone) → (dataAt g ≤ a) × (a < g .n)
+within-head : (g : Geo) (a : ℕ) (gone : List ℕ) → Within g (a ∷ gone) → (dataAt g ≤ a) × (a < g .n)
 within-head g a gone w = w a (omega (arith, count-same a a gone refl))
 
-pub within-tail : (g : Geo) (a : ℕ) (gone : List ℕ) → Within g (a ∷ gone) → Within g gone
+within-tail : (g : Geo) (a : ℕ) (gone : List ℕ) → Within g (a ∷ gone) → Within g gone
 within-tail g a gone w i h = w i (omega (arith, count-cons i a gone))
 
 module _ (g : Geo) (I : List ℕ) (s : Sound g (length I)) (a : ℕ) (h : (dataAt g ≤ a) × (a < g .n)) where
@@ -48,7 +48,7 @@ module _ (g : Geo) (I : List ℕ) (s : Sound g (length I)) (a : ℕ) (h : (dataA
   inside : dataAt g + (a - dataAt g) < g .n
   inside = omega arith
 
-  pub released-some : (usedCount g I ≡ 0 → ⊥) → released g I a ≡ freed g I (a - dataAt g)
+  released-some : (usedCount g I ≡ 0 → ⊥) → released g I a ≡ freed g I (a - dataAt g)
   unfolding released
   released-some n = pick-false _ _ (ne-eqb (usedCount g I) 0 n)
 
@@ -61,7 +61,7 @@ module _ (g : Geo) (I : List ℕ) (s : Sound g (length I)) (a : ℕ) (h : (dataA
       go (yes z) = subst (Kept (blockSize g) (Aside g) I) (sym (pick-true _ _ (eq-eqb (usedCount g I) 0 z))) (kept-refl I)
       go (no z) = subst (Kept (blockSize g) (Aside g) I) (sym (released-some z)) (freed-kept g I s (a - dataAt g) inside)
 
-  pub released-sound : Sound g (length (released g I a))
+  released-sound : Sound g (length (released g I a))
   released-sound = sound-kept g I s _ (released g I a) released-kept
 
   -- so a block of the data is gone it was

@@ -7,9 +7,9 @@ use native.Mathlib.Omega.{arith}
 use lib.ListN.{length, getD, take, drop, replicate, length-append, length-take, length-drop, length-replicate, List·getD-append}
 use lib.Seq.{getD-append-add}
 use Rattle.wire.specs.Be.{bytes, splice, zeros}
-use Rattle.wire.proofs.Laws.{length-bytes, getD-zeros, splice-append}
+use Rattle.wire.proofs.Numbers.{length-bytes, getD-zeros, splice-append}
 use Rattle.block.specs.Block.{next, Off, Kept}
-use Rattle.block.proofs.Laws.{kept-less, splice-kept, next-kept}
+use Rattle.block.proofs.Blocks.{kept-less, splice-kept, next-kept}
 use Rattle.model.specs.Render.{padded, Shows}
 use Rattle.model.proofs.Commit.{shows-both, shows-one, shows-two, shows-stored, shows-before}
 use Rattle.model.proofs.OneVolume.{shown-part}

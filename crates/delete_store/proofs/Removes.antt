@@ -26,20 +26,18 @@ use Rattle.model.proofs.Lists.{all-left, all-right}
 use Rattle.dir_entry.specs.declared.DirEntry.{DirEntry}
 use Rattle.dir_entry.specs.Shown.{headOf}
 use Rattle.read_dir.specs.declared.Place.{Place}
-use Rattle.read_dir.specs.declared.Summed.the-variants as summed
-use Rattle.read_dir.specs.Cursor.{Lies}
 use Rattle.thm_walk.specs.Shown.{spotOf}
-use Rattle.thm_walk.proofs.Parts.{Stored, Part, laid-part, part-find, stored-lookup, stored-few, blocks-in}
+use Rattle.thm_walk.proofs.Parts.{Stored, Part, laid-part, part-find, stored-lookup, stored-few}
 use Rattle.own_entry.specs.declared.Own.{Own}
 use Rattle.own_entry.specs.Own.{OwnOf, sumRenewed}
 use Rattle.own_entry.proofs.Renews.{Made, sub-blocks, sum-makes}
 use Rattle.delete_store.specs.Delete.{released, chainFreed, entryGone, removed}
 use Rattle.delete_store.proofs.Frees.{allReleased, chain-released, released-kept, released-block}
 use Rattle.delete_store.proofs.Sites.{Stays, Goes, delete-site}
-use Rattle.delete_store.proofs.Stay.{Without, stayed, stays-without, stays-is, stays-lies}
-use Rattle.delete_store.proofs.Unlinks.{unlinkedFrom, over-at, goes-without, goes-is, goes-lies}
+use Rattle.delete_store.proofs.BlockStays.{Without, stayed, stays-without, stays-is}
+use Rattle.delete_store.proofs.Unlinks.{unlinkedFrom, over-at, goes-without, goes-is}
 use Rattle.delete_store.proofs.Nodes.{node-chained}
-use Rattle.delete_store.proofs.Made.{made}
+use Rattle.delete_store.proofs.GivenBack.{made}
 
 -- ---- the directory without the entry begins where it did
 
@@ -174,7 +172,7 @@ module _ (g : Geo) (I : List ℕ) (d : ℕ) (t : Tree d) (v : Volume g I d t) (p
   -- ---- with the own entry
 
   module _ (now : ℕ) (own : Own) (o : OwnOf (blockSize g) d p t own) (small : now < 2 ^ 64) where
-    pub removes : TreeDeletes g d p n now t I (removed g I (blocksAt (s .1)) (headOf shows e) (spotOf n (s .1)) own now)
+    removes : TreeDeletes g d p n now t I (removed g I (blocksAt (s .1)) (headOf shows e) (spotOf n (s .1)) own now)
     unfolding removed deleted
     removes =
         let J : List ℕ = before .0 in
@@ -194,24 +192,3 @@ module _ (g : Geo) (I : List ℕ) (d : ℕ) (t : Tree d) (p : List Name) (n : Na
       → Bare (s .0) (entry .node) → e ≡ headOf (view (blockSize g) (s .0)) entry → place ≡ spotOf n (s .1) → now < 2 ^ 64 → TreeDeletes g d p n now t I (removed g I dir e place own now)
   removed-is dir now own v f a o l b h q small =
       subst (TreeDeletes g d p n now t I) (λ i. removed g I (a i) (sym h i) (sym q i) own now) (removes g I d t v p n s f entry l b now own o small)
-
-  -- The entry stands in a block of the data, and it ends there: what the code asks of its place.
-  pub removed-lies : Volume g I d t → find d p t ≡ some s → lookup n (s .1) ≡ some entry → e ≡ headOf (view (blockSize g) (s .0)) entry → place ≡ spotOf n (s .1)
-      → Lies (blockSize g) (dataAt g) (g .n) I e place
-  removed-lies v f l h q =
-      subst (λ (x : DirEntry). Lies (blockSize g) (dataAt g) (g .n) I x place) (sym h)
-      (subst (Lies (blockSize g) (dataAt g) (g .n) I (headOf (view (blockSize g) (s .0)) entry)) (sym q) (go (delete-site (blockSize g) n entry (s .1) l)))
-    where
-      whole-part : Part g I (s .0) (s .1)
-      whole-part = part-find g I d p t s (laid-part g I d t _ (v .laid)) f
-
-      go : Stays (blockSize g) n entry (s .1) ⊎ Goes (blockSize g) n entry (s .1) → Lies (blockSize g) (dataAt g) (g .n) I (headOf (view (blockSize g) (s .0)) entry) (spotOf n (s .1))
-      go (inl st) = stays-lies g I (s .0) (s .1) whole-part n entry st
-      go (inr st) = goes-lies g I (s .0) (s .1) whole-part n entry st
-
--- The directory begins in a block of the data: what the code asks of `dir`.
-pub dir-begins : (g : Geo) (I : List ℕ) (d : ℕ) (t : Tree d) (p : List Name) (s : Some) → Volume g I d t → find d p t ≡ some s → (dataAt g ≤ blocksAt (s .1)) × (blocksAt (s .1) < g .n)
-unfolding render
-dir-begins g I d t p s v f =
-    let q : Part g I (s .0) (s .1) = part-find g I d p t s (laid-part g I d t _ (v .laid)) f in
-    blocks-in g I (view (blockSize g) (s .0)) (s .1) (q .good .packed) (q .stored)

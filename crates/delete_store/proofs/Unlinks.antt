@@ -8,11 +8,11 @@ use lib.ListN.{length, length-append, length-replicate}
 use borrow.Author.Tests.{eq-eqb, ne-eqb, lt-leb}
 use Rattle.wire.specs.Be.{bytes, splice, zeros}
 use Rattle.wire.specs.Pick.{zeroFrom}
-use Rattle.wire.proofs.Laws.{length-bytes}
+use Rattle.wire.proofs.Numbers.{length-bytes}
 use Rattle.wire.proofs.Picks.{pick-true, pick-false}
 use Rattle.wire.proofs.Zeros.{zeros-pass}
 use Rattle.block.specs.Block.{cell, next, linked, Off, Kept}
-use Rattle.block.proofs.Laws.{kept-less, kept-trans, linked-kept}
+use Rattle.block.proofs.Blocks.{kept-less, kept-trans, linked-kept}
 use Rattle.model.specs.Tree.{Name, Entry, Block, Below, Tree, weight, used, delete}
 use Rattle.model.specs.Render.{Piece, View, blocksAt, padded, entryBytes, entriesBytes, nodePieces, entryPieces, dirPieces, view, render, ats, count, blocks, Shows, ShowsAll}
 use Rattle.model.specs.Geometry.{Geo, blockSize, dataAt, Sound}
@@ -32,13 +32,12 @@ use Rattle.model.proofs.Lists.{all-left, all-right, all-mid}
 use Rattle.dir_entry.specs.Entry.{header}
 use Rattle.dir_entry.specs.Shown.{headOf}
 use Rattle.dir_entry.proofs.Shown.{head-weight}
-use Rattle.read_dir.specs.Cursor.{Lies}
 use Rattle.thm_walk.specs.Shown.{spotOf}
 use Rattle.thm_walk.proofs.Parts.{Stored, Part, stored-few, block-data, chain-after, block-next, stored-right, next-small, stored-tail}
 use Rattle.delete_store.specs.Delete.{cutOut, released, beforeFrom, unlinked, lessBare, entryGone}
 use Rattle.delete_store.proofs.Moved.{cut-kept, cut-next, cut-shown}
 use Rattle.delete_store.proofs.Sites.{Goes}
-use Rattle.delete_store.proofs.Stay.{Without, dir-block, one-only}
+use Rattle.delete_store.proofs.BlockStays.{Without, dir-block, one-only}
 
 -- The block before is found by the next addresses alone.
 before-ext : (B n : ℕ) (I J : List ℕ) → ((a : ℕ) → next B J a ≡ next B I a) → (k a b : ℕ) → beforeFrom B n J k a b ≡ beforeFrom B n I k a b
@@ -373,9 +372,3 @@ module _ (g : Geo) (I : List ℕ) (d : ℕ) (s : Tree d) (part : Part g I d s) (
       ∙ pick-false _ _ (ne-eqb (st .at) (blocksAt s) not-first)
       ∙ pick-true _ _ (unfold bare in bare-zero)
       ∙ (λ i. released g (linked B J (p i) (z i)) (st .at))
-
-  -- Where the entry stands: in a block of the data, and it ends there.
-  pub goes-lies : Lies (blockSize g) (dataAt g) (g .n) I (headOf shown-as e) (spotOf n s)
-  goes-lies =
-      subst (Lies (blockSize g) (dataAt g) (g .n) I (headOf shown-as e)) (sym (st .spot))
-      (record { from = at-in .0; below = at-in .1; ends = omega (arith, room, head-weight shown-as 0 e) })

@@ -30,14 +30,14 @@ use Rattle.own_entry.specs.declared.Own.the-variants as own
 use Rattle.own_entry.specs.Own.{OwnIn}
 use Rattle.path.specs.Path.{slash, split}
 use Rattle.path.specs.Post.{between, PieceIs, FirstIs}
-use Rattle.path.proofs.Laws.{steps-is-root, steps-from}
+use Rattle.path.proofs.FullPaths.{steps-is-root, steps-from}
 use Rattle.dir.specs.Resolve.{onFound, resolve, openDir}
 use Rattle.dir.specs.Hold.{Hold, rootHold, onPlaced, holdAt, entered, holdFrom, holdDir}
 use Rattle.dir.specs.Post.{holdOf, holdsSays}
 use Rattle.dir.specs.declared.Holding.{Holding}
 use Rattle.dir.specs.declared.Holds.{Holds}
 use Rattle.dir.specs.declared.Holds.the-variants as holds
-use Rattle.dir.proofs.Laws.{name-some}
+use Rattle.dir.proofs.Answers.{name-some}
 
 -- ---- the directory that an entry stands for
 
@@ -106,7 +106,7 @@ module _ (B D n : ℕ) (I : List ℕ) where
       name [] ih = refl
       name (c ∷ y) ih = placed-in ih (findIn (c ∷ y) (walk B D n I (h .dir)))
 
-pub lt-of-ne : {a b : ℕ} → a ≤ b → (a ≡ b → ⊥) → a < b
+lt-of-ne : {a b : ℕ} → a ≤ b → (a ≡ b → ⊥) → a < b
 lt-of-ne h z = omega arith
 
 -- ---- one piece of the path: r is what entering it from the directory h gave, and the rest of the way is from there
@@ -195,7 +195,7 @@ module _ (D n : ℕ) (I d : List ℕ) (w : Holds) (q : holdsSays w ≡ holdDir 5
 -- ---- the own entry
 
 -- An entry that is found lies in the image.
-pub found-inside : (s : SuperBlock) (I x : List ℕ) (a : ℕ) (e : DirEntry) (p : Place) → Fit s I → findIn x (walk 512 (s .area .0) (s .blocks) I a) ≡ found.At e p → OwnIn I (own.At p)
+found-inside : (s : SuperBlock) (I x : List ℕ) (a : ℕ) (e : DirEntry) (p : Place) → Fit s I → findIn x (walk 512 (s .area .0) (s .blocks) I a) ≡ found.At e p → OwnIn I (own.At p)
 found-inside s I x a e p fit q =
     let i = found-item 512 (s .area .0) (s .blocks) I a x e p q in
     let t = slot-stands 512 I (p .block .0) (p .offset) e (i .stands) in

@@ -1,6 +1,5 @@
 -- The way along a path on any image: directory after directory, then the last name. Definitions alone.
 -- B is the block size, D the data area's first address and n the volume's blocks.
-use mathlib.Core.Bool.{Bool, true, false}
 use mathlib.Core.List.{List, [], _∷_}
 use Prim.Native.Nat.{ℕ}
 use Rattle.wire.specs.Pick.{pick}

@@ -9,10 +9,10 @@ use lib.ListN.{length, getD, drop, set, length-append, length-take, length-drop}
 use lib.Seq.{ext-getD, getD-take, getD-drop}
 use Rattle.wire.specs.Be.{be, bytes, splice}
 use Rattle.wire.specs.Pick.{pick}
-use Rattle.wire.proofs.Laws.{length-bytes, length-splice, splice-append, splice-before, splice-in, splice-after, set-splice}
+use Rattle.wire.proofs.Numbers.{length-bytes, length-splice, splice-append, splice-before, splice-in, splice-after, set-splice}
 use Rattle.model.specs.Render.{Shows}
 use Rattle.model.specs.Steps.{Bytes}
-use Rattle.model.proofs.Commit.{shows-both, shows-one, shows-two, shows-stored}
+use Rattle.model.proofs.Commit.{shows-both, shows-one, shows-two}
 use Rattle.model.proofs.Entries.{be-shown, bytes-shown}
 use Rattle.dir_entry.specs.declared.Kind.{Kind}
 use Rattle.dir_entry.specs.declared.Kind.the-variants.{Dir, File, Device}
@@ -29,12 +29,12 @@ kind-back Dir = refl
 kind-back File = refl
 kind-back Device = refl
 
-pub kind-small : (k : Kind) → kindByte k ≤ 2
+kind-small : (k : Kind) → kindByte k ≤ 2
 kind-small Dir = omega arith
 kind-small File = omega arith
 kind-small Device = omega arith
 
-pub byte-back : (b : ℕ) → b ≤ 2 → kindByte (kindAt b) ≡ b
+byte-back : (b : ℕ) → b ≤ 2 → kindByte (kindAt b) ≡ b
 unfolding kindAt pick
 byte-back zero h = refl
 byte-back (suc zero) h = refl
@@ -84,7 +84,7 @@ head-stored I J₁ J₂ J₃ J₄ at k e h q e₁ e₂ e₃ e₄ =
 -- ---- stored, then read
 
 -- The fixed part of which the image shows the bytes is the one that is read there.
-pub entry-shown : (I : List ℕ) (at : ℕ) (e : DirEntry) → e .addr .0 < 2 ^ 32 → e .size < 2 ^ 32 → e .time < 2 ^ 64 → Shows I at (headBytes e) → entryAt I at ≡ e
+entry-shown : (I : List ℕ) (at : ℕ) (e : DirEntry) → e .addr .0 < 2 ^ 32 → e .size < 2 ^ 32 → e .time < 2 ^ 64 → Shows I at (headBytes e) → entryAt I at ≡ e
 unfolding entryAt headBytes
 entry-shown I at e ha hs ht s =
     let K : List ℕ = kindByte (e .kind) ∷ [] in
@@ -113,12 +113,6 @@ entry-shown I at e ha hs ht s =
 head-first : (I : List ℕ) (at : ℕ) (e : DirEntry) → Shows I at (headBytes e) → getD I at 0 ≡ kindByte (e .kind)
 unfolding headBytes
 head-first I at e s = ap (λ (j : ℕ). getD I j 0) (sym (add-zero at)) ∙ s 0 (omega arith)
-
--- So a stored fixed part comes back.
-pub entry-stored : (I : List ℕ) (at : ℕ) (e : DirEntry) → e .addr .0 < 2 ^ 32 → e .size < 2 ^ 32 → e .time < 2 ^ 64 → at + 18 ≤ length I
-    → entryAt (splice I at (headBytes e)) at ≡ e
-entry-stored I at e ha hs ht h =
-    entry-shown (splice I at (headBytes e)) at e ha hs ht (shows-stored I at (headBytes e) (omega (arith, length-head e)))
 
 -- Where the image shows it at a place of block a with room for its name, it is the entry of that place.
 pub slot-shown : (B : ℕ) (I : List ℕ) (a o : ℕ) (e : DirEntry) → e .addr .0 < 2 ^ 32 → e .size < 2 ^ 32 → e .time < 2 ^ 64 → 1 ≤ e .len → o + 18 + e .len ≤ B - 5
@@ -161,7 +155,7 @@ head-shown I at b h =
     shows-both I at (K ++ (A ++ S)) (T ++ L) s₂ (move (at + 9) (at + length (K ++ (A ++ S))) (T ++ L) (omega arith) s₃)
 
 -- what is stored where it is shown changes nothing
-pub splice-shown : (I : List ℕ) (at : ℕ) (l : List ℕ) → at + length l ≤ length I → Shows I at l → splice I at l ≡ I
+splice-shown : (I : List ℕ) (at : ℕ) (l : List ℕ) → at + length l ≤ length I → Shows I at l → splice I at l ≡ I
 splice-shown I at l h s = ext-getD 0 (splice I at l) I (length-splice I at l h) (λ j _. go j (decLt j at) (decLt j (at + length l)))
   where
     go : (j : ℕ) → Dec (j < at) → Dec (j < at + length l) → getD (splice I at l) j 0 ≡ getD I j 0
@@ -171,7 +165,3 @@ splice-shown I at l h s = ext-getD 0 (splice I at l) I (length-splice I at l h) 
         let m : j - at < length l = omega arith in
         ap (λ (x : ℕ). getD (splice I at l) x 0) (sym e) ∙ splice-in I at l h (j - at) m ∙ sym (s (j - at) m) ∙ ap (λ (x : ℕ). getD I x 0) e
     go j (no p) (no q) = splice-after I at l h j (omega arith)
-
--- so storing it again changes nothing.
-pub stored-again : (I : List ℕ) (at : ℕ) → Bytes I → getD I at 0 ≤ 2 → at + 18 ≤ length I → splice I at (headBytes (entryAt I at)) ≡ I
-stored-again I at b k h = splice-shown I at (headBytes (entryAt I at)) (omega (arith, length-head (entryAt I at))) (head-shown I at b k)

@@ -7,7 +7,7 @@ use native.Mathlib.Decide.{decLt}
 use native.Mathlib.Omega.{arith}
 use lib.ListN.{length, getD}
 use Rattle.wire.specs.Be.{bytes}
-use Rattle.wire.proofs.Laws.{length-bytes}
+use Rattle.wire.proofs.Numbers.{length-bytes}
 use Rattle.model.specs.Tree.{Node, file, device, sub, Entry, weight, used}
 use Rattle.model.specs.Render.{View, padded, kindOf, addressOf, sizeOf, entryBytes, entriesBytes, Shows}
 use Rattle.model.specs.Volume.{GoodName}

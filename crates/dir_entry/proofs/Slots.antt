@@ -11,7 +11,7 @@ use lib.Seq.{ext-getD, getD-take, getD-drop}
 use borrow.Author.Tests.{ltb-false, leb-false, eqb-false, lt-ltb, le-ltb, le-leb, lt-leb, eq-eqb, ne-eqb}
 use Rattle.wire.specs.Be.{be}
 use Rattle.wire.specs.Pick.{pick}
-use Rattle.wire.proofs.Laws.{be-ext}
+use Rattle.wire.proofs.Numbers.{be-ext}
 use Rattle.wire.proofs.Picks.{pick-case}
 use Rattle.block.specs.Block.{cell, Kept}
 use Rattle.dir_entry.specs.declared.DirEntry.{DirEntry}
@@ -26,7 +26,7 @@ module _ (B : ℕ) (I : List ℕ) (a o : ℕ) where
   unfolding slotAt pick
   stop-offset h = rw (le-leb _ _ h)
 
-  pub stop-kind : o < B - 22 → 2 < getD I (placeAt B a o) 0 → slotAt B I a o ≡ Stop
+  stop-kind : o < B - 22 → 2 < getD I (placeAt B a o) 0 → slotAt B I a o ≡ Stop
   unfolding slotAt pick
   stop-kind h k = rw (lt-leb _ _ h, lt-ltb _ _ k)
 
@@ -34,7 +34,7 @@ module _ (B : ℕ) (I : List ℕ) (a o : ℕ) where
   unfolding slotAt pick
   stop-empty h k z = rw (lt-leb _ _ h, le-ltb _ _ k, eq-eqb _ _ z)
 
-  pub stop-long : o < B - 22 → getD I (placeAt B a o) 0 ≤ 2 → (getD I (placeAt B a o + 17) 0 ≡ 0 → ⊥) → B - 5 < o + 18 + getD I (placeAt B a o + 17) 0
+  stop-long : o < B - 22 → getD I (placeAt B a o) 0 ≤ 2 → (getD I (placeAt B a o + 17) 0 ≡ 0 → ⊥) → B - 5 < o + 18 + getD I (placeAt B a o + 17) 0
       → slotAt B I a o ≡ Stop
   unfolding slotAt pick
   stop-long h k z l = rw (lt-leb _ _ h, le-ltb _ _ k, ne-eqb _ _ z, lt-ltb _ _ l)
@@ -93,7 +93,7 @@ module _ (B : ℕ) (I : List ℕ) (a o : ℕ) where
 -- ---- two images with the same bytes, and so a store
 
 -- the 18 bytes at `at` decide the fixed part
-pub entry-ext : (I J : List ℕ) (at bt : ℕ) → ((i : ℕ) → i < 18 → getD J (bt + i) 0 ≡ getD I (at + i) 0) → entryAt J bt ≡ entryAt I at
+entry-ext : (I J : List ℕ) (at bt : ℕ) → ((i : ℕ) → i < 18 → getD J (bt + i) 0 ≡ getD I (at + i) 0) → entryAt J bt ≡ entryAt I at
 unfolding entryAt
 entry-ext I J at bt h =
     let part : (n k : ℕ) → k + n ≤ 18 → be n J (bt + k) ≡ be n I (at + k)
@@ -108,7 +108,7 @@ module _ (B : ℕ) (I J : List ℕ) (a o : ℕ) where
   same-slot e f g = rw (e, f, g)
 
   -- those at the place decide the slot; past the last place no byte does
-  pub slot-ext : (o < B - 22 → (i : ℕ) → i < 18 → getD J (placeAt B a o + i) 0 ≡ getD I (placeAt B a o + i) 0) → slotAt B J a o ≡ slotAt B I a o
+  slot-ext : (o < B - 22 → (i : ℕ) → i < 18 → getD J (placeAt B a o + i) 0 ≡ getD I (placeAt B a o + i) 0) → slotAt B J a o ≡ slotAt B I a o
   slot-ext h = go (decLt o (B - 22))
     where
       go : Dec (o < B - 22) → slotAt B J a o ≡ slotAt B I a o
@@ -116,7 +116,7 @@ module _ (B : ℕ) (I J : List ℕ) (a o : ℕ) where
       go (yes p) = same-slot (rw add-zero at (h p 0 (omega arith))) (h p 17 (omega arith)) (entry-ext I J (placeAt B a o) (placeAt B a o) (h p))
 
 -- the bytes of a name decide it
-pub name-ext : (I J : List ℕ) (at n : ℕ) → length J ≡ length I → ((i : ℕ) → i < n → getD J (at + 18 + i) 0 ≡ getD I (at + 18 + i) 0) → nameAt J at n ≡ nameAt I at n
+name-ext : (I J : List ℕ) (at n : ℕ) → length J ≡ length I → ((i : ℕ) → i < n → getD J (at + 18 + i) 0 ≡ getD I (at + 18 + i) 0) → nameAt J at n ≡ nameAt I at n
 name-ext I J at n l h =
     ext-getD 0 (nameAt J at n) (nameAt I at n) (simp (length-take, length-drop, l))
     (λ i q.
@@ -129,10 +129,6 @@ module _ (B : ℕ) (P : ℕ → ℕ → Type 0) (I J : List ℕ) (k : Kept B P I
   kept-place o i p h =
       let e : placeAt B a o + i ≡ B * a + (4 + o + i) = omega arith in
       rw e (k .at a (4 + o + i) p h)
-
-  -- The slot past a store that keeps the 18 bytes of its place, and so past one that keeps block a.
-  pub slot-kept-at : (o : ℕ) → ((p : ℕ) → 4 + o ≤ p → p < 4 + o + 18 → P a p) → slotAt B J a o ≡ slotAt B I a o
-  slot-kept-at o f = slot-ext B I J a o (λ l i q. kept-place o i (f (4 + o + i) (omega arith) (omega arith)) (omega arith))
 
   pub slot-kept : ((p : ℕ) → p < B → P a p) → (o : ℕ) → slotAt B J a o ≡ slotAt B I a o
   slot-kept f o = slot-ext B I J a o (λ l i q. kept-place o i (f (4 + o + i) (omega arith)) (omega arith))

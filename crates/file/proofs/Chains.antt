@@ -68,7 +68,7 @@ module _ (B D n : ℕ) (I : List ℕ) where
           let w = area-true B D n I a t in
           record { from = w .0; below = w .1; rest = xs; goes = q; is = some-same (sym e ∙ chain-in m a t ∙ then-some (λ zs. some (a ∷ zs)) q) }
 
-  pub chain-cons : (m a : ℕ) (xs : List ℕ) → D ≤ a → a < n → chain B D n I m (next B I a) ≡ some xs → chain B D n I (suc m) a ≡ some (a ∷ xs)
+  chain-cons : (m a : ℕ) (xs : List ℕ) → D ≤ a → a < n → chain B D n I m (next B I a) ≡ some xs → chain B D n I (suc m) a ≡ some (a ∷ xs)
   chain-cons m a xs h k e = chain-in m a (area-in B D n I a h k) ∙ then-some (λ zs. some (a ∷ zs)) e
 
   -- ---- what a chain that is there has
@@ -84,14 +84,6 @@ module _ (B D n : ℕ) (I : List ℕ) where
   chain-area (suc m) a xs e =
       let h = chain-head m a xs e in
       subst (All (λ (x : ℕ). (D ≤ x) × (x < n))) (sym (h .is)) ((h .from, h .below), chain-area m (next B I a) (h .rest) (h .goes))
-
-  -- A longer chain extends a shorter one.
-  pub chain-longer : (m k a : ℕ) (ys : List ℕ) → chain B D n I (m + k) a ≡ some ys → chain B D n I m a ≡ some (take m ys)
-  chain-longer zero k a ys e = chain-none a
-  chain-longer (suc m) k a ys e =
-      let h = chain-head (m + k) a ys (subst (λ (x : ℕ). chain B D n I x a ≡ some ys) (suc-add m k) e) in
-      let r : chain B D n I m (next B I a) ≡ some (take m (h .rest)) = chain-longer m k (next B I a) (h .rest) (h .goes) in
-      chain-cons m a (take m (h .rest)) (h .from) (h .below) r ∙ ap (λ (zs : List ℕ). some (take (suc m) zs)) (sym (h .is))
 
   -- ---- a read's chain, by its bound
 
@@ -178,10 +170,10 @@ module _ (B D n : ℕ) (I : List ℕ) where
 
   module _ (h : 4 ≤ B) (fits : B * n ≤ length I) where
     -- a block below n is in the image, and has its data bytes
-    pub block-fits : (a : ℕ) → a < n → B * a + B ≤ length I
+    block-fits : (a : ℕ) → a < n → B * a + B ≤ length I
     block-fits a k = omega (arith, mul-le-mul-left B k, mul-suc B a)
 
-    pub data-block : (a : ℕ) → a < n → length (take (B - 4) (drop (B * a + 4) I)) ≡ B - 4
+    data-block : (a : ℕ) → a < n → length (take (B - 4) (drop (B * a + 4) I)) ≡ B - 4
     data-block a k = let f = block-fits a k in simp (length-take, length-drop) (omega arith)
 
     pub data-length : (xs : List ℕ) → All (λ (x : ℕ). (D ≤ x) × (x < n)) xs → length (dataOf B D n I xs) ≡ (B - 4) * length xs

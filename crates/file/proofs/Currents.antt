@@ -46,7 +46,7 @@ module _ {X : Type 0} (v : View X) (h : Handle) where
   abbrev pub own : Entry X → Bool
   own e = current h (headOf v e) (e .name)
 
-  pub own-called : (e : Entry X) → own e ≡ true → called (nameOf h) e ≡ true
+  own-called : (e : Entry X) → own e ≡ true → called (nameOf h) e ≡ true
   unfolding current called
   own-called e c =
       let a = and-both (isFile (headOf v e .kind) && same (e .name) (nameOf h)) (eqb (headOf v e .addr .0) (h .addr .0) && eqb (headOf v e .size) (h .size)) c in

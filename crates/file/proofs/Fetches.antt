@@ -1,7 +1,6 @@
 -- The answer of a read, from what its steps gave.
 use mathlib.Core.Path.{_≡_, refl, sym, ap, _∙_, subst}
 use mathlib.Core.Bool.{false}
-use mathlib.Core.Option.{Option}
 use mathlib.Core.List.{List, [], _∷_}
 use Prim.Native.Nat.{ℕ, zero, suc, _+_, _%_, _≤_}
 use native.Mathlib.Omega.{arith}
@@ -16,20 +15,15 @@ use Rattle.limits.specs.declared.Refusal.{Refusal}
 use Rattle.model.proofs.Opens.{when-true, when-false, when-none, passed, first-of-head, first-of-tail, first-of-one, first-of-zero}
 use Rattle.limits.proofs.Numbers.{number-some}
 use Rattle.read_dir.specs.Walk.{walk}
-use Rattle.super_block.specs.declared.SuperBlock.{SuperBlock}
-use Rattle.super_block.specs.Super.{Fit}
-use Rattle.super_block.proofs.Fits.{placed}
 use Rattle.file.specs.declared.Handle.{Handle}
 use Rattle.file.specs.declared.Outcome.{Outcome}
 use Rattle.file.specs.declared.Outcome.the-variants as outcome
 use Rattle.file.specs.declared.ReadOut.{ReadOut}
 use Rattle.file.specs.declared.Walked.{Walked}
 use Rattle.file.specs.declared.Walked.the-variants as walked
-use Rattle.file.specs.File.{staleFields, moved, heldIn, toRead, chain, blocksRead, chainRead, missing, bytesOf, readRefusal, bytesRead}
+use Rattle.file.specs.File.{staleFields, moved, heldIn, toRead, blocksRead, chainRead, missing, bytesOf, readRefusal, bytesRead}
 use Rattle.file.specs.Post.{outcomeNumber, Gives, Keeps, CountedIs, ReadIs, handleRefusal, chainRefusal, FetchIs, partAt, Whole, Begins, BeginsIs}
-use Rattle.file.proofs.Chains.{missing-some, not-missing, chain-there}
-use Rattle.file.proofs.Pours.{part-length}
-use Rattle.file.proofs.Seeks.{fresh, moved-fresh}
+use Rattle.file.proofs.Seeks.{fresh}
 
 -- ---- the numbers of a read: k bytes
 
@@ -129,28 +123,10 @@ module _ (B D n : ℕ) (I : List ℕ) (h : Handle) (len : ℕ) (e : readRefusal 
     pub held : heldIn h (walk B D n I (h .dir .0)) ≡ 0
     pub chained : missing B D n I (chainRead B D n I (h .addr .0) (blocksRead B D n I (h .position) (toRead h len))) ≡ false
 
-  pub read-passed : Passed
+  read-passed : Passed
   unfolding readRefusal
   read-passed =
       let p = passed 11 (staleFields h) _ (omega arith) e in
       let q = first-of-zero (heldIn h (walk B D n I (h .dir .0))) _ (p .1) in
       let r = first-of-zero (when 17 (missing B D n I (chainRead B D n I (h .addr .0) (blocksRead B D n I (h .position) (toRead h len))))) [] (q .1) in
       record { fields = p .0; held = q .0; chained = when-none 17 _ (omega arith) (r .0) }
-
--- It gives as many bytes as it says, and the handle that it gives is not stale by its fields.
-pub read-length : (s : SuperBlock) (I : List ℕ) (h : Handle) (len : ℕ) → Fit s I → readRefusal 512 (s .area .0) (s .blocks) I h len ≡ 0
-    → length (bytesRead 512 (s .area .0) (s .blocks) I h len) ≡ toRead h len
-unfolding bytesRead
-read-length s I h len f e =
-    let D = s .area .0 in
-    let n = s .blocks in
-    let p = h .position in
-    let k = toRead h len in
-    let m = blocksRead 512 D n I p k in
-    let x = not-missing 512 D n I (chainRead 512 D n I (h .addr .0) m) (read-passed 512 D n I h len e .chained) in
-    let c = chain-there 512 D n I (h .addr .0) m (x .0) (x .1) in
-    ap (λ (o : Option (List ℕ)). length (bytesOf 512 D n I o p k)) (x .1 ∙ sym (c .1))
-    ∙ part-length D n I (placed f .inside) (h .addr .0) p k (missing-some 512 D n I (chain 512 D n I m (h .addr .0)) (x .0) (c .1))
-
-pub read-moves : (h : Handle) (len : ℕ) → staleFields h ≡ false → staleFields (moved h (h .position + toRead h len)) ≡ false
-read-moves h len e = let f = fresh h e in moved-fresh h (h .position + toRead h len) e (omega arith)

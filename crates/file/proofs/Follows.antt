@@ -60,13 +60,13 @@ module _ (D n : ℕ) (I : List ℕ) where
       ap (blocksRead 512 D n I p) e ∙ omega arith
 
   -- a walk that comes somewhere has a chain behind it
-  pub after-chain : (m b x : ℕ) → after 512 D n I m b ≡ some x → (xs : List ℕ) × (chain 512 D n I m b ≡ some xs)
+  after-chain : (m b x : ℕ) → after 512 D n I m b ≡ some x → (xs : List ℕ) × (chain 512 D n I m b ≡ some xs)
   after-chain m b x e =
       let s = after-split 512 D n I m b x e in
       (s .front ++ [], subst (λ (k : ℕ). chain 512 D n I k b ≡ some (s .front ++ [])) (add-zero m) (s .goes 0 [] (chain-none 512 D n I x)))
 
   -- a walk that does not has none
-  pub after-none-chain : (m b : ℕ) → after 512 D n I m b ≡ none → chain 512 D n I m b ≡ none
+  after-none-chain : (m b : ℕ) → after 512 D n I m b ≡ none → chain 512 D n I m b ≡ none
   after-none-chain m b e = subst (λ (k : ℕ). chain 512 D n I k b ≡ none) (add-zero m) (after-lost 512 D n I m b e 0)
 
 -- ---- where a read begins

@@ -1,5 +1,5 @@
 -- The frame: what keeps the blocks of a chain keeps the chain and its data bytes, and what keeps the data area keeps what a read gives.
-use mathlib.Core.Path.{_≡_, refl, sym, ap, _∙_, subst}
+use mathlib.Core.Path.{_≡_, refl, sym, ap, _∙_}
 use mathlib.Core.Bool.{true, false}
 use mathlib.Core.Logic.{_⊎_, inl, inr}
 use mathlib.Core.Option.{Option, none, some}
@@ -12,15 +12,13 @@ use lib.Seq.{ext-getD, getD-take, getD-drop}
 use Rattle.wire.specs.Pick.{pick}
 use Rattle.wire.proofs.Picks.{either}
 use Rattle.block.specs.Block.{next, cell, Kept}
-use Rattle.block.proofs.Laws.{next-kept}
+use Rattle.block.proofs.Blocks.{next-kept}
 use Rattle.model.specs.Tree.{then}
 use Rattle.model.specs.Volume.{All}
 use Rattle.read_dir.specs.Walk.{inArea}
 use Rattle.read_dir.proofs.Unroll.{area-true}
-use Rattle.read_dir.proofs.Frames.{walk-kept}
-use Rattle.file.specs.declared.Handle.{Handle}
-use Rattle.file.specs.File.{toRead, chain, blocksRead, chainRead, dataOf, missing, bytesOf, readRefusal, bytesRead}
-use Rattle.file.proofs.Chains.{chain-none, chain-out, chain-in, chain-head, chain-cons, chain-area, chain-there}
+use Rattle.file.specs.File.{chain, blocksRead, chainRead, dataOf, missing, bytesOf}
+use Rattle.file.proofs.Chains.{chain-none, chain-out, chain-in, chain-area, chain-there}
 
 module _ (B D n : ℕ) (P : ℕ → ℕ → Type 0) (I J : List ℕ) (k : Kept B P I J) (four : 4 ≤ B) where
   -- all of block b is kept
@@ -47,24 +45,15 @@ module _ (B D n : ℕ) (P : ℕ → ℕ → Type 0) (I J : List ℕ) (k : Kept B
 
   -- ---- by the blocks of the chain
 
-  pub data-kept : (xs : List ℕ) → All Same xs → dataOf B D n J xs ≡ dataOf B D n I xs
+  data-kept : (xs : List ℕ) → All Same xs → dataOf B D n J xs ≡ dataOf B D n I xs
   unfolding dataOf
   data-kept [] w = refl
   data-kept (a ∷ xs) w = rw (block-kept a (w .0), data-kept xs (w .1))
 
-  pub chain-kept : (m a : ℕ) (xs : List ℕ) → chain B D n I m a ≡ some xs → All Same xs → chain B D n J m a ≡ some xs
-  chain-kept zero a xs e w = chain-none B D n J a ∙ sym (chain-none B D n I a) ∙ e
-  chain-kept (suc m) a xs e w =
-      let c = chain-head B D n I m a xs e in
-      let v : All Same (a ∷ c .rest) = subst (All Same) (c .is) w in
-      let x : next B J a ≡ next B I a = next-kept B P I J k a four (λ p l. v .0 p (omega arith)) in
-      chain-cons B D n J m a (c .rest) (c .from) (c .below) (ap (chain B D n J m) x ∙ chain-kept m (next B I a) (c .rest) (c .goes) (v .1))
-      ∙ ap some (sym (c .is))
-
   -- ---- by the whole area
 
   module _ (f : (b o : ℕ) → D ≤ b → b < n → o < B → P b o) where
-    pub chain-kept-area : (m a : ℕ) → chain B D n J m a ≡ chain B D n I m a
+    chain-kept-area : (m a : ℕ) → chain B D n J m a ≡ chain B D n I m a
     chain-kept-area zero a = chain-none B D n J a ∙ sym (chain-none B D n I a)
     chain-kept-area (suc m) a = go (either (inArea B D n I a)) (chain-kept-area m)
       where
@@ -81,7 +70,7 @@ module _ (B D n : ℕ) (P : ℕ → ℕ → Type 0) (I J : List ℕ) (k : Kept B
     area-same [] w = tt
     area-same (a ∷ xs) w = (λ o l. f a o (w .0 .0) (w .0 .1) l, area-same xs (w .1))
 
-    pub data-kept-area : (m a : ℕ) (xs : List ℕ) → chain B D n I m a ≡ some xs → dataOf B D n J xs ≡ dataOf B D n I xs
+    data-kept-area : (m a : ℕ) (xs : List ℕ) → chain B D n I m a ≡ some xs → dataOf B D n J xs ≡ dataOf B D n I xs
     data-kept-area m a xs e = data-kept xs (area-same xs (chain-area B D n I m a xs e))
 
     blocks-same : (p j : ℕ) → blocksRead B D n J p j ≡ blocksRead B D n I p j
@@ -97,23 +86,6 @@ module _ (B D n : ℕ) (P : ℕ → ℕ → Type 0) (I J : List ℕ) (k : Kept B
     missing-same none = refl
     missing-same (some xs) = refl
 
-    -- What a read is refused by, and what it gives, are the same.
-    pub refusal-kept : (h : Handle) (len : ℕ) → readRefusal B D n J h len ≡ readRefusal B D n I h len
-    unfolding readRefusal
-    refusal-kept h len =
-        rw (
-          walk-kept B D n P I J k four f (h .dir .0),
-          blocks-same (h .position) (toRead h len),
-          read-same (h .addr .0) (blocksRead B D n I (h .position) (toRead h len)),
-          missing-same (chainRead B D n I (h .addr .0) (blocksRead B D n I (h .position) (toRead h len))),
-        )
-
     bytes-same : (m a p j : ℕ) (o : Option (List ℕ)) → chainRead B D n I a m ≡ o → bytesOf B D n J o p j ≡ bytesOf B D n I o p j
     bytes-same m a p j none e = refl
     bytes-same m a p j (some xs) e = ap (λ (l : List ℕ). take j (drop p l)) (data-kept-area m a xs (chain-there B D n I a m xs e .1))
-
-    pub bytes-kept : (h : Handle) (len : ℕ) → bytesRead B D n J h len ≡ bytesRead B D n I h len
-    unfolding bytesRead
-    bytes-kept h len =
-        rw (blocks-same (h .position) (toRead h len), read-same (h .addr .0) (blocksRead B D n I (h .position) (toRead h len)))
-        (bytes-same (blocksRead B D n I (h .position) (toRead h len)) (h .addr .0) (h .position) (toRead h len) (chainRead B D n I (h .addr .0) (blocksRead B D n I (h .position) (toRead h len))) refl)

@@ -9,7 +9,7 @@ use lib.Dec.{lit≤}
 use lib.ListN.{length, take, drop, length-take, length-drop}
 use lib.Seq.{take-take, take-add, drop-drop, drop-at, take-append-le, drop-append-le, take-append-add, length-take-le}
 use Rattle.wire.specs.Be.{splice}
-use Rattle.wire.proofs.Laws.{splice-append, splice-nil}
+use Rattle.wire.proofs.Numbers.{splice-append, splice-nil}
 use Rattle.block.specs.Block.{next}
 use Rattle.super_block.specs.declared.SuperBlock.{SuperBlock}
 use Rattle.super_block.specs.Super.{Fit}
@@ -73,7 +73,7 @@ module _ (D n : ℕ) (I : List ℕ) (a o k : ℕ) (w : Whole 512 D n I a o k) wh
 
 module _ (D n : ℕ) (I : List ℕ) (fits : 512 * n ≤ length I) where
   -- They are k bytes.
-  pub part-length : (a o k : ℕ) → Whole 512 D n I a o k → length (partAt 512 D n I a o k) ≡ k
+  part-length : (a o k : ℕ) → Whole 512 D n I a o k → length (partAt 512 D n I a o k) ≡ k
   part-length a o k w = go (decLt 0 k)
     where
       xs : List ℕ
@@ -106,7 +106,7 @@ module _ (D n : ℕ) (I : List ℕ) (fits : 512 * n ≤ length I) where
         chain-head 512 D n I ((o + (j - 1)) / 508) a (found D n I a o j w)
         (ap (λ (m : ℕ). chain 512 D n I m a) (sym blocks) ∙ found-is D n I a o j w)
 
-    pub turn-below : a < n
+    turn-below : a < n
     turn-below = head .below
 
     left-blocks : blocksRead 512 D n I 0 (j - r) ≡ (o + (j - 1)) / 508
@@ -121,13 +121,13 @@ module _ (D n : ℕ) (I : List ℕ) (fits : 512 * n ≤ length I) where
     rest-chain : chain 512 D n I (blocksRead 512 D n I 0 (j - r)) (next 512 I a) ≡ some (head .rest)
     rest-chain = ap (λ (m : ℕ). chain 512 D n I m (next 512 I a)) left-blocks ∙ head .goes
 
-    pub turn-whole : Whole 512 D n I (next 512 I a) 0 (j - r)
+    turn-whole : Whole 512 D n I (next 512 I a) 0 (j - r)
     turn-whole = missing-some 512 D n I _ (head .rest) rest-chain
 
-    pub turn-run : length (take r (drop (512 * a + 4 + o) I)) ≡ r
+    turn-run : length (take r (drop (512 * a + 4 + o) I)) ≡ r
     turn-run = simp (length-take, length-drop) (omega (arith, turn-below))
 
-    pub turn-bytes : partAt 512 D n I a o j ≡ take r (drop (512 * a + 4 + o) I) ++ partAt 512 D n I (next 512 I a) 0 (j - r)
+    turn-bytes : partAt 512 D n I a o j ≡ take r (drop (512 * a + 4 + o) I) ++ partAt 512 D n I (next 512 I a) 0 (j - r)
     unfolding dataOf
     turn-bytes =
         ap (λ (c : Option (List ℕ)). bytesOf 512 D n I c o j) (found-is D n I a o j w)
@@ -136,7 +136,7 @@ module _ (D n : ℕ) (I : List ℕ) (fits : 512 * n ≤ length I) where
         ∙ ap (λ (l : List ℕ). take r l ++ take (j - r) (dataOf 512 D n I (head .rest))) (drop-drop o (512 * a + 4) I)
         ∙ ap (λ (c : Option (List ℕ)). take r (drop (512 * a + 4 + o) I) ++ bytesOf 512 D n I c 0 (j - r)) (sym rest-chain)
 
-    pub turn-splice : (buf : List ℕ) (i : ℕ) → i + j ≤ length buf
+    turn-splice : (buf : List ℕ) (i : ℕ) → i + j ≤ length buf
         → splice (splice buf i (take r (drop (512 * a + 4 + o) I))) (i + r) (partAt 512 D n I (next 512 I a) 0 (j - r)) ≡ splice buf i (partAt 512 D n I a o j)
     turn-splice buf i h =
         let x : List ℕ = take r (drop (512 * a + 4 + o) I) in

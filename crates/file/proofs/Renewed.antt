@@ -28,13 +28,13 @@ use Rattle.write_store.proofs.Writes.{good-file}
 use Rattle.file.specs.declared.Handle.{Handle}
 use Rattle.file.specs.File.{nameOf, staleFields}
 use Rattle.file.specs.Writing.{Target, currentIn, targetOf, writtenImage, grownHandle}
-use Rattle.file.specs.OnTree.{FileIn, OnFile}
+use Rattle.file.specs.OnTree.{OnFile}
 use Rattle.file.proofs.Seeks.{fresh}
 use Rattle.file.proofs.Targets.{accepted-is, found-there, written-is}
 
 -- ---- its fields
 
-pub grown-fields : (h : Handle) (len : ℕ) → staleFields h ≡ false → h .position + len ≤ fileLimit → staleFields (grownHandle h len) ≡ false
+grown-fields : (h : Handle) (len : ℕ) → staleFields h ≡ false → h .position + len ≤ fileLimit → staleFields (grownHandle h len) ≡ false
 unfolding staleFields
 grown-fields h len f k =
     let r = fresh h f in
@@ -139,7 +139,7 @@ module _ (g : Geo) (I J : List ℕ) (t : Tree maxDepth) (v : Volume g I maxDepth
   from-after = first-kept (blockSize g) (w .size) (h .position) (freeBlocks g maxDepth t) buf (w .cells) (omega (arith, size-large g)) was-good (w .position) (w .room) ∙ from-is
 
   -- The handle is on the file of the new tree.
-  pub renewed-on : OnFile maxDepth (rewritten maxDepth p (nameOf h) now (h .position + length buf) (rewrite (blockSize g) (freeBlocks g maxDepth t) (h .position) buf (w .cells)) t) (grownHandle h (length buf))
+  renewed-on : OnFile maxDepth (rewritten maxDepth p (nameOf h) now (h .position + length buf) (rewrite (blockSize g) (freeBlocks g maxDepth t) (h .position) buf (w .cells)) t) (grownHandle h (length buf))
   renewed-on = record {
     path = p;
     there = record { dir = dir′; there = there-after; starts = starts-after };

@@ -161,25 +161,14 @@ module _ (h : Handle) (f : SeekFrom) (b : Bool) (e : b ≡ staleFields h) where
 
 -- ---- a handle that is moved within its file is as good as it was
 
-pub moved-fresh : (h : Handle) (p : ℕ) → staleFields h ≡ false → p ≤ h .size → staleFields (moved h p) ≡ false
-unfolding staleFields
-moved-fresh h p e l =
-    let f = fresh h e in
-    simp (le-ltb (h .size) p l, le-ltb fileLimit (h .size) (f .limit), ne-eqb (h .len) 0 (omega arith), le-ltb 255 (h .len) (f .few))
-
 -- what an accepted seek tells: the handle is not stale, and the target lies in the file
-pub seek-passed : (h : Handle) (f : SeekFrom) → seekRefusal h f ≡ 0 → (staleFields h ≡ false) × (within (h .size) (target h f) ≡ true)
+seek-passed : (h : Handle) (f : SeekFrom) → seekRefusal h f ≡ 0 → (staleFields h ≡ false) × (within (h .size) (target h f) ≡ true)
 unfolding seekRefusal
 seek-passed h f e =
     let p = passed 11 (staleFields h) _ (omega arith) e in
     let q = passed 12 (not (within (h .size) (target h f))) [] (omega arith) (p .1) in
     (p .0, not-false _ (q .0))
 
-pub within-size : (s : ℕ) (z : ℤ) → within s z ≡ true → placeIn z ≤ s
+within-size : (s : ℕ) (z : ℤ) → within s z ≡ true → placeIn z ≤ s
 within-size s (pos t) e = leb-true t s e
 within-size s (negsuc t) e = omega arith
-
-pub sought-fresh : (h : Handle) (f : SeekFrom) → seekRefusal h f ≡ 0 → staleFields (moved h (placeIn (target h f))) ≡ false
-sought-fresh h f e =
-    let p = seek-passed h f e in
-    moved-fresh h (placeIn (target h f)) (p .0) (within-size (h .size) (target h f) (p .1))

@@ -20,7 +20,7 @@ use Rattle.model.specs.Calls.{DirAt, pathTo, freeBlocks, fileEntry, TreeWrites}
 use Rattle.model.proofs.Full.{good-find}
 use Rattle.model.proofs.Lists.{not-some}
 use Rattle.model.proofs.Reached.{path-found, path-is}
-use Rattle.bitmap_block.proofs.Steps.{volume-clears}
+use Rattle.bitmap_block.proofs.Stores.{volume-clears}
 use Rattle.dir_entry.specs.declared.DirEntry.{DirEntry}
 use Rattle.dir_entry.specs.Shown.{headOf}
 use Rattle.read_dir.specs.declared.Place.{Place}
@@ -272,10 +272,3 @@ module _ (g : Geo) (I : List ℕ) (t : Tree maxDepth) (v : Volume g I maxDepth t
         (λ _ _ _ _ _ e. let z : 9 ≡ 10 = ap refusedBy e in absurd (omega arith)) (λ _ _ _ _ _ e. let z : 0 ≡ 10 = ap refusedBy e in absurd (omega arith)),
     λ n. long-target len (n .0) (n .1) (n .2) (n .3),
   )
-
-  -- and never 17.
-  pub never-damaged : (len : ℕ) → targetOf g I h len ≡ refused 17 → ⊥
-  never-damaged len =
-      target-cases len (λ r. r ≡ refused 17 → ⊥) (λ _ e. let z : 13 ≡ 17 = ap refusedBy e in omega arith) (λ _ _ e. let z : 11 ≡ 17 = ap refusedBy e in omega arith)
-      (λ _ _ _ _ e. let z : 10 ≡ 17 = ap refusedBy e in omega arith) (λ _ _ _ _ _ e. let z : 9 ≡ 17 = ap refusedBy e in omega arith)
-      (λ _ _ _ _ _ e. let z : 0 ≡ 17 = ap refusedBy e in omega arith)

@@ -4,7 +4,7 @@ use mathlib.Core.List.{List, [], _∷_}
 use Prim.Native.Nat.{ℕ, _-_, _≤_}
 use lib.ListN.{getD}
 use native.Mathlib.Omega.{arith}
-use Rattle.model.specs.Answers.{Reply, refused, reply, settle}
+use Rattle.model.specs.Answers.{refused, reply, settle}
 use Rattle.model.proofs.Replies.{reply-suc, settle-suc}
 use Rattle.limits.specs.Refusals.{refusalNumber}
 use Rattle.limits.specs.declared.Refusal.{Refusal}
@@ -28,26 +28,6 @@ number-some NotEmpty = omega arith
 number-some TooDeep = omega arith
 number-some ShortWork = omega arith
 number-some Damaged = omega arith
-
--- The last is 17: the number 18 is not used.
-pub number-few : (r : Refusal) → refusalNumber r ≤ 17
-number-few BadImage = omega arith
-number-few NotMfs = omega arith
-number-few BadCount = omega arith
-number-few BadPath = omega arith
-number-few NotFound = omega arith
-number-few WrongKind = omega arith
-number-few Exists = omega arith
-number-few BadName = omega arith
-number-few NoRoom = omega arith
-number-few TooLarge = omega arith
-number-few Stale = omega arith
-number-few BadSeek = omega arith
-number-few EmptyWrite = omega arith
-number-few NotEmpty = omega arith
-number-few TooDeep = omega arith
-number-few ShortWork = omega arith
-number-few Damaged = omega arith
 
 -- by the refusal
 pub reply-refused : {A : Type 0} {k : ℕ} (a : A) (r : Refusal) → k ≡ refusalNumber r → reply k a ≡ refused (refusalNumber r)

@@ -12,7 +12,7 @@ use lib.Seq.{ext-getD, getD-take, getD-drop}
 use borrow.Author.Tests.{le-leb, lt-leb}
 use Rattle.wire.specs.Be.{be, bytes}
 use Rattle.wire.specs.Pick.{pick}
-use Rattle.wire.proofs.Laws.{length-bytes}
+use Rattle.wire.proofs.Numbers.{length-bytes}
 use Rattle.wire.proofs.Picks.{either, pick-true, pick-false}
 use Rattle.model.specs.Render.{Shows}
 use Rattle.model.specs.Steps.{Bytes}
@@ -48,7 +48,7 @@ module _ (l : List ℕ) (at : ℕ) (e : DirEntry) (x : List ℕ) (p : Plain e x)
       let q : at + 13 ≡ at + length F + 0 = omega arith in
       ap (λ (j : ℕ). getD l j 0) q ∙ shows-two l at F (e .len ∷ x) s 0 (omega arith)
 
-  pub next-record : nextAt l at ≡ at + (14 + length x)
+  next-record : nextAt l at ≡ at + (14 + length x)
   next-record = omega (arith, len-shown, p .len)
 
   name-shown : take (e .len) (drop (at + 14) l) ≡ x
@@ -65,7 +65,7 @@ module _ (l : List ℕ) (at : ℕ) (e : DirEntry) (x : List ℕ) (p : Plain e x)
       let c : i < e .len = omega (arith, p .len) in
       getD-take (e .len) (drop (at + 14) l) i 0 c ∙ getD-drop (at + 14) l i 0 ∙ m i b)
 
-  pub line-record : lineAt l at ≡ lineOf (e .kind) (e .size) (e .time) x
+  line-record : lineAt l at ≡ lineOf (e .kind) (e .size) (e .time) x
   unfolding recordOf lineAt
   line-record =
       let K : List ℕ = kindByte (e .kind) ∷ [] in
@@ -83,7 +83,7 @@ module _ (l : List ℕ) (at : ℕ) (e : DirEntry) (x : List ℕ) (p : Plain e x)
       rw (ek, es, et, len-shown, name-shown)
 
 -- A list of bytes that ends with the records of a listing has the lines of its entries there.
-pub text-listed : (l : List ℕ) (at cap b : ℕ) (w : Walk) → Each (λ e a o x. Plain e x) w → at + length (recordsFrom cap b w) ≡ length l → Shows l at (recordsFrom cap b w)
+text-listed : (l : List ℕ) (at cap b : ℕ) (w : Walk) → Each (λ e a o x. Plain e x) w → at + length (recordsFrom cap b w) ≡ length l → Shows l at (recordsFrom cap b w)
     → textAt l at ≡ linesFrom cap b w
 unfolding recordsFrom linesFrom
 text-listed l at cap b (item e a o x w) p k s = go (either (ltb (b + (14 + e .len)) cap)) (text-listed l (nextAt l at) cap (b + (14 + e .len)) w (p .1)) k s
@@ -121,7 +121,7 @@ text-listed l at cap b finished p k s = text-end l at (lt-leb (nextAt l at) (len
 text-listed l at cap b damaged p k s = text-end l at (lt-leb (nextAt l at) (length l) (omega arith))
 
 -- The text of a listing's records is the lines of its entries.
-pub text-records : (cap b : ℕ) (w : Walk) → Each (λ e a o x. Plain e x) w → textOf (recordsFrom cap b w) ≡ linesFrom cap b w
+text-records : (cap b : ℕ) (w : Walk) → Each (λ e a o x. Plain e x) w → textOf (recordsFrom cap b w) ≡ linesFrom cap b w
 text-records cap b w p =
     let l : List ℕ = recordsFrom cap b w in
     let z : length l ≡ length l - 0 = omega arith in

@@ -9,7 +9,7 @@ use lib.Dec.{leb}
 use lib.ListN.{length, getD, take, drop, length-take, length-drop}
 use borrow.Author.Tests.{leb-true, leb-false, le-leb, lt-leb}
 use Rattle.wire.specs.Be.{be, splice}
-use Rattle.wire.proofs.Laws.{splice-nil}
+use Rattle.wire.proofs.Numbers.{splice-nil}
 use Rattle.wire.proofs.Picks.{either, pick-true, pick-false}
 use Rattle.dir_entry.specs.declared.Kind.{Kind}
 use Rattle.dir_entry.specs.Entry.{kindAt}

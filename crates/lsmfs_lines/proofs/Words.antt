@@ -6,7 +6,7 @@ use native.Mathlib.Omega.{arith}
 use lib.ListN.{length, take, drop, set, length-append}
 use lib.Seq.{take-length}
 use Rattle.wire.specs.Be.{splice}
-use Rattle.wire.proofs.Laws.{length-splice, splice-append, splice-comm, set-splice}
+use Rattle.wire.proofs.Numbers.{length-splice, splice-append, splice-comm, set-splice}
 use Rattle.dir_entry.specs.declared.Kind.{Kind}
 use Rattle.dir_entry.proofs.Heads.{splice-then}
 use Rattle.lsmfs_lines.specs.Line.{decimal, digits, space, newline, letter, ended, lineOf, refusedWord, refusedLine}
@@ -17,7 +17,7 @@ pub length-ended : (w : List ℕ) (b : ℕ) → length (ended w b) ≡ length w 
 unfolding ended
 length-ended w b = length-append w (b ∷ [])
 
-pub ended-stored : (o o₁ : List ℕ) (at : ℕ) (w : List ℕ) (b : ℕ) → at + length w < length o → o₁ ≡ splice o at w → set o₁ (at + length w) b ≡ splice o at (ended w b)
+ended-stored : (o o₁ : List ℕ) (at : ℕ) (w : List ℕ) (b : ℕ) → at + length w < length o → o₁ ≡ splice o at w → set o₁ (at + length w) b ≡ splice o at (ended w b)
 unfolding ended
 ended-stored o o₁ at w b h e =
     let l : length o₁ ≡ length o = ap length e ∙ length-splice o at w (omega arith) in

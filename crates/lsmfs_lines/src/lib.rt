@@ -2,7 +2,6 @@
 // A line is a few words, each with the byte that ends it; every word is stored where the one before it ended.
 use dir_entry::Kind;
 ghost use mathlib.Core.Path.{_≡_};
-ghost use mathlib.Core.List.{_++_};
 ghost use Prim.Native.Nat.{_+_, _*_, _≤_, _<_};
 ghost use lib.Dec.{leb};
 ghost use lib.ListN.{length, getD};

@@ -28,11 +28,11 @@ use Rattle.read_dir.specs.Finds.{skip, listFrom, recordOf, recordsFrom}
 use Rattle.read_dir.proofs.Records.{length-record, take-stored}
 use Rattle.read_dir.proofs.Items.{Each}
 use Rattle.path.specs.Path.{slash, startsSlash, realPath, steps}
-use Rattle.path.proofs.Laws.{root-good}
+use Rattle.path.proofs.FullPaths.{root-good}
 use Rattle.dir.specs.Resolve.{resolve, openDir}
-use Rattle.mfs.specs.declared.Listing.{Listing}
-use Rattle.mfs.specs.declared.Listing.the-variants as listing
-use Rattle.mfs.specs.Reading.{Counts, countsOf, size, area, end, pathCall, listOn, listReply, recordsAt, recordsOn, listSays, onReply, Lists}
+use Rattle.call_read.specs.declared.Listing.{Listing}
+use Rattle.call_read.specs.declared.Listing.the-variants as listing
+use Rattle.call_read.specs.Reading.{Counts, countsOf, size, area, end, pathCall, listOn, listReply, recordsAt, recordsOn, listSays, onReply, Lists}
 use Rattle.lsmfs_lines.specs.Text.{textOf}
 use Rattle.lsmfs_lines.proofs.Listed.{Plain, text-directory, directory-plain}
 use Rattle.lsmfs_pages.specs.Page.{rootFrom, pageText, textCounts, pageReply, Pages, PageFits, Turned}
@@ -52,7 +52,7 @@ first-alone zero = refl
 first-alone (suc k) = refl
 
 root-call : (K : ℕ) (I : List ℕ) → pathCall K I root root ≡ openRefusal K I
-unfolding pathCall when
+unfolding pathCall pick when
 root-call K I = ap (λ (b : Bool). firstOf (openRefusal K I ∷ (when 4 b ∷ []))) (root-good root) ∙ first-alone (openRefusal K I)
 
 -- ---- what a listing of it answers and gives
@@ -187,7 +187,7 @@ module _ (K : ℕ) (I : List ℕ) (i : ℕ) (rs rs₁ : List ℕ) (b : Bytes I) 
 -- ---- the arms of a match on it
 
 module _ (l : Listing) (rs : List ℕ) (n j : ℕ) (e : l ≡ listing.Records n j) where
-  pub bytes-within : PageFits (length rs) l → n ≤ length rs
+  bytes-within : PageFits (length rs) l → n ≤ length rs
   bytes-within w = subst (PageFits (length rs)) e w
 
   pub bytes-taken : PageFits (length rs) l → n ≡ length (take n rs)

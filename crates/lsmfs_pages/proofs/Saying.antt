@@ -15,12 +15,12 @@ use Rattle.limits.specs.declared.Refusal.the-variants.{BadImage}
 use Rattle.read_dir.specs.declared.Listed.{Listed}
 use Rattle.read_dir.specs.declared.Listed.the-variants as listed
 use Rattle.read_dir.specs.Finds.{listFrom}
-use Rattle.mfs.specs.declared.Answer.{Answer}
-use Rattle.mfs.specs.declared.Answer.the-variants as answer
-use Rattle.mfs.specs.declared.Listing.{Listing}
-use Rattle.mfs.specs.declared.Listing.the-variants as listing
-use Rattle.mfs.specs.Checking.{Decides, Checks}
-use Rattle.mfs.specs.Reading.{Counts, onReply}
+use Rattle.call_volume.specs.declared.Answer.{Answer}
+use Rattle.call_volume.specs.declared.Answer.the-variants as answer
+use Rattle.call_read.specs.declared.Listing.{Listing}
+use Rattle.call_read.specs.declared.Listing.the-variants as listing
+use Rattle.call_volume.specs.Checking.{Decides, Checks}
+use Rattle.call_read.specs.Reading.{Counts, onReply}
 use Rattle.lsmfs_lines.specs.Line.{refusedLine}
 use Rattle.lsmfs_pages.specs.declared.Said.{Said}
 use Rattle.lsmfs_pages.specs.Page.{rootFrom, pageText, textCounts, pageReply, Pages}

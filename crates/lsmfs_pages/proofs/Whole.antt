@@ -3,29 +3,23 @@ use mathlib.Core.Path.{_≡_, refl, sym, ap, _∙_}
 use mathlib.Core.Bool.{true, false}
 use mathlib.Core.Logic.{_⊎_, inl, inr}
 use mathlib.Core.List.{List, [], _++_, append-assoc}
-use Prim.Native.Nat.{ℕ, zero, suc, _+_, _-_, _*_, _≤_, _<_}
+use Prim.Native.Nat.{ℕ, zero, suc, _+_, _-_, _≤_, _<_}
 use native.Mathlib.Nat.{zero-add, suc-add}
 use native.Mathlib.Omega.{arith}
 use lib.Dec.{ltb}
-use lib.ListN.{length}
 use borrow.Author.Tests.{lt-ltb}
 use Rattle.wire.specs.Pick.{pick}
 use Rattle.wire.proofs.Picks.{either, pick-true, pick-false}
-use Rattle.model.specs.Geometry.{geoAt, openRefusal}
-use Rattle.model.specs.Steps.{Bytes}
-use Rattle.super_block.specs.Super.{superBlock}
-use Rattle.super_block.proofs.Fits.{opened-fit, placed}
 use Rattle.dir_entry.specs.declared.DirEntry.{DirEntry}
 use Rattle.read_dir.specs.declared.Listed.the-variants as listed
-use Rattle.read_dir.specs.Walk.{Walk, item, finished, damaged, walk}
-use Rattle.mfs.specs.Reading.{size, area, end}
+use Rattle.read_dir.specs.Walk.{Walk, item, finished, damaged}
 use Rattle.read_dir.specs.Finds.{skip, listFrom}
 use Rattle.read_dir.proofs.Records.{skip-item, skip-none, skip-finished, skip-damaged}
 use Rattle.read_dir.proofs.Items.{Each}
 use Rattle.lsmfs_lines.specs.Line.{lineOf}
 use Rattle.lsmfs_lines.specs.Text.{linesFrom}
-use Rattle.lsmfs_lines.proofs.Listed.{Plain, directory-plain}
-use Rattle.lsmfs_pages.specs.Page.{allLines, rootFrom, pageText}
+use Rattle.lsmfs_lines.proofs.Listed.{Plain}
+use Rattle.lsmfs_pages.specs.Page.{allLines}
 
 -- the entries from number i on, and then from k further on
 skip-add : (i k : ℕ) (w : Walk) → skip (i + k) w ≡ skip k (skip i w)
@@ -81,20 +75,3 @@ none-left cap i (item e a o x w) c j h p q n =
     absurd (omega (arith, rest-of cap (0 + (14 + e .len)) (i + 1) w c j (sym (pick-true (listFrom cap (0 + (14 + e .len)) (i + 1) w) (listed.Records 0 i) t) ∙ q) .0))
 none-left cap i finished c j h p q n = refl
 none-left cap i damaged c j h p q n = refl
-
--- So of the root: a page from number i on that ends at j, and the lines from j on, are the lines from i on;
-pub page-rest : (K : ℕ) (I : List ℕ) (i cap c j : ℕ) → listFrom cap 0 i (rootFrom K I i) ≡ listed.Records c j
-    → (i ≤ j) × (allLines (rootFrom K I i) ≡ pageText K I i cap ++ allLines (rootFrom K I j))
-unfolding pageText
-page-rest K I i cap c j q =
-    let r = rest-of cap 0 i (rootFrom K I i) c j q in
-    let d : i + (j - i) ≡ j = omega (arith, r .0) in
-    let s : skip (j - i) (rootFrom K I i) ≡ rootFrom K I j = sym (skip-add i (j - i) (walk (size K I) (area K I) (end K I) I (area K I))) ∙ ap (λ (k : ℕ). rootFrom K I k) d in
-    (r .0, r .1 ∙ ap (λ (y : Walk). linesFrom cap 0 (rootFrom K I i) ++ allLines y) s)
-
--- and where it ends at its own number, there are none from i on.
-pub page-last : (K : ℕ) (I : List ℕ) (i cap c j : ℕ) → Bytes I → openRefusal K I ≡ 0 → 269 < cap → listFrom cap 0 i (rootFrom K I i) ≡ listed.Records c j → j ≤ i
-    → allLines (rootFrom K I i) ≡ []
-page-last K I i cap c j b z h q n =
-    let inside : 512 * end K I ≤ length I = placed (opened-fit K I (superBlock (geoAt K I)) z refl) .inside in
-    none-left cap i (rootFrom K I i) c j h (directory-plain (area K I) (end K I) I (area K I) i b inside) q n

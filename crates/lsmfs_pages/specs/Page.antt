@@ -10,9 +10,9 @@ use Rattle.read_dir.specs.declared.Listed.{Listed}
 use Rattle.read_dir.specs.declared.Listed.the-variants as listed
 use Rattle.read_dir.specs.Walk.{Walk, item, finished, damaged, walk}
 use Rattle.read_dir.specs.Finds.{skip, listFrom}
-use Rattle.mfs.specs.declared.Listing.{Listing}
-use Rattle.mfs.specs.Reading.{Counts, size, area, end, listSays, onReply}
-use Rattle.mfs.specs.declared.Listing.the-variants as listing
+use Rattle.call_read.specs.declared.Listing.{Listing}
+use Rattle.call_read.specs.Reading.{Counts, size, area, end, listSays, onReply}
+use Rattle.call_read.specs.declared.Listing.the-variants as listing
 use Rattle.lsmfs_lines.specs.Line.{lineOf}
 use Rattle.lsmfs_lines.specs.Text.{textOf, linesFrom}
 

@@ -8,10 +8,10 @@ use Rattle.wire.specs.Be.{splice}
 use Rattle.model.specs.Answers.{Reply, accepted, refused, firstOf}
 use Rattle.model.specs.Volume.{WellFormed}
 use Rattle.limits.specs.Refusals.{refusalNumber}
-use Rattle.mfs.specs.declared.Listing.{Listing}
-use Rattle.mfs.specs.declared.Listing.the-variants as listing
-use Rattle.mfs.specs.Checking.{checkCall}
-use Rattle.mfs.specs.Reading.{Counts}
+use Rattle.call_read.specs.declared.Listing.{Listing}
+use Rattle.call_read.specs.declared.Listing.the-variants as listing
+use Rattle.call_volume.specs.Checking.{checkCall}
+use Rattle.call_read.specs.Reading.{Counts}
 use Rattle.lsmfs_lines.specs.Line.{refusedLine}
 use Rattle.lsmfs_pages.specs.declared.Said.{Said}
 use Rattle.lsmfs_pages.specs.Page.{pageText, pageReply}

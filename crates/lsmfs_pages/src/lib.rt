@@ -1,8 +1,8 @@
 // What the listing program writes, made in a lent buffer: a page of the root's lines at a time, or why an image is refused. The
 // program itself reads the image and writes these bytes, which no contract can say.
+use call_read::Listing;
+use call_volume::Answer;
 use limits::Refusal;
-use mfs::Answer;
-use mfs::Listing;
 ghost use Prim.Native.Nat.{_*_, _≤_};
 ghost use lib.ListN.{length};
 ghost use Rattle.limits.specs.Refusals.{refusalNumber};

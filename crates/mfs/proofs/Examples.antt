@@ -7,7 +7,7 @@ use native.Mathlib.Omega.{arith}
 use lib.ListN.{length, length-replicate, take, drop}
 use Rattle.wire.specs.Be.{zeros, be, bytes}
 use Rattle.wire.specs.Pick.{pick, same}
-use Rattle.wire.proofs.Laws.{length-splice, splice-in}
+use Rattle.wire.proofs.Numbers.{length-splice, splice-in}
 use Rattle.wire.proofs.Picks.{same-refl}
 use Rattle.bits.specs.Bit.{digit, withDigit, withBit}
 use Rattle.block.specs.Block.{blockBytes, next}
@@ -29,7 +29,7 @@ use Rattle.path.specs.Path.{dirPart, lastName, trimmed, untrailed, beforeName, 
 use Rattle.path.specs.Path.{realPath, badPath, pathBytes, startsSlash, endsSlash}
 use Rattle.dir.specs.Resolve.{resolve, entryOf}
 use Rattle.file.specs.File.{seekRefusal, staleFields, target}
-use Rattle.mfs.specs.Reading.{pathCall, openOn, openEntry, openReply, listOn, listReply}
+use Rattle.call_read.specs.Reading.{pathCall, openOn, openEntry, openReply, listOn, listReply}
 use Rattle.mfs.specs.Examples.{imageOf, volumeA, pathA, pathB, refusalIn, markedExamples, AsSaid}
 
 -- ---- opening an image of n blocks whose superblock says n

@@ -1,9 +1,2 @@
-pub mod Laws
-pub mod Formatted
-pub mod Opening
-pub mod Paths
-pub mod Handles
 pub mod Outcomes
 pub mod Examples
-pub mod Checked
-pub mod Changes

@@ -3,7 +3,7 @@ use mathlib.Core.Path.{_≡_, refl, sym, ap, _∙_}
 use mathlib.Core.List.{List}
 use Prim.Native.Nat.{ℕ, _+_}
 use native.Mathlib.Omega.{arith}
-use Rattle.model.specs.Answers.{Reply, refused}
+use Rattle.model.specs.Answers.{Reply}
 use Rattle.limits.specs.Refusals.{refusalNumber}
 use Rattle.model.proofs.Replies.{accepted-one}
 use Rattle.limits.proofs.Numbers.{number-one, number-some}
@@ -19,18 +19,18 @@ use Rattle.file.specs.declared.WriteOut.{WriteOut}
 use Rattle.file.specs.File.{moved}
 use Rattle.file.specs.Post.{MovedIs, SoughtIs, CountedIs}
 use Rattle.file.specs.Written.{countedSays}
-use Rattle.mfs.specs.declared.Answer.{Answer}
-use Rattle.mfs.specs.declared.Answer.the-variants as answer
-use Rattle.mfs.specs.declared.Space.{Space}
-use Rattle.mfs.specs.declared.Space.the-variants as space
-use Rattle.mfs.specs.declared.OpenOut.{OpenOut}
-use Rattle.mfs.specs.declared.InfoOut.{InfoOut}
-use Rattle.mfs.specs.declared.Listing.{Listing}
-use Rattle.mfs.specs.declared.Listing.the-variants as listing
-use Rattle.mfs.specs.Says.{says, onAnswer, IfRefused, Sizes, spaceSays}
-use Rattle.mfs.specs.Format.{Formats, Uses}
-use Rattle.mfs.specs.Reading.{noHandle, noAbout, aboutOf, OpenIs, Opens, Informs, Counts, listSays, Lists, Reads}
-use Rattle.mfs.specs.Changing.{CreatesFile, CreatesDir, Deletes, Writes}
+use Rattle.call_volume.specs.declared.Answer.{Answer}
+use Rattle.call_volume.specs.declared.Answer.the-variants as answer
+use Rattle.call_volume.specs.declared.Space.{Space}
+use Rattle.call_volume.specs.declared.Space.the-variants as space
+use Rattle.call_read.specs.declared.OpenOut.{OpenOut}
+use Rattle.call_read.specs.declared.InfoOut.{InfoOut}
+use Rattle.call_read.specs.declared.Listing.{Listing}
+use Rattle.call_read.specs.declared.Listing.the-variants as listing
+use Rattle.call_volume.specs.Says.{says, onAnswer, IfRefused, Sizes, spaceSays}
+use Rattle.call_volume.specs.Format.{Formats, Uses}
+use Rattle.call_read.specs.Reading.{noHandle, noAbout, aboutOf, OpenIs, Opens, Informs, Counts, listSays, Lists, Reads}
+use Rattle.call_change.specs.Changing.{CreatesFile, CreatesDir, Deletes, Writes}
 
 -- an answer with a value beside it, which is fixed where the answer is a refusal
 answer-one : {A : Type 0} (z : A) (a b : Answer) (x y : A) → onAnswer a x ≡ onAnswer b y → IfRefused a (x ≡ z) → IfRefused b (y ≡ z) → (a ≡ b) × (x ≡ y)

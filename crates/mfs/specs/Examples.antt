@@ -21,7 +21,7 @@ use Rattle.file.specs.declared.Handle.{Handle}
 use Rattle.file.specs.declared.SeekFrom.{SeekFrom}
 use Rattle.file.specs.declared.SeekFrom.the-variants.{Start, Current}
 use Rattle.file.specs.File.{target, placeIn, seekRefusal}
-use Rattle.mfs.specs.Reading.{openReply, listReply}
+use Rattle.call_read.specs.Reading.{openReply, listReply}
 
 pub record Example : Type 0 where
   pub number : ℕ

@@ -1,141 +1,34 @@
-// The public calls on an MFS volume. An image is a slice that is lent for the call, and k the block of its superblock.
-// No call requires anything: every image gets the one answer of the rules (docs/RULES.md), and a refusal changes nothing.
-use block::Addr;
-use block::Index;
-use create::Created;
-use delete::Deleted;
-use dir::Located;
-use dir_entry::DirEntry;
-use dir_entry::Kind;
-use file::Counted;
+// The public calls on an MFS volume. An image is a lent slice of 512-byte blocks, and k the block of its superblock.
+// No call requires anything: every image gets the one answer that the rules give it, and a refusal changes nothing.
+// Each call is one of call_volume, call_read or call_change under the name that callers know, with the same contract.
+use call_read::InfoOut;
+use call_read::Listing;
+use call_read::OpenOut;
+use call_volume::Answer;
+use call_volume::Space;
 use file::Handle;
 use file::ReadOut;
 use file::SeekFrom;
 use file::Sought;
 use file::WriteOut;
-use limits::Refusal;
-use path::Real;
-use read_dir::Listed;
-use read_dir::Summed;
-use super_block::Opened;
-use super_block::SuperBlock;
-ghost use mathlib.Core.Path.{_≡_};
-ghost use Prim.Native.Nat.{_+_, _-_, _≤_};
-ghost use lib.ListN.{length, take, drop};
-ghost use Rattle.block.specs.Block.{blockBytes};
-ghost use Rattle.model.specs.Render.{padded};
-ghost use Rattle.super_block.specs.Super.{geoOf, Fit, OpenedIs};
-ghost use Rattle.super_block.specs.declared.Opened.the-variants as opened;
-ghost use Rattle.model.specs.Answers.{reply, accepted, refused, andThen, settle, given};
-ghost use Rattle.limits.specs.Refusals.{refusalNumber};
-ghost use Rattle.path.specs.Path.{pathLimit, realPath, pathRefusal, lastName};
-ghost use Rattle.dir_entry.specs.declared.Kind.the-variants as kind;
-ghost use Rattle.dir.specs.Resolve.{entryOf, held};
-ghost use Rattle.mfs.specs.Says.{says, spaceSays};
-ghost use Rattle.read_dir.specs.Walk.{walk};
-ghost use Rattle.read_dir.specs.Finds.{sumFrom, skip, listFrom, recordsFrom};
-ghost use Rattle.mfs.specs.Reading.{handleFor, openEntry, openOn, OpenIs, Opens, about, aboutRoot, aboutEntry, infoOn, InfoIs, Informs, countsOf, listOn, recordsOn, ListIs, Lists, Reads};
+ghost use Rattle.call_read.specs.Reading.{Opens, Informs, Lists, Reads};
 ghost use Rattle.file.specs.Post.{SoughtIs};
-ghost use Rattle.delete.specs.Deleting.{deletedOn, deletedImage};
-ghost use Rattle.create.specs.Creating.{createdOn, createdImage};
-ghost use Rattle.mfs.specs.Changing.{Ready, freshHandle, CreatesFile, plainly, CreatesDir, Deletes, Writes};
-ghost use Rattle.mfs.specs.Checking.{Checks, Checked};
-ghost use Rattle.mfs.specs.Format.{formatted, Formats, Uses, overused, sizesOf};
-
-// The longest file.
-const FILE_LIMIT: u32 = limits::FILE_LIMIT;
-
-// The answer of a call that gives nothing back.
-pub enum Answer {
-    Success,
-    Refused(Refusal),
-}
-
-// Bytes of the volume, bytes of its used blocks, and the rest; wide enough for 4 GiB.
-pub enum Space {
-    Bytes { size: u64, used: u64, free: u64 },
-    Refused(Refusal),
-}
-
-// The stores of a format.
-fn lay(img: &mut [u8], s: SuperBlock)
-    requires { ⌜ Fit s (now img) ⌝ }
-    ensures { λ _. ⌜ now (img .exit) ≡ formatted (geoOf s) (now (img .entry)) ⌝ }
-{
-    let a = s.bitmap;
-    let d = s.area;
-    s.write(img, d.0);
-    block::clear(img, a, d.0 - a.0);
-    bitmap_block::take(img, s, Index(0));
-}
+ghost use Rattle.call_change.specs.Changing.{CreatesFile, CreatesDir, Deletes, Writes};
+ghost use Rattle.call_volume.specs.Checking.{Checks};
+ghost use Rattle.call_volume.specs.Format.{Formats, Uses};
 
 // Makes the whole image a volume with an empty root directory. Refusals: 1, 3.
 pub fn format(img: &mut [u8], k: u32) -> Answer
     ensures { λ r. ⌜ Formats k (now (img .entry)) r (now (img .exit)) ⌝ }
 {
-    let len = img.len();
-    let opened = SuperBlock::for_image(len, k);
-    match opened {
-        Opened::Refused(r) => Answer::Refused(r),
-        Opened::At(s) => {
-            lay(img, s);
-            Answer::Success
-        }
-    }
-}
-
-// The sizes of an opened volume, or 17 for a used count above the volume's blocks.
-fn sizes_of(s: SuperBlock, used: u32) -> Space
-    ensures { λ r. ⌜ spaceSays r ≡ reply (overused (geoOf s) used) (sizesOf (geoOf s) used) ⌝ }
-{
-    let n = s.blocks;
-    if n < used {
-        return Space::Refused(Refusal::Damaged);
-    }
-    let size = (n as u64) * (block::BLOCK_SIZE as u64);
-    let taken = (used as u64) * (block::BLOCK_SIZE as u64);
-    Space::Bytes {
-        size,
-        used: taken,
-        free: size - taken,
-    }
+    call_volume::format(img, k)
 }
 
 // How much of the volume is used. Refusals: 1, 2, 3, 17.
 pub fn usage(img: &[u8], k: u32) -> Space
     ensures { λ r. ⌜ Uses k (now (img .entry)) r ⌝ }
 {
-    let opened = SuperBlock::read(img, k);
-    match opened {
-        Opened::Refused(r) => Space::Refused(r),
-        Opened::At(s) => sizes_of(s, s.alloc_count(img)),
-    }
-}
-
-// The whole check of an opened volume, and its work buffer's length before that.
-fn check_opened(img: &[u8], k: u32, s: SuperBlock, work: &mut [u8]) -> Opened
-    requires { ⌜ OpenedIs k (now img) (opened.At s) ⌝ }
-    ensures { λ r. ⌜ Checked k (now (img .entry)) (now (work .entry)) r (now (work .exit)) ⌝ }
-{
-    if work.len() < check_bitmap::mark_bytes(s) {
-        return Opened::Refused(Refusal::ShortWork);
-    }
-    if check_volume::check(img, work, s) {
-        Opened::At(s)
-    } else {
-        Opened::Refused(Refusal::Damaged)
-    }
-}
-
-// Opens a volume and checks it whole: what a changing call does first.
-fn open_checked(img: &[u8], k: u32, work: &mut [u8]) -> Opened
-    ensures { λ r. ⌜ Checked k (now (img .entry)) (now (work .entry)) r (now (work .exit)) ⌝ }
-{
-    let opened = SuperBlock::read(img, k);
-    match opened {
-        Opened::Refused(r) => Opened::Refused(r),
-        Opened::At(s) => check_opened(img, k, s, work),
-    }
+    call_volume::usage(img, k)
 }
 
 // Whether the image is a well-formed volume, W1 to W5. One bit a block is marked in the work buffer, and is zero again afterwards.
@@ -143,350 +36,42 @@ fn open_checked(img: &[u8], k: u32, work: &mut [u8]) -> Opened
 pub fn check(img: &[u8], k: u32, work: &mut [u8]) -> Answer
     ensures { λ r. ⌜ Checks k (now (img .entry)) (now (work .entry)) r (now (work .exit)) ⌝ }
 {
-    let checked = open_checked(img, k, work);
-    match checked {
-        Opened::Refused(r) => Answer::Refused(r),
-        Opened::At(_) => Answer::Success,
-    }
-}
-
-// An opened file: the handle stands at position 0. A refused open gives an empty handle.
-pub struct OpenOut {
-    pub answer: Answer,
-    pub handle: Handle,
-}
-
-// What is known of an entry; the name stands in the first len bytes. All is empty where the answer is a refusal.
-pub struct InfoOut {
-    pub answer: Answer,
-    pub kind: Kind,
-    pub size: u32,
-    pub time: u64,
-    pub name: [u8; 255],
-    pub len: usize,
-}
-
-// The bytes of the records in the buffer, and the number of the entry after them.
-pub enum Listing {
-    Records(usize, u32),
-    Refused(Refusal),
-}
-
-// full[from..to], of at most 255 bytes, in an array of its own.
-fn name_array(full: &[u8], from: usize, to: usize) -> [u8; 255]
-    requires { ⌜ from ≤ to ⌝ }
-    requires { ⌜ to ≤ length (now full) ⌝ }
-    requires { ⌜ to ≤ from + 255 ⌝ }
-    ensures { λ r. ⌜ r ≡ padded 255 (take (to - from) (drop from (now (full .entry)))) ⌝ }
-{
-    let mut name = [0u8; 255];
-    wire::copy(&mut name, 0, full, from, to - from);
-    name
-}
-
-fn refused_open(r: Refusal) -> OpenOut
-    ensures { λ o. ⌜ OpenIs (refused (refusalNumber r)) o ⌝ }
-{
-    OpenOut {
-        answer: Answer::Refused(r),
-        handle: Handle {
-            dir: Addr(0),
-            name: [0u8; 255],
-            len: 0,
-            addr: Addr(0),
-            size: 0,
-            position: 0,
-        },
-    }
-}
-
-// A handle on the file whose entry is e, in the directory at `dir`; its name is the last one of full[..len].
-fn handle_for(full: &[u8], len: usize, dir: Addr, e: DirEntry) -> OpenOut
-    requires { ⌜ len ≤ length (now full) ⌝ }
-    requires { ⌜ length (lastName (take len (now full))) ≤ 255 ⌝ }
-    ensures { λ o. ⌜ OpenIs (accepted (handleFor (dir .0) e (lastName (take len (now (full .entry)))))) o ⌝ }
-{
-    let parts = path::parts_of(full, len);
-    let from = parts.from;
-    let to = parts.to;
-    let name = name_array(full, from, to);
-    let addr = e.addr;
-    OpenOut {
-        answer: Answer::Success,
-        handle: Handle {
-            dir,
-            name,
-            len: to - from,
-            addr,
-            size: e.size,
-            position: 0,
-        },
-    }
-}
-
-// An entry that was found is opened, if it is a file's and within the limit.
-fn open_entry(full: &[u8], len: usize, dir: Addr, e: DirEntry) -> OpenOut
-    requires { ⌜ len ≤ length (now full) ⌝ }
-    requires { ⌜ length (lastName (take len (now full))) ≤ 255 ⌝ }
-    ensures { λ o. ⌜ OpenIs (openEntry (lastName (take len (now (full .entry)))) (held (dir .0) e)) o ⌝ }
-{
-    let k = e.kind;
-    let size = e.size;
-    match k {
-        Kind::Dir => refused_open(Refusal::WrongKind),
-        Kind::Device => refused_open(Refusal::WrongKind),
-        Kind::File => {
-            if FILE_LIMIT < size {
-                refused_open(Refusal::TooLarge)
-            } else {
-                handle_for(full, len, dir, e)
-            }
-        }
-    }
-}
-
-fn refused_info(r: Refusal) -> InfoOut
-    ensures { λ o. ⌜ InfoIs (refused (refusalNumber r)) o ⌝ }
-{
-    InfoOut {
-        answer: Answer::Refused(r),
-        kind: Kind::Dir,
-        size: 0,
-        time: 0,
-        name: [0u8; 255],
-        len: 0,
-    }
-}
-
-// What is known of the entry e, whose name is the last one of full[..len].
-fn about_entry(full: &[u8], len: usize, e: DirEntry) -> InfoOut
-    requires { ⌜ len ≤ length (now full) ⌝ }
-    requires { ⌜ length (lastName (take len (now full))) ≤ 255 ⌝ }
-    ensures { λ o. ⌜ InfoIs (accepted (about (e .kind) (e .size) (e .time) (lastName (take len (now (full .entry)))))) o ⌝ }
-{
-    let parts = path::parts_of(full, len);
-    let from = parts.from;
-    let to = parts.to;
-    let name = name_array(full, from, to);
-    let kind = e.kind;
-    InfoOut {
-        answer: Answer::Success,
-        kind,
-        size: e.size,
-        time: e.time,
-        name,
-        len: to - from,
-    }
-}
-
-// The root itself: a directory of no name, whose size is its sum.
-fn info_root(img: &[u8], s: SuperBlock) -> InfoOut
-    requires { ⌜ Fit s (now img) ⌝ }
-    ensures { λ o. ⌜ InfoIs (aboutRoot (sumFrom 0 (walk blockBytes (s .area .0) (s .blocks) (now (img .entry)) (s .area .0)))) o ⌝ }
-{
-    let d = s.area;
-    let summed = read_dir::sum(img, s, d);
-    match summed {
-        Summed::Damaged => refused_info(Refusal::Damaged),
-        Summed::Total(size) => InfoOut {
-            answer: Answer::Success,
-            kind: Kind::Dir,
-            size,
-            time: 0,
-            name: [0u8; 255],
-            len: 0,
-        },
-    }
-}
-
-// Lists the directory that begins at block a, from entry number i on.
-fn list_dir(img: &[u8], s: SuperBlock, a: Addr, i: u32, buf: &mut [u8]) -> Listing
-    requires { ⌜ Fit s (now img) ⌝ }
-    ensures { λ r. ⌜ ListIs (countsOf (listFrom (length (now (buf .entry))) 0 i (skip i (walk blockBytes (s .area .0) (s .blocks) (now (img .entry)) (a .0))))) (recordsFrom (length (now (buf .entry))) 0 (skip i (walk blockBytes (s .area .0) (s .blocks) (now (img .entry)) (a .0)))) (now (buf .entry)) (now (buf .exit)) r ⌝ }
-{
-    let l = read_dir::list(img, s, a, i, buf);
-    match l {
-        Listed::Records(bytes, next) => Listing::Records(bytes, next),
-        Listed::Damaged => Listing::Refused(Refusal::Damaged),
-    }
-}
-
-// The file at the full path full[..len].
-fn open_full(img: &[u8], s: SuperBlock, full: &[u8], len: usize) -> OpenOut
-    requires { ⌜ Fit s (now img) ⌝ }
-    requires { ⌜ len ≤ length (now full) ⌝ }
-    requires { ⌜ length (now full) ≤ pathLimit ⌝ }
-    ensures { λ o. ⌜ OpenIs (openOn blockBytes (s .area .0) (s .blocks) (now (img .entry)) (take len (now (full .entry)))) o ⌝ }
-{
-    let found = dir::find(img, s, full, len);
-    match found {
-        Located::Refused(r) => refused_open(r),
-        Located::At(dir, e) => open_entry(full, len, dir, e),
-    }
-}
-
-// The file at a path.
-fn open_path(img: &[u8], s: SuperBlock, cwd: &[u8], path: &[u8]) -> OpenOut
-    requires { ⌜ Fit s (now img) ⌝ }
-    ensures { λ o. ⌜ OpenIs (given (pathRefusal (now (cwd .entry)) (now (path .entry))) (openOn blockBytes (s .area .0) (s .blocks) (now (img .entry)) (realPath (now (cwd .entry)) (now (path .entry))))) o ⌝ }
-{
-    let mut full = [0u8; 1024];
-    let real = path::realpath(&mut full, cwd, path);
-    match real {
-        Real::Refused => refused_open(Refusal::BadPath),
-        Real::Len(n) => open_full(img, s, &full, n),
-    }
+    call_volume::check(img, k, work)
 }
 
 // Opens the file at a path. Refusals: 1, 2, 3, 4, 5, 6, 17, 10.
 pub fn open(img: &[u8], k: u32, cwd: &[u8], path: &[u8]) -> OpenOut
     ensures { λ o. ⌜ Opens k (now (img .entry)) (now (cwd .entry)) (now (path .entry)) o ⌝ }
 {
-    let opened = SuperBlock::read(img, k);
-    match opened {
-        Opened::Refused(r) => refused_open(r),
-        Opened::At(s) => open_path(img, s, cwd, path),
-    }
-}
-
-// What stands at the full path full[..len].
-fn info_full(img: &[u8], s: SuperBlock, full: &[u8], len: usize) -> InfoOut
-    requires { ⌜ Fit s (now img) ⌝ }
-    requires { ⌜ len ≤ length (now full) ⌝ }
-    requires { ⌜ length (now full) ≤ pathLimit ⌝ }
-    ensures { λ o. ⌜ InfoIs (andThen (entryOf blockBytes (s .area .0) (s .blocks) (now (img .entry)) (take len (now (full .entry)))) (aboutEntry (lastName (take len (now (full .entry)))))) o ⌝ }
-{
-    let found = dir::find(img, s, full, len);
-    match found {
-        Located::Refused(r) => refused_info(r),
-        Located::At(_, e) => about_entry(full, len, e),
-    }
-}
-
-// What stands at a path; the path `/` itself is the root.
-fn info_path(img: &[u8], s: SuperBlock, cwd: &[u8], path: &[u8]) -> InfoOut
-    requires { ⌜ Fit s (now img) ⌝ }
-    ensures { λ o. ⌜ InfoIs (given (pathRefusal (now (cwd .entry)) (now (path .entry))) (infoOn blockBytes (s .area .0) (s .blocks) (now (img .entry)) (realPath (now (cwd .entry)) (now (path .entry))) (now (path .entry)))) o ⌝ }
-{
-    let mut full = [0u8; 1024];
-    let real = path::realpath(&mut full, cwd, path);
-    match real {
-        Real::Refused => refused_info(Refusal::BadPath),
-        Real::Len(n) => {
-            if path::is_root(path, path.len()) {
-                return info_root(img, s);
-            }
-            info_full(img, s, &full, n)
-        }
-    }
+    call_read::open(img, k, cwd, path)
 }
 
 // Kind, size, time and name of what stands at a path. Refusals: 1, 2, 3, 4, 5, 6, 17.
 pub fn info(img: &[u8], k: u32, cwd: &[u8], path: &[u8]) -> InfoOut
     ensures { λ o. ⌜ Informs k (now (img .entry)) (now (cwd .entry)) (now (path .entry)) o ⌝ }
 {
-    let opened = SuperBlock::read(img, k);
-    match opened {
-        Opened::Refused(r) => refused_info(r),
-        Opened::At(s) => info_path(img, s, cwd, path),
-    }
-}
-
-// Lists the directory whose path is full[..len].
-fn list_full(img: &[u8], s: SuperBlock, full: &[u8], len: usize, i: u32, buf: &mut [u8]) -> Listing
-    requires { ⌜ Fit s (now img) ⌝ }
-    requires { ⌜ len ≤ length (now full) ⌝ }
-    requires { ⌜ length (now full) ≤ pathLimit ⌝ }
-    ensures { λ r. ⌜ ListIs (listOn blockBytes (s .area .0) (s .blocks) (now (img .entry)) (take len (now (full .entry))) i (length (now (buf .entry)))) (recordsOn blockBytes (s .area .0) (s .blocks) (now (img .entry)) (take len (now (full .entry))) i (length (now (buf .entry)))) (now (buf .entry)) (now (buf .exit)) r ⌝ }
-{
-    let opened = dir::open(img, s, full, len);
-    match opened {
-        dir::Opened::Refused(r) => Listing::Refused(r),
-        dir::Opened::At(a) => list_dir(img, s, a, i, buf),
-    }
-}
-
-// Lists the directory at a path.
-fn list_path(img: &[u8], s: SuperBlock, cwd: &[u8], path: &[u8], i: u32, buf: &mut [u8]) -> Listing
-    requires { ⌜ Fit s (now img) ⌝ }
-    ensures { λ r. ⌜ ListIs (given (pathRefusal (now (cwd .entry)) (now (path .entry))) (listOn blockBytes (s .area .0) (s .blocks) (now (img .entry)) (realPath (now (cwd .entry)) (now (path .entry))) i (length (now (buf .entry))))) (recordsOn blockBytes (s .area .0) (s .blocks) (now (img .entry)) (realPath (now (cwd .entry)) (now (path .entry))) i (length (now (buf .entry)))) (now (buf .entry)) (now (buf .exit)) r ⌝ }
-{
-    let mut full = [0u8; 1024];
-    let real = path::realpath(&mut full, cwd, path);
-    match real {
-        Real::Refused => Listing::Refused(Refusal::BadPath),
-        Real::Len(n) => list_full(img, s, &full, n, i, buf),
-    }
+    call_read::info(img, k, cwd, path)
 }
 
 // Lists the directory at a path from entry number i on, into buf. Refusals: 1, 2, 3, 4, 5, 6, 17.
 pub fn list(img: &[u8], k: u32, cwd: &[u8], path: &[u8], i: u32, buf: &mut [u8]) -> Listing
     ensures { λ r. ⌜ Lists k (now (img .entry)) (now (cwd .entry)) (now (path .entry)) i (now (buf .entry)) r (now (buf .exit)) ⌝ }
 {
-    let opened = SuperBlock::read(img, k);
-    match opened {
-        Opened::Refused(r) => Listing::Refused(r),
-        Opened::At(s) => list_path(img, s, cwd, path, i, buf),
-    }
+    call_read::list(img, k, cwd, path, i, buf)
 }
 
 // Reads from the handle's position on into buf. Refusals: 1, 2, 3, 11, 17; a refused read hands back the very handle.
 pub fn read(img: &[u8], k: u32, handle: Handle, buf: &mut [u8]) -> ReadOut
     ensures { λ o. ⌜ Reads k (now (img .entry)) handle (now (buf .entry)) (now (buf .exit)) o ⌝ }
 {
-    let opened = SuperBlock::read(img, k);
-    match opened {
-        Opened::Refused(r) => ReadOut {
-            answer: Counted::Refused(r),
-            handle,
-        },
-        Opened::At(s) => handle.read(img, s, buf),
-    }
+    call_read::read(img, k, handle, buf)
 }
 
 // Moves the handle's position. Refusals: 11, 12; a refused seek hands back the very handle.
 pub fn seek(handle: Handle, from: SeekFrom) -> Sought
     ensures { λ o. ⌜ SoughtIs handle from o ⌝ }
 {
-    handle.seek(from)
-}
-
-// Creates a file at the full path full[..len] of a checked volume.
-fn create_file_full(img: &mut [u8], s: SuperBlock, full: &[u8], len: usize, time: u64) -> OpenOut
-    requires { ⌜ Ready s (now img) ⌝ }
-    requires { ⌜ len ≤ length (now full) ⌝ }
-    requires { ⌜ length (now full) ≤ pathLimit ⌝ }
-    ensures { λ o. ⌜ OpenIs (andThen (createdOn (geoOf s) (now (img .entry)) kind.File (take len (now (full .entry)))) (λ f. accepted (freshHandle (lastName (take len (now (full .entry)))) f))) o ⌝ }
-    ensures { λ _. ⌜ now (img .exit) ≡ createdImage (geoOf s) (now (img .entry)) kind.File (take len (now (full .entry))) time ⌝ }
-{
-    let created = create::create(img, s, full, len, Kind::File, time);
-    match created {
-        Created::Refused(r) => refused_open(r),
-        Created::At(dir, addr) => {
-            let e = DirEntry {
-                kind: Kind::File,
-                addr,
-                size: 0,
-                time,
-                len: 0,
-            };
-            handle_for(full, len, dir, e)
-        }
-    }
-}
-
-// Creates a file at a path of a checked volume.
-fn create_file_path(img: &mut [u8], s: SuperBlock, cwd: &[u8], path: &[u8], time: u64) -> OpenOut
-    requires { ⌜ Ready s (now img) ⌝ }
-    ensures { λ o. ⌜ OpenIs (given (pathRefusal (now (cwd .entry)) (now (path .entry))) (andThen (createdOn (geoOf s) (now (img .entry)) kind.File (realPath (now (cwd .entry)) (now (path .entry)))) (λ f. accepted (freshHandle (lastName (realPath (now (cwd .entry)) (now (path .entry)))) f)))) o ⌝ }
-    ensures { λ _. ⌜ now (img .exit) ≡ settle (pathRefusal (now (cwd .entry)) (now (path .entry))) (createdImage (geoOf s) (now (img .entry)) kind.File (realPath (now (cwd .entry)) (now (path .entry))) time) (now (img .entry)) ⌝ }
-{
-    let mut full = [0u8; 1024];
-    let real = path::realpath(&mut full, cwd, path);
-    match real {
-        Real::Refused => refused_open(Refusal::BadPath),
-        Real::Len(n) => create_file_full(img, s, &full, n, time),
-    }
+    call_read::seek(handle, from)
 }
 
 // Creates a file of 0 bytes at a path, and opens it. Refusals: 1, 2, 3, 16, 17, 4, 8, 5, 6, 7, 9.
@@ -500,29 +85,7 @@ pub fn create_file(
 ) -> OpenOut
     ensures { λ o. ⌜ CreatesFile k (now (img .entry)) (now (work .entry)) (now (cwd .entry)) (now (path .entry)) time o (now (img .exit)) (now (work .exit)) ⌝ }
 {
-    let checked = open_checked(img, k, work);
-    match checked {
-        Opened::Refused(r) => refused_open(r),
-        Opened::At(s) => create_file_path(img, s, cwd, path, time),
-    }
-}
-
-// Creates an empty directory at a path of a checked volume.
-fn create_dir_path(img: &mut [u8], s: SuperBlock, cwd: &[u8], path: &[u8], time: u64) -> Answer
-    requires { ⌜ Ready s (now img) ⌝ }
-    ensures { λ r. ⌜ says r ≡ given (pathRefusal (now (cwd .entry)) (now (path .entry))) (plainly (createdOn (geoOf s) (now (img .entry)) kind.Dir (realPath (now (cwd .entry)) (now (path .entry))))) ⌝ }
-    ensures { λ _. ⌜ now (img .exit) ≡ settle (pathRefusal (now (cwd .entry)) (now (path .entry))) (createdImage (geoOf s) (now (img .entry)) kind.Dir (realPath (now (cwd .entry)) (now (path .entry))) time) (now (img .entry)) ⌝ }
-{
-    let mut full = [0u8; 1024];
-    let real = path::realpath(&mut full, cwd, path);
-    let Real::Len(n) = real else {
-        return Answer::Refused(Refusal::BadPath);
-    };
-    let created = create::create(img, s, &full, n, Kind::Dir, time);
-    match created {
-        Created::Refused(r) => Answer::Refused(r),
-        Created::At(_, _) => Answer::Success,
-    }
+    call_change::create_file(img, k, cwd, path, time, work)
 }
 
 // Creates an empty directory at a path. Refusals: 1, 2, 3, 16, 17, 4, 8, 5, 6, 15, 7, 9.
@@ -536,40 +99,14 @@ pub fn create_dir(
 ) -> Answer
     ensures { λ r. ⌜ CreatesDir k (now (img .entry)) (now (work .entry)) (now (cwd .entry)) (now (path .entry)) time r (now (img .exit)) (now (work .exit)) ⌝ }
 {
-    let checked = open_checked(img, k, work);
-    match checked {
-        Opened::Refused(r) => Answer::Refused(r),
-        Opened::At(s) => create_dir_path(img, s, cwd, path, time),
-    }
-}
-
-// Deletes the entry at a path of a checked volume.
-fn delete_path(img: &mut [u8], s: SuperBlock, cwd: &[u8], path: &[u8], time: u64) -> Answer
-    requires { ⌜ Ready s (now img) ⌝ }
-    ensures { λ r. ⌜ says r ≡ given (pathRefusal (now (cwd .entry)) (now (path .entry))) (deletedOn (geoOf s) (now (img .entry)) (realPath (now (cwd .entry)) (now (path .entry)))) ⌝ }
-    ensures { λ _. ⌜ now (img .exit) ≡ settle (pathRefusal (now (cwd .entry)) (now (path .entry))) (deletedImage (geoOf s) (now (img .entry)) (realPath (now (cwd .entry)) (now (path .entry))) time) (now (img .entry)) ⌝ }
-{
-    let mut full = [0u8; 1024];
-    let real = path::realpath(&mut full, cwd, path);
-    let Real::Len(n) = real else {
-        return Answer::Refused(Refusal::BadPath);
-    };
-    let deleted = delete::delete(img, s, &full, n, time);
-    match deleted {
-        Deleted::Refused(r) => Answer::Refused(r),
-        Deleted::Done => Answer::Success,
-    }
+    call_change::create_dir(img, k, cwd, path, time, work)
 }
 
 // Deletes the file, the device or the empty directory at a path. Refusals: 1, 2, 3, 16, 17, 4, 5, 6, 14.
 pub fn delete(img: &mut [u8], k: u32, cwd: &[u8], path: &[u8], time: u64, work: &mut [u8]) -> Answer
     ensures { λ r. ⌜ Deletes k (now (img .entry)) (now (work .entry)) (now (cwd .entry)) (now (path .entry)) time r (now (img .exit)) (now (work .exit)) ⌝ }
 {
-    let checked = open_checked(img, k, work);
-    match checked {
-        Opened::Refused(r) => Answer::Refused(r),
-        Opened::At(s) => delete_path(img, s, cwd, path, time),
-    }
+    call_change::delete(img, k, cwd, path, time, work)
 }
 
 // Writes buf at the handle's position; the file ends there. Refusals: 1, 2, 3, 16, 17, 13, 11, 10, 9; a refused write hands back the very handle.
@@ -583,12 +120,5 @@ pub fn write(
 ) -> WriteOut
     ensures { λ o. ⌜ Writes k (now (img .entry)) (now (work .entry)) handle (now (buf .entry)) time o (now (img .exit)) (now (work .exit)) ⌝ }
 {
-    let checked = open_checked(img, k, work);
-    match checked {
-        Opened::Refused(r) => WriteOut {
-            answer: Counted::Refused(r),
-            handle,
-        },
-        Opened::At(s) => handle.write(img, s, buf, time),
-    }
+    call_change::write(img, k, handle, buf, time, work)
 }

@@ -13,9 +13,9 @@ use Rattle.file.specs.declared.Counted.the-variants as counted
 use Rattle.file.specs.Post.{MovedIs, CountedIs}
 use Rattle.file.specs.Writing.{Target, handleAfter, countOf}
 use Rattle.file.specs.Written.{countedSays}
-use Rattle.mfs.specs.declared.Answer.{Answer}
-use Rattle.mfs.specs.declared.Answer.the-variants as answer
-use Rattle.mfs.specs.Says.{onAnswer, soughtSays}
+use Rattle.call_volume.specs.declared.Answer.{Answer}
+use Rattle.call_volume.specs.declared.Answer.the-variants as answer
+use Rattle.call_volume.specs.Says.{onAnswer, soughtSays}
 use Rattle.mfs_c.specs.Exports.{outOf, handleOf, numbersOf, HandleOut, OpensC, ReadsC, SeeksC, CreatesFileC, WritesC}
 
 -- a handle is its four numbers, its name and the name's length

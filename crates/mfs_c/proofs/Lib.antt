@@ -1,4 +1,4 @@
-pub mod Laws
+pub mod Told
 pub mod Outcomes
 pub mod Refused
 pub mod Handles

@@ -10,10 +10,10 @@ use Rattle.file.specs.declared.Sought.{Sought}
 use Rattle.file.specs.declared.ReadOut.{ReadOut}
 use Rattle.file.specs.declared.WriteOut.{WriteOut}
 use Rattle.file.specs.Written.{countedSays}
-use Rattle.mfs.specs.Says.{says, Sizes, spaceSays, soughtSays}
-use Rattle.mfs.specs.Reading.{About, Counts, openSays, infoSays, listSays}
+use Rattle.call_volume.specs.Says.{says, Sizes, spaceSays, soughtSays}
+use Rattle.call_read.specs.Reading.{About, Counts, openSays, infoSays, listSays}
 use Rattle.mfs.proofs.Outcomes.{format-one, usage-one, open-one, info-one, list-one, read-one, seek-one, create-file-one, create-dir-one, delete-one, write-one}
-use Rattle.mfs.proofs.Checked.{check-one}
+use Rattle.call_volume.proofs.Checked.{check-one}
 use Rattle.mfs_c.specs.Exports.{told, outOf, numbersOf, FormatsC, UsesC, ChecksC, HandleOut, OpensC, InformsC, ListsC, CountOut, ReadsC, SeeksC, CreatesFileC, CreatesDirC, DeletesC, WritesC}
 
 -- ---- one answer is told in one way

@@ -13,19 +13,15 @@ use Rattle.file.specs.declared.Handle.{Handle}
 use Rattle.file.specs.declared.SeekFrom.{SeekFrom}
 use Rattle.file.specs.declared.Counted.{Counted}
 use Rattle.file.specs.declared.Counted.the-variants as counted
-use Rattle.file.specs.declared.Outcome.{Outcome}
-use Rattle.file.specs.declared.Outcome.the-variants as outcome
 use Rattle.file.specs.Post.{CountedIs}
 use Rattle.file.specs.Written.{countedSays}
-use Rattle.mfs.specs.declared.Answer.{Answer}
-use Rattle.mfs.specs.declared.Answer.the-variants as answer
-use Rattle.mfs.specs.declared.Space.{Space}
-use Rattle.mfs.specs.declared.Space.the-variants as space
-use Rattle.mfs.specs.declared.Listing.{Listing}
-use Rattle.mfs.specs.declared.Listing.the-variants as listing
-use Rattle.mfs.specs.Says.{says, onAnswer, Sizes, spaceSays, soughtSays}
-use Rattle.mfs.specs.Format.{Formats}
-use Rattle.mfs.specs.Reading.{About, Counts, infoSays, listSays, ListIs}
+use Rattle.call_volume.specs.declared.Answer.{Answer}
+use Rattle.call_volume.specs.declared.Answer.the-variants as answer
+use Rattle.call_read.specs.declared.Listing.{Listing}
+use Rattle.call_read.specs.declared.Listing.the-variants as listing
+use Rattle.call_volume.specs.Says.{says, onAnswer, Sizes, spaceSays, soughtSays}
+use Rattle.call_volume.specs.Format.{Formats}
+use Rattle.call_read.specs.Reading.{About, Counts, infoSays, listSays, ListIs}
 use Rattle.thm_calls.proofs.Changing.{create-file-kept, create-dir-kept, delete-kept, write-kept}
 use Rattle.mfs_c.specs.Exports.{told, outOf, numbersOf, FormatsC, UsesC, HandleOut, OpensC, InformsC, ListsC, CountOut, ReadsC, SeeksC, CreatesFileC, CreatesDirC, DeletesC, WritesC}
 
@@ -51,30 +47,6 @@ counts (counted.Refused r) c e n = (r, refl)
 
 not-zero : (r : Refusal) → 0 ≡ refusalNumber r → ⊥
 not-zero r e = omega (arith, number-some r)
-
-pub zero-plain : (a : Answer) → 0 ≡ told (says a) → a ≡ answer.Success
-zero-plain answer.Success e = refl
-zero-plain (answer.Refused r) e = absurd (not-zero r e)
-
-pub zero-space : (a : Space) → 0 ≡ told (spaceSays a) → (s : Sizes) × (a ≡ space.Bytes (s .size) (s .used) (s .free))
-zero-space (space.Bytes s u f) e = (record { size = s; used = u; free = f }, refl)
-zero-space (space.Refused r) e = absurd (not-zero r e)
-
-pub zero-on : {A : Type 0} (x : A) (a : Answer) → 0 ≡ told (onAnswer a x) → a ≡ answer.Success
-zero-on x answer.Success e = refl
-zero-on x (answer.Refused r) e = absurd (not-zero r e)
-
-pub zero-listing : (a : Listing) → 0 ≡ told (listSays a) → (n : Counts) × (a ≡ listing.Records (n .bytes) (n .next))
-zero-listing (listing.Records b i) e = (record { bytes = b; next = i }, refl)
-zero-listing (listing.Refused r) e = absurd (not-zero r e)
-
-pub zero-counted : (a : Counted) → 0 ≡ told (countedSays a) → (k : ℕ) × (a ≡ counted.Bytes k)
-zero-counted (counted.Bytes k) e = (k, refl)
-zero-counted (counted.Refused r) e = absurd (not-zero r e)
-
-pub zero-outcome : (a : Outcome) → 0 ≡ told (soughtSays a) → a ≡ outcome.Success
-zero-outcome outcome.Success e = refl
-zero-outcome (outcome.Refused r) e = absurd (not-zero r e)
 
 -- the out parameters that calls share
 handle-out-kept : (r : Reply Handle) (ns x : List ℕ) (len c : ℕ) (ns' x' : List ℕ) (len' : ℕ)

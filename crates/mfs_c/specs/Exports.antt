@@ -13,16 +13,16 @@ use Rattle.file.specs.declared.ReadOut.{ReadOut}
 use Rattle.file.specs.declared.WriteOut.{WriteOut}
 use Rattle.file.specs.Post.{SoughtIs}
 use Rattle.file.specs.Written.{countedSays}
-use Rattle.mfs.specs.declared.Answer.{Answer}
-use Rattle.mfs.specs.declared.Space.{Space}
-use Rattle.mfs.specs.declared.OpenOut.{OpenOut}
-use Rattle.mfs.specs.declared.InfoOut.{InfoOut}
-use Rattle.mfs.specs.declared.Listing.{Listing}
-use Rattle.mfs.specs.Says.{says, soughtSays, Sizes, spaceSays}
-use Rattle.mfs.specs.Format.{Formats, Uses}
-use Rattle.mfs.specs.Reading.{About, Counts, openSays, Opens, infoSays, Informs, listSays, Lists, Reads}
-use Rattle.mfs.specs.Checking.{Checks}
-use Rattle.mfs.specs.Changing.{CreatesFile, CreatesDir, Deletes, Writes}
+use Rattle.call_volume.specs.declared.Answer.{Answer}
+use Rattle.call_volume.specs.declared.Space.{Space}
+use Rattle.call_read.specs.declared.OpenOut.{OpenOut}
+use Rattle.call_read.specs.declared.InfoOut.{InfoOut}
+use Rattle.call_read.specs.declared.Listing.{Listing}
+use Rattle.call_volume.specs.Says.{says, soughtSays, Sizes, spaceSays}
+use Rattle.call_volume.specs.Format.{Formats, Uses}
+use Rattle.call_read.specs.Reading.{About, Counts, openSays, Opens, infoSays, Informs, listSays, Lists, Reads}
+use Rattle.call_volume.specs.Checking.{Checks}
+use Rattle.call_change.specs.Changing.{CreatesFile, CreatesDir, Deletes, Writes}
 
 -- C17: the version of the exports: names, parameters and what these mean. It goes up by one where a program that was compiled
 -- against the exports as they were could no longer call them as they are.

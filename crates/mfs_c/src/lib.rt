@@ -1,21 +1,21 @@
 // The public calls for programs in C and Rust, on numbers, byte slices and arrays of fixed size. Each answers 0, or the number of
 // its refusal; a refusal leaves every out parameter as it was. include/mfs_c.h declares them.
 use block::Addr;
+use call_read::Listing;
+use call_read::OpenOut;
+use call_volume::Answer;
+use call_volume::Space;
 use file::Counted;
 use file::Handle;
 use file::Outcome;
 use file::SeekFrom;
 use limits::Refusal;
-use mfs::Answer;
-use mfs::Listing;
-use mfs::OpenOut;
-use mfs::Space;
 ghost use mathlib.Core.Path.{_≡_};
 ghost use Rattle.limits.specs.Refusals.{refusalNumber};
 ghost use Rattle.file.specs.declared.SeekFrom.the-variants as from;
 ghost use Rattle.file.specs.Written.{countedSays};
-ghost use Rattle.mfs.specs.Says.{says};
-ghost use Rattle.mfs.specs.Reading.{openSays};
+ghost use Rattle.call_volume.specs.Says.{says};
+ghost use Rattle.call_read.specs.Reading.{openSays};
 ghost use Rattle.mfs_c.specs.Exports.{abiVersion, told, handleOf, numbersOf, FormatsC, UsesC, ChecksC, HandleOut, OpensC, InformsC, ListsC, CountOut, ReadsC, SeeksC, CreatesFileC, CreatesDirC, DeletesC, WritesC};
 
 // The version of these exports, for callers that were compiled against another one to find out.

@@ -11,7 +11,7 @@ use native.Mathlib.Decide.{decLt}
 use lib.ListN.{length, getD, replicate, length-append, List·getD-append, List·getD-eq-default}
 use lib.Seq.{getD-append-add}
 use Rattle.wire.specs.Be.{bytes}
-use Rattle.wire.proofs.Laws.{length-bytes}
+use Rattle.wire.proofs.Numbers.{length-bytes}
 use Rattle.wire.proofs.Picks.{either, pick-true, pick-false}
 use Rattle.model.specs.Tree.{Name, Node, file, device, sub, Entry, Block, Tree, first, onFirst, then, called, holds, lookup, weight, used, sum, fill, change, Edit, renew, renewed, atEnd, edit, inside}
 use Rattle.model.specs.Render.{Piece, View, blocksAt, padded, kindOf, addressOf, sizeOf, entryBytes, entriesBytes, cellPieces, nodePieces, entryPieces, dirPieces, view, render, offset, placeOf, ownTime, InTime, ats}
@@ -56,7 +56,7 @@ pub record Near (P : ℕ → Type 0) (k : ℕ) (l m : List ℕ) : Type 0 where
   pub agree : (i : ℕ) → (P (k + i) → ⊥) → getD l i 0 ≡ getD m i 0
 
 module _ (P : ℕ → Type 0) where
-  pub near-refl : (k : ℕ) (l : List ℕ) → Near P k l l
+  near-refl : (k : ℕ) (l : List ℕ) → Near P k l l
   near-refl k l = record { long = refl; agree = λ i _. refl }
 
   near-eq : (k : ℕ) (l m : List ℕ) → l ≡ m → Near P k l m
@@ -72,7 +72,7 @@ module _ (P : ℕ → Type 0) where
       go i x (yes p) = absurd (x (c i p))
       go i x (no p) = List·getD-eq-default l 0 (omega arith) ∙ sym (List·getD-eq-default m 0 (omega arith))
 
-  pub near-append : (k : ℕ) (l m l′ m′ : List ℕ) → Near P k l l′ → Near P (k + length l) m m′ → Near P k (l ++ m) (l′ ++ m′)
+  near-append : (k : ℕ) (l m l′ m′ : List ℕ) → Near P k l l′ → Near P (k + length l) m m′ → Near P k (l ++ m) (l′ ++ m′)
   near-append k l m l′ m′ a b = record { long = rw (length-append l m, length-append l′ m′) (omega (arith, a .long, b .long)); agree = λ i x. go i x (decLt i (length l)) }
     where
       go : (i : ℕ) → (P (k + i) → ⊥) → Dec (i < length l) → getD (l ++ m) i 0 ≡ getD (l′ ++ m′) i 0
@@ -163,7 +163,7 @@ module _ {X : Type 0} (P : ℕ → Type 0) (B : ℕ) (v : View X) (n : Name) (h 
           (alike-append P B (nodePieces v (e .node)) (nodePieces v (e .node)) (entryPieces v es) (entryPieces v (onFirst (called n) h es)) (alike-refl P B (nodePieces v (e .node)))
           (r (λ x f. s x (first-there (called n) e es c ∙ f))))
 
-  pub alike-dir : (bs : List (Block X))
+  alike-dir : (bs : List (Block X))
       → ((e : Entry X) → lookup n bs ≡ some e → Near P (placeOf B n bs) (entryBytes v e) (entryBytes v (h e)) × Alike P B (nodePieces v (e .node)) (nodePieces v (h e .node)))
       → Alike P B (dirPieces B v bs) (dirPieces B v (change n h bs))
   unfolding dirPieces change onFirst placeOf lookup
@@ -200,14 +200,14 @@ module _ {X : Type 0} (P : ℕ → Type 0) (B : ℕ) (v : View X) (n : Name) (h 
 idle : Edit
 idle d t = t
 
-pub edit-at : (d : ℕ) (p : List Name) (g : ℕ → ℕ) (t : Tree d) → blocksAt (edit d p g (λ e s. s) t) ≡ blocksAt t
+edit-at : (d : ℕ) (p : List Name) (g : ℕ → ℕ) (t : Tree d) → blocksAt (edit d p g (λ e s. s) t) ≡ blocksAt t
 unfolding edit
 edit-at zero [] g t = refl
 edit-at (suc d) [] g t = refl
 edit-at zero (n ∷ p) g t = refl
 edit-at (suc d) (n ∷ p) g t = change-at n _ t
 
-pub edit-sum : (d : ℕ) (p : List Name) (g : ℕ → ℕ) (t : Tree d) → sum (edit d p g (λ e s. s) t) ≡ sum t
+edit-sum : (d : ℕ) (p : List Name) (g : ℕ → ℕ) (t : Tree d) → sum (edit d p g (λ e s. s) t) ≡ sum t
 unfolding edit
 edit-sum zero [] g t = refl
 edit-sum (suc d) [] g t = refl

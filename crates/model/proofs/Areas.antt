@@ -51,7 +51,7 @@ pub block-inside : (g : Geo) (len : ℕ) → Sound g len → (a : ℕ) → a < g
 block-inside g len s a h = row-inside (blockSize g) (g .n) len a (s .inside-image) h
 
 -- W5: the used count is D plus the blocks that are reached
-pub set-bits : (g : Geo) (I J : List ℕ) (d : ℕ) (t : Tree d) → Sound g (length I)
+set-bits : (g : Geo) (I J : List ℕ) (d : ℕ) (t : Tree d) → Sound g (length I)
     → ((i : ℕ) → 1 ≤ count i (blocks (blockSize g) d t) → (dataAt g ≤ i) × (i < g .n))
     → ((x : ℕ) → x < mapBits g → bit J (blockSize g * mapAt g) x ≡ count (dataAt g + x) (blocks (blockSize g) d t)) → setBits J g ≡ length (blocks (blockSize g) d t)
 set-bits g I J d t s r m =

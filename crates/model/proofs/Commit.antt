@@ -9,7 +9,7 @@ use native.Mathlib.Decide.{decLt}
 use lib.ListN.{length, getD, length-append, List·getD-append}
 use lib.Seq.{getD-append-add}
 use Rattle.wire.specs.Be.{bytes, splice}
-use Rattle.wire.proofs.Laws.{length-bytes, length-splice, splice-before, splice-in, splice-after}
+use Rattle.wire.proofs.Numbers.{length-bytes, length-splice, splice-before, splice-in, splice-after}
 use Rattle.bits.specs.Bit.{bit}
 use Rattle.model.specs.Tree.{Name, sub, Tree, sum, Edit, edit, Some, find}
 use Rattle.model.specs.Render.{Piece, blocksAt, padded, kindOf, addressOf, sizeOf, entryBytes, view, render, ats, count, blocks, Shows, ShowsAll}

@@ -9,8 +9,8 @@ use native.Mathlib.Omega.{arith}
 use lib.ListN.{length, getD, take, drop, length-append, length-drop, length-replicate, getD-replicate, List·getD-append, List·getD-eq-default}
 use lib.Seq.{length-take-le, take-append-le, take-at, take-add, take-take, getD-take, getD-append-add}
 use Rattle.wire.specs.Be.{splice, zeros}
-use Rattle.wire.proofs.Laws.{length-splice, splice-after}
-use Rattle.block.proofs.Laws.{block-below}
+use Rattle.wire.proofs.Numbers.{length-splice, splice-after}
+use Rattle.block.proofs.Blocks.{block-below}
 use Rattle.model.specs.Tree.{Name, Cell, Node, file, device, sub, Entry, Block, Tree, then, lookup, change, Edit, renewed, renew, atEnd, edit, inside}
 use Rattle.model.specs.Volume.{All, fileLimit, blocksFor, GoodCell, GoodFile}
 use Rattle.model.specs.Calls.{fileOf, fileAt, stream, contents, places, chop, rewrite, refiled, rewritten}
@@ -21,25 +21,25 @@ use Rattle.model.proofs.Edits.{refiled-name, renewed-name}
 -- ---- bytes laid into blocks, and read again
 
 -- The blocks hold as many of the bytes as they have room for, in order.
-pub stream-chop : (w : ℕ) (xs l : List ℕ) → stream (chop w xs l) ≡ take (w * length xs) l
+stream-chop : (w : ℕ) (xs l : List ℕ) → stream (chop w xs l) ≡ take (w * length xs) l
 unfolding stream chop
 stream-chop w [] l = rw mul-zero
 stream-chop w (a ∷ xs) l = rw (mul-suc, add-comm (w * length xs) w, take-add w (w * length xs) l, stream-chop w xs (drop w l))
 
 -- The blocks are at the addresses given.
-pub places-chop : (w : ℕ) (xs l : List ℕ) → places (chop w xs l) ≡ xs
+places-chop : (w : ℕ) (xs l : List ℕ) → places (chop w xs l) ≡ xs
 unfolding places chop
 places-chop w [] l = refl
 places-chop w (a ∷ xs) l = ap (λ (m : List ℕ). a ∷ m) (places-chop w xs (drop w l))
 
 -- There is one block for each address.
-pub length-chop : (w : ℕ) (xs l : List ℕ) → length (chop w xs l) ≡ length xs
+length-chop : (w : ℕ) (xs l : List ℕ) → length (chop w xs l) ≡ length xs
 unfolding chop
 length-chop w [] l = refl
 length-chop w (a ∷ xs) l = ap suc (length-chop w xs (drop w l))
 
 -- Each is full where there are bytes enough.
-pub good-chop : (B : ℕ) (xs l : List ℕ) → (B - 4) * length xs ≤ length l → All (GoodCell B) (chop (B - 4) xs l)
+good-chop : (B : ℕ) (xs l : List ℕ) → (B - 4) * length xs ≤ length l → All (GoodCell B) (chop (B - 4) xs l)
 unfolding chop
 good-chop B [] l h = tt
 good-chop B (a ∷ xs) l h =
@@ -90,27 +90,9 @@ module _ (B : ℕ) (five : 5 ≤ B) where
       let q : (s + (B - 5)) / (B - 4) < suc k = div-lt-iff-lt-mul {k = B - 4} {x = s + (B - 5)} {y = suc k} (omega arith) .1 (omega (arith, mul-suc (B - 4) k, mul-comm (suc k) (B - 4))) in
       max-le h (omega arith)
 
-  -- so one block less has no room for them
-  pub blocks-tight : (s : ℕ) → 1 ≤ s → (B - 4) * (blocksFor B s - 1) < s
-  blocks-tight s h = go (blocksFor B s - 1) refl (decLt ((B - 4) * (blocksFor B s - 1)) s)
-    where
-      go : (k : ℕ) → blocksFor B s - 1 ≡ k → Dec ((B - 4) * (blocksFor B s - 1) < s) → (B - 4) * (blocksFor B s - 1) < s
-      go k e (yes q) = q
-      go zero e (no q) = absurd (omega (arith, ap (λ (z : ℕ). (B - 4) * z) e, mul-zero (B - 4)))
-      go (suc k) e (no q) = absurd (omega (arith, blocks-some s, blocks-least s (blocksFor B s - 1) (omega arith) (omega arith)))
-
-  -- more bytes need no fewer
-  pub blocks-more : (c s : ℕ) → c ≤ s → blocksFor B c ≤ blocksFor B s
-  blocks-more c s h = blocks-least c (blocksFor B s) (blocks-some s) (omega (arith, blocks-enough s))
-
   -- a file's chain has room for its bytes
-  pub size-fits : (s : ℕ) (cs : List Cell) → GoodFile B s cs → s ≤ length (stream cs)
+  size-fits : (s : ℕ) (cs : List Cell) → GoodFile B s cs → s ≤ length (stream cs)
   size-fits s cs g = rw (length-stream B cs (g .cells), g .long) (blocks-enough s)
-
-  -- A file has as many bytes as its size says.
-  pub length-contents : (s : ℕ) (cs : List Cell) → GoodFile B s cs → length (contents s cs) ≡ s
-  unfolding contents
-  length-contents s cs g = length-take-le s (stream cs) (size-fits s cs g)
 
 -- ---- a write of buf at c, in a file of s bytes in the blocks cs, with `free` to take new blocks from
 
@@ -167,7 +149,7 @@ module _ (B s c : ℕ) (free buf : List ℕ) (cs : List Cell) (five : 5 ≤ B) (
       ∙ ap (λ (l : List ℕ). l ++ buf) (take-append-le c (stream cs) _ (omega (arith, size-fits B five s cs good)) ∙ sym (take-take c s (stream cs) position))
 
   -- Past the end no byte of a kept block changes, and those of a new block are 0 (as `getD` gives past the old bytes).
-  pub rewrite-past : (k : ℕ) → c + length buf ≤ k → k < (B - 4) * blocksFor B (c + length buf) → getD (stream (rewrite B free c buf cs)) k 0 ≡ getD (stream cs) k 0
+  rewrite-past : (k : ℕ) → c + length buf ≤ k → k < (B - 4) * blocksFor B (c + length buf) → getD (stream (rewrite B free c buf cs)) k 0 ≡ getD (stream cs) k 0
   unfolding grown
   rewrite-past k h l =
       ap (λ (z : List ℕ). getD z k 0) stream-rewrite
@@ -188,15 +170,9 @@ module _ (B s c : ℕ) (free buf : List ℕ) (cs : List Cell) (five : 5 ≤ B) (
           ∙ sym (List·getD-eq-default (stream cs) 0 (omega arith))
 
   -- C12: what stands behind the end in a kept block stays: byte j of block i.
-  pub stale-stay : (i j : ℕ) → i < blocksFor B (c + length buf) → j < B - 4 → c + length buf ≤ (B - 4) * i + j
+  stale-stay : (i j : ℕ) → i < blocksFor B (c + length buf) → j < B - 4 → c + length buf ≤ (B - 4) * i + j
       → getD (stream (rewrite B free c buf cs)) ((B - 4) * i + j) 0 ≡ getD (stream cs) ((B - 4) * i + j) 0
   stale-stay i j h k l = rewrite-past ((B - 4) * i + j) l (block-below (B - 4) i (blocksFor B (c + length buf)) j h k)
-
-  -- A new block is zero after the end.
-  pub fresh-zero : (i j : ℕ) → i < blocksFor B (c + length buf) → j < B - 4 → c + length buf ≤ (B - 4) * i + j → length cs ≤ i
-      → getD (stream (rewrite B free c buf cs)) ((B - 4) * i + j) 0 ≡ 0
-  fresh-zero i j h k l m =
-      stale-stay i j h k l ∙ List·getD-eq-default (stream cs) 0 (rw (length-stream B cs (good .cells)) (omega (arith, mul-le-mul-left (B - 4) m)))
 
 -- ---- the file in the tree
 

@@ -25,7 +25,7 @@ pub record Spot {X : Type 0} (n : Name) (h : Entry X → Entry X) (es : List (En
   pub becomes : onFirst (called n) h es ≡ left ++ (h e ∷ right)
   pub place : offset n es ≡ used left
 
-pub spot : {X : Type 0} (n : Name) (h : Entry X → Entry X) (es : List (Entry X)) (e : Entry X) → first (called n) es ≡ some e → Spot n h es e
+spot : {X : Type 0} (n : Name) (h : Entry X → Entry X) (es : List (Entry X)) (e : Entry X) → first (called n) es ≡ some e → Spot n h es e
 unfolding first offset used
 spot n h [] e f = absurd (not-some refl f)
 spot {X} n h (x ∷ es) e f = go (either (called n x)) (spot n h es e)

@@ -10,7 +10,7 @@ use native.Mathlib.Decide.{ℕ-discrete}
 use lib.ListN.{length, getD, length-append}
 use borrow.Author.Tests.{ne-eqb}
 use Rattle.wire.specs.Be.{bytes}
-use Rattle.wire.proofs.Laws.{length-bytes}
+use Rattle.wire.proofs.Numbers.{length-bytes}
 use Rattle.wire.proofs.Picks.{not-both, pick-false, same-refl}
 use Rattle.bits.specs.Bit.{digit, bit}
 use Rattle.bits.proofs.Digits.{digit-zero, digit-suc}
@@ -28,7 +28,7 @@ use Rattle.model.proofs.Full.{good-find, Whole, whole-tree, length-padd
 
 -- ---- the tree
 
-pub called-file : (X : Type 0) (n : Name) (now s : ℕ) (cs : List Cell) → called {X = X} n (fileEntry n now s cs) ≡ true
+called-file : (X : Type 0) (n : Name) (now s : ℕ) (cs : List Cell) → called {X = X} n (fileEntry n now s cs) ≡ true
 unfolding called fileEntry
 called-file X n now s cs = same-refl n
 
@@ -122,7 +122,7 @@ module _ (g : Geo) (d : ℕ) (p : List Name) (n : Name) (t₀ : Tree d) (v : Vac
       long I J t u (remove now o e x) = x .frame .size
 
 -- The tree at the end is the first but for a time.
-pub tree-restored : (g : Geo) (d : ℕ) (p : List Name) (n : Name) (I I′ : List ℕ) (t t′ : Tree d) → Volume g I d t → Vacant d p n t → Run g d p n I t I′ t′ → Vacant d p n t′
+tree-restored : (g : Geo) (d : ℕ) (p : List Name) (n : Name) (I I′ : List ℕ) (t t′ : Tree d) → Volume g I d t → Vacant d p n t → Run g d p n I t I′ t′ → Vacant d p n t′
     → (f : ℕ → ℕ) × (t′ ≡ edit d p f (λ e bs. bs) t)
 tree-restored g d p n I I′ t t′ w v r u =
     let k = good-find (blockSize g) d p t (v .dir) (w .laid .good) (v .there) .packed in

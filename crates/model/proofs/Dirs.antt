@@ -18,12 +18,12 @@ module _ {X : Type 0} where
   abbrev pub Keeps : (Entry X → Entry X) → Type 0
   Keeps h = (e : Entry X) → h e .name ≡ e .name
 
-  pub called-keep : (n : Name) (h : Entry X → Entry X) → Keeps h → (e : Entry X) → called n e ≡ true → called n (h e) ≡ true
+  called-keep : (n : Name) (h : Entry X → Entry X) → Keeps h → (e : Entry X) → called n e ≡ true → called n (h e) ≡ true
   unfolding called
   called-keep n h k e c = ap (same n) (k e) ∙ c
 
   -- the change of one entry, in a block that holds it
-  pub holds-change : (n : Name) (h : Entry X → Entry X) → Keeps h → (b : Block X) → holds n b ≡ true → holds n (fill (onFirst (called n) h) b) ≡ true
+  holds-change : (n : Name) (h : Entry X → Entry X) → Keeps h → (b : Block X) → holds n b ≡ true → holds n (fill (onFirst (called n) h) b) ≡ true
   unfolding holds
   holds-change n h k b c = any-onFirst (called n) h (called-keep n h k) (b .entries) c
 

@@ -27,7 +27,7 @@ module _ {X : Type 0} where
     renew-twice n k (device s c) = refl
     renew-twice n k (sub x) = λ i. record { name = n; time = q k i; node = sub (p x i) }
 
-    pub renewed-twice : (e : Entry X) → renewed f g (renewed f′ g′ e) ≡ renewed f″ g″ e
+    renewed-twice : (e : Entry X) → renewed f g (renewed f′ g′ e) ≡ renewed f″ g″ e
     unfolding renewed
     renewed-twice e = unfold renewed in renew-twice (e .name) (e .time) (e .node)
 

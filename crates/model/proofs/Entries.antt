@@ -6,7 +6,7 @@ use native.Mathlib.Nat.{add-zero, pow-suc}
 use native.Mathlib.Omega.{arith}
 use lib.ListN.{length, getD, replicate, length-append, length-replicate, getD-replicate}
 use Rattle.wire.specs.Be.{be, bytes}
-use Rattle.wire.proofs.Laws.{length-bytes, be-bytes, be-ext}
+use Rattle.wire.proofs.Numbers.{length-bytes, be-bytes, be-ext}
 use Rattle.block.specs.Block.{next}
 use Rattle.model.specs.Tree.{Entry, used}
 use Rattle.model.specs.Render.{View, padded, kindOf, addressOf, sizeOf, entryBytes, entriesBytes, Shows}
@@ -54,7 +54,7 @@ pub record Reads {X : Type 0} (v : View X) (I : List ℕ) (k : ℕ) (e : Entry X
   pub letters : getD I (k + 17) 0 ≡ length (e .name)
   pub name : Shows I (k + 18) (e .name)
 
-pub entry-reads : {X : Type 0} (v : View X) (I : List ℕ) (k : ℕ) (e : Entry X) → Shows I k (entryBytes v e) → Reads v I k e
+entry-reads : {X : Type 0} (v : View X) (I : List ℕ) (k : ℕ) (e : Entry X) → Shows I k (entryBytes v e) → Reads v I k e
 unfolding entryBytes
 entry-reads v I k e s =
     let a : List ℕ = bytes 4 (addressOf v (e .node)) in

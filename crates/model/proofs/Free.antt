@@ -11,7 +11,7 @@ use lib.Seq.{drop-nil}
 use borrow.Author.Tests.{eq-eqb, ne-eqb}
 use Rattle.wire.proofs.Picks.{pick-true, pick-false}
 use Rattle.bits.specs.Bit.{bit, ones}
-use Rattle.bits.proofs.Laws.{bit-lt, ones-none}
+use Rattle.bits.proofs.Bits.{bit-lt, ones-none}
 use Rattle.model.specs.Tree.{Tree}
 use Rattle.model.specs.Render.{blocks, count}
 use Rattle.model.specs.Geometry.{Geo, blockSize, mapAt, dataAt, reach, Sound}
@@ -23,17 +23,17 @@ use Rattle.model.proofs.Areas.{area}
 -- ---- the clear ones of k addresses from a on
 
 -- Of no addresses there is none.
-pub clear-none : (f : ℕ → ℕ) (a : ℕ) → clearFrom f a 0 ≡ []
+clear-none : (f : ℕ → ℕ) (a : ℕ) → clearFrom f a 0 ≡ []
 unfolding clearFrom
 clear-none f a = refl
 
 -- The first is clear, so it stands first.
-pub clear-here : (f : ℕ → ℕ) (a k : ℕ) → f a ≡ 0 → clearFrom f a (suc k) ≡ a ∷ clearFrom f (suc a) k
+clear-here : (f : ℕ → ℕ) (a k : ℕ) → f a ≡ 0 → clearFrom f a (suc k) ≡ a ∷ clearFrom f (suc a) k
 unfolding clearFrom
 clear-here f a k z = pick-true _ _ (eq-eqb (f a) 0 z)
 
 -- The first is marked, so the others are looked at.
-pub clear-there : (f : ℕ → ℕ) (a k : ℕ) → (f a ≡ 0 → ⊥) → clearFrom f a (suc k) ≡ clearFrom f (suc a) k
+clear-there : (f : ℕ → ℕ) (a k : ℕ) → (f a ≡ 0 → ⊥) → clearFrom f a (suc k) ≡ clearFrom f (suc a) k
 unfolding clearFrom
 clear-there f a k z = pick-false _ _ (ne-eqb (f a) 0 z)
 
@@ -53,7 +53,7 @@ clear-ext f h a (suc k) s = go (ℕ-discrete (f a) 0) (s a (omega arith) (omega 
 -- ---- which they are
 
 -- An address that is not of these k or is marked is not among them.
-pub clear-out : (f : ℕ → ℕ) (a k b : ℕ) → (a ≤ b → b < a + k → f b ≡ 0 → ⊥) → count b (clearFrom f a k) ≡ 0
+clear-out : (f : ℕ → ℕ) (a k b : ℕ) → (a ≤ b → b < a + k → f b ≡ 0 → ⊥) → count b (clearFrom f a k) ≡ 0
 clear-out f a zero b h = ap (count b) (clear-none f a) ∙ count-none b
 clear-out f a (suc k) b h = go (ℕ-discrete (f a) 0) (clear-out f (suc a) k b (λ p q z. h (omega arith) (omega arith) z))
   where
@@ -62,7 +62,7 @@ clear-out f a (suc k) b h = go (ℕ-discrete (f a) 0) (clear-out f (suc a) k b (
     go (no z) r = ap (count b) (clear-there f a k z) ∙ r
 
 -- A clear address of the k from a on is among them, once.
-pub clear-in : (f : ℕ → ℕ) (a k b : ℕ) → a ≤ b → b < a + k → f b ≡ 0 → count b (clearFrom f a k) ≡ 1
+clear-in : (f : ℕ → ℕ) (a k b : ℕ) → a ≤ b → b < a + k → f b ≡ 0 → count b (clearFrom f a k) ≡ 1
 clear-in f a zero b p q z = absurd (omega arith)
 clear-in f a (suc k) b p q z = go (ℕ-discrete b a) (ℕ-discrete (f a) 0) (λ h. clear-in f (suc a) k b h (omega arith) z)
   where
@@ -74,7 +74,7 @@ clear-in f a (suc k) b p q z = go (ℕ-discrete b a) (ℕ-discrete (f a) 0) (λ 
     go (no e) (no y) r = ap (count b) (clear-there f a k y) ∙ r (omega arith)
 
 -- What is among them is of these k, and clear.
-pub clear-found : (f : ℕ → ℕ) (a k b : ℕ) → 1 ≤ count b (clearFrom f a k) → (a ≤ b) × (b < a + k) × (f b ≡ 0)
+clear-found : (f : ℕ → ℕ) (a k b : ℕ) → 1 ≤ count b (clearFrom f a k) → (a ≤ b) × (b < a + k) × (f b ≡ 0)
 clear-found f a k b h = go (decLt b a) (decLt b (a + k)) (ℕ-discrete (f b) 0)
   where
     go : Dec (b < a) → Dec (b < a + k) → Dec (f b ≡ 0) → (a ≤ b) × (b < a + k) × (f b ≡ 0)
@@ -84,7 +84,7 @@ clear-found f a k b h = go (decLt b a) (decLt b (a + k)) (ℕ-discrete (f b) 0)
     go (no p) (yes q) (yes z) = (omega arith, q, z)
 
 -- None is among them twice.
-pub clear-once : (f : ℕ → ℕ) (a k b : ℕ) → count b (clearFrom f a k) ≤ 1
+clear-once : (f : ℕ → ℕ) (a k b : ℕ) → count b (clearFrom f a k) ≤ 1
 clear-once f a k b = go (decLt 0 (count b (clearFrom f a k)))
   where
     go : Dec (0 < count b (clearFrom f a k)) → count b (clearFrom f a k) ≤ 1
@@ -139,7 +139,7 @@ lowest-clear f a (suc k) b others l = go (ℕ-discrete a b) (lowest-clear f (suc
         ∙ r (record { from = omega (arith, l .from); below = omega (arith, l .below); clear = l .clear; lowest = λ c p q. l .lowest c (omega arith) q; above = rw m at (l .above) })
 
 -- Marking the first j leaves the others, in order.
-pub clear-drop : (f : ℕ → ℕ) (a k j : ℕ) → clearFrom (λ b. f b + count b (take j (clearFrom f a k))) a k ≡ drop j (clearFrom f a k)
+clear-drop : (f : ℕ → ℕ) (a k j : ℕ) → clearFrom (λ b. f b + count b (take j (clearFrom f a k))) a k ≡ drop j (clearFrom f a k)
 clear-drop f a zero j = clear-none _ a ∙ sym (ap (drop j) (clear-none f a) ∙ drop-nil j)
 clear-drop f a (suc k) j = go (ℕ-discrete (f a) 0) j (clear-drop f (suc a) k)
   where
@@ -161,7 +161,7 @@ clear-drop f a (suc k) j = go (ℕ-discrete (f a) 0) j (clear-drop f (suc a) k)
         subst (Left j) (sym (clear-there f a k z)) (clear-there (λ b. f b + count b (take j left)) a k (λ y. z (omega arith)) ∙ r j)
 
 -- So does any mark that calls just these marked besides.
-pub clear-taken : (f h : ℕ → ℕ) (a k j : ℕ) → SameClear h (λ b. f b + count b (take j (clearFrom f a k))) a k → clearFrom h a k ≡ drop j (clearFrom f a k)
+clear-taken : (f h : ℕ → ℕ) (a k j : ℕ) → SameClear h (λ b. f b + count b (take j (clearFrom f a k))) a k → clearFrom h a k ≡ drop j (clearFrom f a k)
 clear-taken f h a k j s = clear-ext h (λ b. f b + count b (take j (clearFrom f a k))) a k s ∙ clear-drop f a k j
 
 -- One allocation: where the first alone is marked besides, the others are left.
@@ -225,16 +225,7 @@ free-image g I d t v =
         let e : dataAt g + (b - dataAt g) ≡ b = omega arith in
         v .marked (b - dataAt g) (omega (arith, a .reached, a .enough)) ∙ ap (λ (c : ℕ). count c (blocks (blockSize g) d t)) e
 
--- Room as arithmetic: the free blocks and the set bits in reach make up the reach.
-pub free-count : (g : Geo) (I : List ℕ) (d : ℕ) (t : Tree d) → Volume g I d t → length (freeBlocks g d t) + ones I (blockSize g * mapAt g) (reach g) ≡ reach g
-free-count g I d t v = rw (free-image g I d t v) (clear-count I (blockSize g * mapAt g) (dataAt g) (reach g))
-
 module _ (g : Geo) (d : ℕ) (t : Tree d) where
-  -- A block in reach that is not reached is free.
-  pub free-in : (b : ℕ) → dataAt g ≤ b → b < dataAt g + reach g → count b (blocks (blockSize g) d t) ≡ 0 → count b (freeBlocks g d t) ≡ 1
-  unfolding freeBlocks
-  free-in b p q z = clear-in (λ c. count c (blocks (blockSize g) d t)) (dataAt g) (reach g) b p q z
-
   -- No free block is there twice.
   pub free-once : (b : ℕ) → count b (freeBlocks g d t) ≤ 1
   unfolding freeBlocks
@@ -246,12 +237,3 @@ module _ (g : Geo) (d : ℕ) (t : Tree d) where
   free-found len s b h =
       let r = clear-found (λ c. count c (blocks (blockSize g) d t)) (dataAt g) (reach g) b h in
       (r .0, omega (arith, r .1, area g len s .reached), r .2)
-
-  -- A tree that reaches the first j of them besides has the others free, in the same order.
-  pub free-drop : (u : Tree d) (j : ℕ)
-      → ((b : ℕ) → dataAt g ≤ b → b < dataAt g + reach g → count b (blocks (blockSize g) d u) ≡ count b (blocks (blockSize g) d t) + count b (take j (freeBlocks g d t)))
-      → freeBlocks g d u ≡ drop j (freeBlocks g d t)
-  unfolding freeBlocks
-  free-drop u j s =
-      clear-taken (λ c. count c (blocks (blockSize g) d t)) (λ c. count c (blocks (blockSize g) d u)) (dataAt g) (reach g) j
-      (λ b p q. (λ z. sym (s b p q) ∙ z, λ z. s b p q ∙ z))

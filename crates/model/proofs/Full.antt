@@ -8,7 +8,7 @@ use Prim.Native.Nat.{ℕ, zero, suc, _+_, _-_, _≤_}
 use native.Mathlib.Omega.{arith}
 use lib.ListN.{length, length-append, length-replicate, getD}
 use Rattle.wire.specs.Be.{bytes, zeros}
-use Rattle.wire.proofs.Laws.{length-bytes, getD-zeros}
+use Rattle.wire.proofs.Numbers.{length-bytes, getD-zeros}
 use Rattle.wire.proofs.Picks.{either}
 use Rattle.model.specs.Tree.{Name, Cell, Node, file, device, sub, Entry, Block, Below, Tree, first, then, called, holds, lookup, used, inside, Some, find}
 use Rattle.model.specs.Render.{Piece, View, blocksAt, cellsAt, padded, entriesBytes, cellPieces, nodePieces, entryPieces, dirPieces, view, render}
@@ -17,7 +17,7 @@ use Rattle.model.proofs.Alike.{length-entry}
 use Rattle.model.proofs.Edits.{find-sub}
 use Rattle.model.proofs.Lists.{then-some, not-some, all-append, first-here, first-there}
 
-pub all-first : {A : Type 0} (P : A → Type 0) (q : A → Bool) (l : List A) (x : A) → All P l → first q l ≡ some x → P x
+all-first : {A : Type 0} (P : A → Type 0) (q : A → Bool) (l : List A) (x : A) → All P l → first q l ≡ some x → P x
 unfolding first
 all-first P q [] x a f = absurd (not-some refl f)
 all-first {A} P q (y ∷ l) x a f = go (either (q y)) (all-first P q l x (a .1))
@@ -115,7 +115,7 @@ module _ {X : Type 0} (B : ℕ) (large : 5 ≤ B) (S : X → Type 0) (v : View X
     all-append (Whole B) (entryPieces v (b .entries)) (dirPieces B v bs) (whole-entries (b .entries) (g .0 .each)) (whole-dir bs (g .1)),
   )
 
-pub whole-below : (B : ℕ) → 5 ≤ B → (d : ℕ) (x : Below d) → GoodBelow B d x → All (Whole B) (view B d .pieces x)
+whole-below : (B : ℕ) → 5 ≤ B → (d : ℕ) (x : Below d) → GoodBelow B d x → All (Whole B) (view B d .pieces x)
 unfolding GoodBelow view
 whole-below B h zero x g = absurd g
 whole-below B h (suc d) t g = whole-dir B h (GoodBelow B d) (view B d) (λ x s. whole-below B h d x s) t (g .all)

@@ -17,7 +17,7 @@ use Rattle.model.proofs.Dirs.{Keeps}
 use Rattle.model.proofs.Edits.{renewed-name, find-sub}
 use Rattle.model.proofs.Lists.{not-some, then-some, all-append, none-head, none-tail, first-here, first-there, onFirst-here, onFirst-there, lessFirst-here, lessFirst-there}
 
-pub all-onFirst : {A : Type 0} (P : A → Type 0) (q : A → Bool) (h : A → A) (l : List A) → All P l → ((x : A) → first q l ≡ some x → P x → P (h x)) → All P (onFirst q h l)
+all-onFirst : {A : Type 0} (P : A → Type 0) (q : A → Bool) (h : A → A) (l : List A) → All P l → ((x : A) → first q l ≡ some x → P x → P (h x)) → All P (onFirst q h l)
 unfolding onFirst
 all-onFirst P q h [] a s = tt
 all-onFirst {A} P q h (x ∷ l) a s = go (either (q x)) (all-onFirst P q h l (a .1))
@@ -26,7 +26,7 @@ all-onFirst {A} P q h (x ∷ l) a s = go (either (q x)) (all-onFirst P q h l (a 
     go (inl e) r = subst (All P) (sym (onFirst-here q x l e h)) (s x (first-here q x l e) (a .0), a .1)
     go (inr e) r = subst (All P) (sym (onFirst-there q x l e h)) (a .0, r (λ y f. s y (first-there q x l e ∙ f)))
 
-pub all-lessFirst : {A : Type 0} (P : A → Type 0) (q : A → Bool) (l : List A) → All P l → All P (lessFirst q l)
+all-lessFirst : {A : Type 0} (P : A → Type 0) (q : A → Bool) (l : List A) → All P l → All P (lessFirst q l)
 unfolding lessFirst
 all-lessFirst P q [] a = tt
 all-lessFirst {A} P q (x ∷ l) a = go (either (q x)) (all-lessFirst P q l (a .1))
@@ -137,12 +137,12 @@ good-edit B (suc d) (n ∷ p) g f t s h a b q =
 
 -- ---- insert
 
-pub none-named : {X : Type 0} (m : Name) (es : List (Entry X)) → any (called m) es ≡ false → named m es ≡ 0
+none-named : {X : Type 0} (m : Name) (es : List (Entry X)) → any (called m) es ≡ false → named m es ≡ 0
 unfolding named
 none-named m [] n = refl
 none-named m (x ∷ es) n = omega (arith, pick-false {A = ℕ} 1 0 (none-head (called m) x es n), none-named m es (none-tail (called m) x es n))
 
-pub none-in : {X : Type 0} (m : Name) (bs : List (Block X)) → Absent m bs → namedIn m bs ≡ 0
+none-in : {X : Type 0} (m : Name) (bs : List (Block X)) → Absent m bs → namedIn m bs ≡ 0
 unfolding namedIn holds
 none-in m [] n = refl
 none-in m (b ∷ bs) n = omega (arith, none-named m (b .entries) (none-head (holds m) b bs n), none-in m bs (none-tail (holds m) b bs n))

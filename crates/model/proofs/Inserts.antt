@@ -6,32 +6,16 @@ use mathlib.Core.List.{List, [], _∷_, _++_}
 use Prim.Native.Nat.{ℕ, _+_}
 use native.Mathlib.Omega.{arith}
 use lib.Dec.{leb}
-use Rattle.wire.specs.Pick.{pick}
 use Rattle.wire.proofs.Picks.{either, pick-true, pick-false}
-use Rattle.model.specs.Tree.{Entry, Block, any, weight, used, fill, Packed, insert}
-use Rattle.model.specs.Render.{View, blocksAt, nodePieces, entryPieces, dirPieces, count}
-use Rattle.model.specs.Calls.{hasRoom}
-use Rattle.model.proofs.Counts.{tally, tally-append, dir-tally}
+use Rattle.model.specs.Tree.{Entry, Block, weight, used, fill, Packed, insert}
+use Rattle.model.specs.Render.{View, blocksAt, nodePieces, entryPieces}
+use Rattle.model.proofs.Counts.{tally, tally-append}
 
 module _ {X : Type 0} (B cap w : ℕ) (v : View X) (e : Entry X) (i : ℕ) where
   entries-last : (es : List (Entry X)) → tally i (entryPieces v (es ++ (e ∷ []))) ≡ tally i (entryPieces v es) + tally i (nodePieces v (e .node))
   unfolding entryPieces
   entries-last [] = omega (arith, tally-append i (nodePieces v (e .node)) [], tally-append i [] [])
   entries-last (x ∷ es) = omega (arith, tally-append i (nodePieces v (x .node)) (entryPieces v (es ++ (e ∷ []))), tally-append i (nodePieces v (x .node)) (entryPieces v es), entries-last es)
-
-  pub insert-count : (bs : List (Block X)) → tally i (dirPieces B v (insert cap w e bs)) ≡ tally i (dirPieces B v bs) + tally i (nodePieces v (e .node)) + pick (any (hasRoom cap (e .name)) bs) 0 (count i (w ∷ []))
-  unfolding insert hasRoom weight any pick dirPieces entryPieces
-  insert-count [] = omega (arith, dir-tally B v i (record { at = w; entries = e ∷ [] }) [], tally-append i (nodePieces v (e .node)) [], tally-append i [] [])
-  insert-count (b ∷ bs) = go (either (leb (used (b .entries) + weight e) cap)) (insert-count bs)
-    where
-      go : (leb (used (b .entries) + weight e) cap ≡ true) ⊎ (leb (used (b .entries) + weight e) cap ≡ false)
-          → tally i (dirPieces B v (insert cap w e bs)) ≡ tally i (dirPieces B v bs) + tally i (nodePieces v (e .node)) + pick (any (hasRoom cap (e .name)) bs) 0 (count i (w ∷ []))
-          → tally i (dirPieces B v (insert cap w e (b ∷ bs))) ≡ tally i (dirPieces B v (b ∷ bs)) + tally i (nodePieces v (e .node)) + pick (any (hasRoom cap (e .name)) (b ∷ bs)) 0 (count i (w ∷ []))
-      go (inl c) r =
-          rw c
-          (omega (arith, dir-tally B v i (fill (λ es. es ++ (e ∷ [])) b) bs, dir-tally B v i b bs, entries-last (b .entries)))
-      go (inr c) r =
-          rw c (omega (arith, dir-tally B v i b (insert cap w e bs), dir-tally B v i b bs, r))
 
 -- The first block stays.
 pub insert-at : {X : Type 0} (cap w : ℕ) (e : Entry X) (bs : List (Block X)) → Packed bs → blocksAt (insert cap w e bs) ≡ blocksAt bs

@@ -1,31 +1,17 @@
 -- How deep the directory at a path is, and what a directory without entries is.
 use mathlib.Core.Path.{_≡_, refl, sym, ap, subst}
-use mathlib.Core.Option.{some}
 use mathlib.Core.List.{List, [], _∷_}
 use Prim.Native.Nat.{ℕ, zero, suc, _+_, _-_, _^_, _≤_, _<_}
 use native.Mathlib.Omega.{arith}
 use lib.ListN.{length}
-use Rattle.model.specs.Tree.{Name, sub, Entry, Block, Tree, Absent, weight, used, sum, Filled, Packed, Some, find, blank, NoEntries}
+use Rattle.model.specs.Tree.{Name, sub, Entry, Block, Tree, Absent, weight, used, sum, Filled, Packed, blank, NoEntries}
 use Rattle.model.specs.Render.{blocksAt}
-use Rattle.model.specs.Volume.{GoodName, GoodDir, GoodBelow, GoodTree}
+use Rattle.model.specs.Volume.{GoodName, GoodBelow, GoodTree}
 use Rattle.model.specs.Calls.{dirAdded}
 use Rattle.model.proofs.Blank.{blank-good}
-use Rattle.model.proofs.Cuts.{found, sub-of}
 use Rattle.model.proofs.Good.{good-insert}
-use Rattle.model.proofs.Lists.{not-some}
 
 -- ---- depth
-
--- Each name of a path is one level down.
-pub find-depth : (d : ℕ) (p : List Name) (t : Tree d) (s : Some) → find d p t ≡ some s → s .0 + length p ≡ d
-unfolding find
-find-depth zero [] t s f = let k : (zero, t) ≡ s = cc in omega (arith, ap (λ (z : Some). z .0) k)
-find-depth (suc d) [] t s f = let k : (suc d, t) ≡ s = cc in omega (arith, ap (λ (z : Some). z .0) k)
-find-depth zero (n ∷ p) t s f = absurd (not-some refl f)
-find-depth (suc d) (n ∷ p) t s f =
-    let z = found d n p t s f in
-    let y = sub-of d (find d p) s (z .0 .node) (z .2) in
-    omega (arith, find-depth d p (y .0) s (y .2))
 
 -- ---- directories without entries
 
@@ -46,10 +32,6 @@ module _ {X : Type 0} where
   packed-bare (b ∷ bs) k h =
       let r : bs ≡ [] = filled-none bs k (omega arith) in
       ((used-none (b .entries) (omega arith), subst (λ (l : List (Block X)). NoEntries l) (sym r) tt), ap (λ (l : List (Block X)). suc (length l)) r)
-
-  -- A directory of size 0 has no entry, and one block.
-  pub sum-bare : (B : ℕ) (S : X → Type 0) (bs : List (Block X)) → GoodDir B S bs → sum bs ≡ 0 → NoEntries bs × (length bs ≡ 1)
-  sum-bare B S bs g h = packed-bare bs (g .packed) h
 
   -- The size of a directory without entries is 0.
   pub bare-sum : (bs : List (Block X)) → NoEntries bs → sum bs ≡ 0

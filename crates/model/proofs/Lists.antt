@@ -131,13 +131,6 @@ module _ {A : Type 0} (q : A → Bool) where
       go (inl e) r = let both : some y ≡ some x = sym (first-here q y l e) ∙ f in let k : y ≡ x = cc in subst (λ (z : A). q z ≡ true) k e
       go (inr e) r = r (sym (first-there q y l e) ∙ f)
 
-  pub any-first : (l : List A) (x : A) → first q l ≡ some x → any q l ≡ true
-  any-first l x f = go (either (any q l))
-    where
-      go : (any q l ≡ true) ⊎ (any q l ≡ false) → any q l ≡ true
-      go (inl e) = e
-      go (inr e) = absurd (not-some (first-none l e) f)
-
   -- two changes of the first are one
   pub onFirst-twice : (h k : A → A) → ((x : A) → q x ≡ true → q (k x) ≡ true) → (l : List A) → onFirst q h (onFirst q k l) ≡ onFirst q (λ x. h (k x)) l
   unfolding onFirst

@@ -8,12 +8,12 @@ use Prim.Native.Nat.{ℕ, _+_, _≤_, _<_}
 use native.Mathlib.Omega.{arith}
 use native.Mathlib.Decide.{decLt}
 use lib.ListN.{length, length-append, length-replicate}
-use Rattle.wire.proofs.Laws.{length-bytes}
+use Rattle.wire.proofs.Numbers.{length-bytes}
 use Rattle.wire.proofs.Picks.{either, pick-true, pick-false}
 use Rattle.block.specs.Block.{cell, Kept}
-use Rattle.block.proofs.Laws.{kept-refl, kept-less}
+use Rattle.block.proofs.Blocks.{kept-refl, kept-less}
 use Rattle.model.specs.Tree.{Below, Name, Cell, Entry, Block, Tree, then, called, holds, lookup, lessFirst, Some, find}
-use Rattle.model.specs.Render.{Piece, View, blocksAt, dirPieces, view, render, ats, count, blocks}
+use Rattle.model.specs.Render.{Piece, View, blocksAt, dirPieces, view, render, ats, count}
 use Rattle.model.specs.Geometry.{Geo, blockSize, mapAt, dataAt}
 use Rattle.model.specs.Volume.{All, Volume}
 use Rattle.model.specs.Calls.{fileOf, freeBlocks, entryRoom, entryBlock, dirBlock, fileEntry, created, createdDir, emptyCell, deleted, bareLeft, leftoverLater, leftover, rewrite, rewritten, Outside, Makes, TreeCreatesFile, TreeCreatesDir, TreeDeletes, TreeWrites}
@@ -68,7 +68,7 @@ module _ {X : Type 0} (B : ℕ) (v : View X) (i : ℕ) (n : Name) where
   bare-in a z [] = omega arith
   bare-in a z (e ∷ es) = omega (arith, count-none i)
 
-  pub leftover-in : (bs : List (Block X)) → tally i (leftover B n bs) ≤ tally i (dirPieces B v bs)
+  leftover-in : (bs : List (Block X)) → tally i (leftover B n bs) ≤ tally i (dirPieces B v bs)
   leftover-in bs =
       leftover-cases B n (λ cs xs. tally i xs ≤ tally i (dirPieces B v cs)) (λ cs. omega (arith, tally-none i))
       (λ b cs. omega (arith, bare-in (b .at) (blocksAt cs) (lessFirst (called n) (b .entries)), dir-tally B v i b cs)) (λ b cs xs r. omega (arith, r, dir-tally B v i b cs)) bs
@@ -171,14 +171,14 @@ unfolding ats
 none-left g i h = absurd (omega (arith, count-none i))
 
 -- What a delete leaves over is in data blocks.
-pub leftover-range : (g : Geo) (I : List ℕ) (d : ℕ) (t : Tree d) (p : List Name) (n : Name) (s : Some) → Volume g I d t → find d p t ≡ some s → InData g (leftover (blockSize g) n (s .1))
+leftover-range : (g : Geo) (I : List ℕ) (d : ℕ) (t : Tree d) (p : List Name) (n : Name) (s : Some) → Volume g I d t → find d p t ≡ some s → InData g (leftover (blockSize g) n (s .1))
 unfolding tally render
 leftover-range g I d t p n s v f i h =
     v .laid .range i (omega (arith, h, leftover-in (blockSize g) (view (blockSize g) (s .0)) i n (s .1), sub-in (blockSize g) i d p t s f))
 
 module _ (g : Geo) (d : ℕ) (u : Tree d) (left : List Piece) (I J : List ℕ) (m : Makes g d u left I J) where
   -- Blocks that are no part of the volume stay.
-  pub elsewhere-kept : InData g left → Kept (blockSize g) (λ b o. Elsewhere g b) I J
+  elsewhere-kept : InData g left → Kept (blockSize g) (λ b o. Elsewhere g b) I J
   elsewhere-kept r = kept-less (λ b o e. out b e) (m .frame)
     where
       outside : (b : ℕ) → (b ≡ g .K → ⊥) → (mapAt g ≤ b → b < g .n → ⊥) → Outside g d u b × (count b (ats left) ≡ 0)
@@ -191,12 +191,6 @@ module _ (g : Geo) (d : ℕ) (u : Tree d) (left : List Piece) (I J : List ℕ) (
       out b (inl e) = outside b (λ k. omega arith) (λ x y. omega arith)
       out b (inr (inl e)) = outside b (λ k. omega arith) (λ x y. omega arith)
       out b (inr (inr e)) = outside b (λ k. omega arith) (λ x y. omega arith)
-
-  -- Data blocks that are free afterwards stay, those that were freed too, but for what is left over.
-  pub free-kept : Kept (blockSize g) (λ b o. (dataAt g ≤ b) × (count b (blocks (blockSize g) d u) ≡ 0) × (count b (ats left) ≡ 0)) I J
-  free-kept =
-      let a = area g (length J) (m .volume .laid .sound) in
-      kept-less (λ b o e. (record { not-super = λ k. omega arith; not-map = λ h k. omega arith; not-reached = e .1 }, e .2)) (m .frame)
 
 -- No call at a path touches a block that is no part of the volume.
 pub step-elsewhere : (g : Geo) (d : ℕ) (p : List Name) (n : Name) (I J : List ℕ) (t u : Tree d) → Volume g I d t → Step g d p n I t J u → Kept (blockSize g) (λ b o. Elsewhere g b) I J

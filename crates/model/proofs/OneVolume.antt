@@ -7,7 +7,7 @@ use lib.ListN.{length, take, drop, replicate, length-take, length-drop}
 use lib.Seq.{ext-getD, getD-take, getD-drop}
 use Rattle.wire.specs.Be.{bytes}
 use Rattle.wire.specs.Pick.{same}
-use Rattle.wire.proofs.Laws.{length-bytes}
+use Rattle.wire.proofs.Numbers.{length-bytes}
 use Rattle.wire.proofs.Picks.{same-refl}
 use Rattle.block.specs.Block.{blockBytes}
 use Rattle.model.specs.Tree.{Tree, find}
@@ -66,16 +66,16 @@ module _ (g : Geo) (I : List ℕ) (d : ℕ) (t : Tree d) (u : ℕ) (l : Laid g I
       (subst (λ (z : ℕ). Shows I (z * g .K + 10) (bytes 4 (g .n))) size-is (top-is .count))
 
   -- The numbers are those that the superblock at K says.
-  pub laid-geo : g ≡ geoAt (g .K) I
+  laid-geo : g ≡ geoAt (g .K) I
   laid-geo = sound-geo g (length I) (l .sound) ∙ ap (geo (g .K)) (sym laid-count)
 
   -- So is the used count, where four bytes hold it.
-  pub laid-used : u < 2 ^ 32 → usedCount g I ≡ u
+  laid-used : u < 2 ^ 32 → usedCount g I ≡ u
   unfolding usedCount
   laid-used h = be-shown I (blockSize g * g .K + 14) 4 u h (top-is .used)
 
   -- An image that lays out a tree gives none of refusals 1, 2, 3.
-  pub laid-opens : openRefusal (g .K) I ≡ 0
+  laid-opens : openRefusal (g .K) I ≡ 0
   laid-opens =
       let s : Sound (geoAt (g .K) I) (length I) = subst (λ (h : Geo). Sound h (length I)) laid-geo (l .sound) in
       let m : Shows I (blockSize g * g .K) (signature ++ (2 ∷ (0 ∷ [])))
@@ -88,7 +88,7 @@ module _ (g : Geo) (I : List ℕ) (d : ℕ) (t : Tree d) (u : ℕ) (l : Laid g I
 -- ---- one volume
 
 -- The numbers of an image with its superblock at K, whatever tree is laid out by them.
-pub geo-one : (g h : Geo) (I : List ℕ) (d e : ℕ) (t : Tree d) (s : Tree e) (u w : ℕ) → Laid g I d t u → Laid h I e s w → g .K ≡ h .K → g ≡ h
+geo-one : (g h : Geo) (I : List ℕ) (d e : ℕ) (t : Tree d) (s : Tree e) (u w : ℕ) → Laid g I d t u → Laid h I e s w → g .K ≡ h .K → g ≡ h
 geo-one g h I d e t s u w l m k = laid-geo g I d t u l ∙ ap (λ (z : ℕ). geoAt z I) k ∙ sym (laid-geo h I e s w m)
 
 -- The numbers and the tree of a well-formed image.
@@ -105,7 +105,7 @@ well-formed-geo K I v = laid-geo _ I maxDepth (v .tree) _ (v .volume .laid) ∙ 
 -- ---- the used count
 
 -- No more blocks are reached than the data area has.
-pub laid-blocks : (g : Geo) (I : List ℕ) (d : ℕ) (t : Tree d) (u : ℕ) → Laid g I d t u → length (blocks (blockSize g) d t) ≤ g .n - dataAt g
+laid-blocks : (g : Geo) (I : List ℕ) (d : ℕ) (t : Tree d) (u : ℕ) → Laid g I d t u → length (blocks (blockSize g) d t) ≤ g .n - dataAt g
 unfolding find
 laid-blocks g I d t u l = laid-few g I d t u l [] (d, t) refl
 
@@ -121,10 +121,6 @@ module _ (g : Geo) (I : List ℕ) (d : ℕ) (t : Tree d) (v : Volume g I d t) wh
   -- and, in W5's words, D and the number of set bits,
   pub used-set : usedCount g I ≡ dataAt g + setBits I g
   used-set = used-is ∙ ap (λ (z : ℕ). dataAt g + z) (sym (volume-bits g I d t v))
-
-  -- and n at most.
-  pub used-small : usedCount g I ≤ g .n
-  used-small = omega (arith, used-is, used-in)
 
 -- ---- opening
 

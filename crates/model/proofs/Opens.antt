@@ -23,18 +23,6 @@ or-false false b e = (refl, e)
 pub false-or : {a b : Bool} → a ≡ false → b ≡ false → (a || b) ≡ false
 false-or {a} {b} p q = rw p q
 
--- One of two tests holds exactly where the first or the second does.
-pub or-true : (a b : Bool) → (a || b) ≡ true → (a ≡ true) ⊎ (b ≡ true)
-or-true true b e = inl refl
-or-true false b e = inr e
-
-pub or-left : {a : Bool} (b : Bool) → a ≡ true → (a || b) ≡ true
-or-left {a} b p = rw p refl
-
-pub or-right : (a : Bool) {b : Bool} → b ≡ true → (a || b) ≡ true
-or-right true p = refl
-or-right false p = p
-
 -- A test's refusal is k where it holds, and none where it does not.
 pub when-true : (k : ℕ) {b : Bool} → b ≡ true → when k b ≡ k
 unfolding when
@@ -110,7 +98,7 @@ image-good K len w l b =
     false-or (ne-eqb len 0 (λ z. omega arith)) (false-or (ap not (eq-eqb (len % blockBytes) 0 w)) (false-or (le-ltb imageLimit len l) (lt-leb (len / blockBytes) (K + 2) b)))
 
 -- 2 does not hold: signature, version and size code stand at block K.
-pub good-mark : (K : ℕ) (I : List ℕ) → badMark K I ≡ false → same (take 10 (drop (blockBytes * K) I)) (signature ++ (2 ∷ (0 ∷ []))) ≡ true
+good-mark : (K : ℕ) (I : List ℕ) → badMark K I ≡ false → same (take 10 (drop (blockBytes * K) I)) (signature ++ (2 ∷ (0 ∷ []))) ≡ true
 unfolding badMark
 good-mark K I e = not-false _ e
 
@@ -126,7 +114,7 @@ good-count g len e =
     let b = or-false _ _ (a .1) in
     (ltb-false _ _ (a .0), ltb-false _ _ (b .0), eqb-false _ _ (b .1))
 
-pub count-good : (g : Geo) (len : ℕ) → g .n ≤ len / blockSize g → 2 ≤ rest g → (rest g % (mapSize g + 1) ≡ 1 → ⊥) → badCount g len ≡ false
+count-good : (g : Geo) (len : ℕ) → g .n ≤ len / blockSize g → 2 ≤ rest g → (rest g % (mapSize g + 1) ≡ 1 → ⊥) → badCount g len ≡ false
 unfolding badCount
 count-good g len i r m = false-or (le-ltb _ _ i) (false-or (le-ltb _ _ r) (ne-eqb _ _ m))
 
@@ -150,7 +138,7 @@ module _ (K : ℕ) (I : List ℕ) where
   open-0 a b c = passes 1 _ a ∙ passes 2 _ b ∙ passes 3 _ c ∙ first-of-none
 
   -- None of the three tests holds where there is no refusal.
-  pub opened : openRefusal K I ≡ 0 → (badImage K (length I) ≡ false) × (badMark K I ≡ false) × (badCount (geoAt K I) (length I) ≡ false)
+  opened : openRefusal K I ≡ 0 → (badImage K (length I) ≡ false) × (badMark K I ≡ false) × (badCount (geoAt K I) (length I) ≡ false)
   unfolding openRefusal
   opened e =
       let a = passed 1 _ _ (omega arith) e in
@@ -198,7 +186,7 @@ module _ (K len : ℕ) where
   format-0 a b = passes 1 _ a ∙ passes 3 _ b ∙ first-of-none
 
   -- None of the two tests holds where there is no refusal.
-  pub format-passed : formatRefusal K len ≡ 0 → (badImage K len ≡ false) × (badCount (formatGeo K len) len ≡ false)
+  format-passed : formatRefusal K len ≡ 0 → (badImage K len ≡ false) × (badCount (formatGeo K len) len ≡ false)
   unfolding formatRefusal
   format-passed e =
       let a = passed 1 _ _ (omega arith) e in
@@ -208,6 +196,3 @@ module _ (K len : ℕ) where
   -- Format gives no refusal exactly where the numbers that it writes are sound.
   pub format-sound : formatRefusal K len ≡ 0 → Sound (formatGeo K len) len
   format-sound e = let t = format-passed e in tests-sound K (len / blockBytes) len (t .0) (t .1)
-
-  pub sound-format : Sound (formatGeo K len) len → formatRefusal K len ≡ 0
-  sound-format s = format-0 (sound-image K (len / blockBytes) len s) (sound-count K (len / blockBytes) len s)

@@ -5,9 +5,9 @@ use Prim.Native.Nat.{ℕ, suc, _+_, _-_, _*_, _≤_, _<_}
 use native.Mathlib.Omega.{arith}
 use lib.ListN.{length, getD, replicate, length-append, length-replicate}
 use Rattle.wire.specs.Be.{bytes, splice}
-use Rattle.wire.proofs.Laws.{length-bytes}
+use Rattle.wire.proofs.Numbers.{length-bytes}
 use Rattle.block.specs.Block.{cell, Off, Kept}
-use Rattle.block.proofs.Laws.{kept-trans, kept-less, splice-kept}
+use Rattle.block.proofs.Blocks.{kept-trans, kept-less, splice-kept}
 use Rattle.model.specs.Tree.{Name, sub, Tree, weight, sum, Edit, Some}
 use Rattle.model.specs.Render.{Piece, blocksAt, padded, entryBytes, view, render, Shows, ShowsAll}
 use Rattle.model.specs.Geometry.{Geo, blockSize}

@@ -126,7 +126,7 @@ not-above B d n p t s o f k e =
     omega (arith, first-below B d (blocksAt t) p (y .0) s (y .2) k (sym e), entry-in B (blocksAt t) d t n (z .0) (y .0) (z .1) (y .1), o (blocksAt t), count-same (blocksAt t) (blocksAt t) [] refl)
 
 -- One path for an address.
-pub path-one : (B d : ℕ) (p q : List Name) (t : Tree d) (s r : Some) → ((i : ℕ) → tally i (render B d t) ≤ 1) → find d p t ≡ some s → find d q t ≡ some r
+path-one : (B d : ℕ) (p q : List Name) (t : Tree d) (s r : Some) → ((i : ℕ) → tally i (render B d t) ≤ 1) → find d p t ≡ some s → find d q t ≡ some r
     → Packed (s .1) → Packed (r .1) → blocksAt (s .1) ≡ blocksAt (r .1) → p ≡ q
 unfolding find
 path-one B zero [] [] t s r o f h ks kr e = refl

@@ -134,12 +134,12 @@ module _ {X : Type 0} (o : X → Option (List Name)) where
 -- ---- one level down
 
 -- The directory that a name gives is good.
-pub good-down : (B d : ℕ) (n : Name) (t : Tree (suc d)) (e : Entry (Tree d)) (x : Tree d) → GoodTree B (suc d) t → lookup n t ≡ some e → e .node ≡ sub x → GoodTree B d x
+good-down : (B d : ℕ) (n : Name) (t : Tree (suc d)) (e : Entry (Tree d)) (x : Tree d) → GoodTree B (suc d) t → lookup n t ≡ some e → e .node ≡ sub x → GoodTree B d x
 unfolding GoodBelow
 good-down B d n t e x g l k = subst (GoodNode B (GoodBelow B (suc d))) k (good-lookup B (GoodBelow B (suc d)) n t e g l .below)
 
 -- What is found in it by a path is found by the name and the path.
-pub find-down : (d : ℕ) (n : Name) (p : List Name) (t : Tree (suc d)) (s : Some) (e : Entry (Tree d)) (x : Tree d)
+find-down : (d : ℕ) (n : Name) (p : List Name) (t : Tree (suc d)) (s : Some) (e : Entry (Tree d)) (x : Tree d)
     → lookup n t ≡ some e → e .node ≡ sub x → find d p x ≡ some s → find (suc d) (n ∷ p) t ≡ some s
 unfolding find inside
 find-down d n p t s e x l k f = then-some (λ y. inside (find d p) (y .node)) l ∙ ap (inside (find d p)) k ∙ f

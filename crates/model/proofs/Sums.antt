@@ -1,8 +1,8 @@
 -- Every directory's sum fits its four bytes: blocks are distinct and lie in D..n-1.
-use mathlib.Core.Path.{_≡_, refl, ap, subst}
+use mathlib.Core.Path.{_≡_, refl, ap}
 use mathlib.Core.Option.{some}
 use mathlib.Core.List.{List, [], _∷_}
-use Prim.Native.Nat.{ℕ, zero, suc, _+_, _-_, _*_, _^_, _≤_, _<_}
+use Prim.Native.Nat.{ℕ, zero, suc, _+_, _-_, _*_, _≤_, _<_}
 use native.Mathlib.Nat.{mul-suc, mul-le-mul-left}
 use native.Mathlib.Omega.{arith}
 use native.Mathlib.Decide.{ℕ-discrete}
@@ -11,12 +11,10 @@ use lib.ListN.{length}
 use borrow.Author.Tests.{eq-eqb, ne-eqb}
 use Rattle.wire.proofs.Picks.{pick-true, pick-false}
 use Rattle.model.specs.Tree.{Name, Block, Tree, lessFirst, sum, Some, find}
-use Rattle.model.specs.Render.{View, entryPieces, dirPieces, view, render, ats, count, blocks}
+use Rattle.model.specs.Render.{View, entryPieces, dirPieces, ats, count, blocks}
 use Rattle.model.specs.Geometry.{Geo, blockSize, dataAt}
-use Rattle.model.specs.Volume.{All, GoodBlock, GoodBelow, Laid}
+use Rattle.model.specs.Volume.{All, GoodBlock, Laid}
 use Rattle.model.proofs.Counts.{length-ats, count-same, tally}
-use Rattle.model.proofs.Areas.{few}
-use Rattle.model.proofs.Full.{good-find}
 use Rattle.model.proofs.Lists.{lessFirst-here, lessFirst-there}
 use Rattle.model.proofs.Paths.{sub-in}
 
@@ -98,13 +96,3 @@ module _ (g : Geo) (I : List ℕ) (d : ℕ) (t : Tree d) (u : ℕ) (l : Laid g I
       row (g .n - dataAt g) (dataAt g) (blocks (blockSize g) (s .0) (s .1))
       (λ i. omega (arith, sub-in (blockSize g) i d p t s f, l .once i))
       (λ i h. let r = l .range i (omega (arith, h, sub-in (blockSize g) i d p t s f)) in (omega arith, omega arith))
-
-  -- the size of a directory fits its field
-  pub laid-sum : sum (s .1) < 2 ^ 32
-  unfolding render
-  laid-sum =
-      let B : ℕ = blockSize g in
-      let a : sum (s .1) ≤ (B - 5) * length (blocks B (s .0) (s .1)) = sum-blocks B (GoodBelow B (s .0)) (view B (s .0)) (s .1) (good-find B d p t s (l .good) f .all) in
-      let e : B ≡ 512 = ap (λ (c : ℕ). 512 * 2 ^ c) (l .sound .known .1) in
-      let b : sum (s .1) ≤ 507 * length (blocks B (s .0) (s .1)) = subst (λ (z : ℕ). sum (s .1) ≤ (z - 5) * length (blocks B (s .0) (s .1))) e a in
-      omega (arith, b, laid-few, few g (length I) (l .sound))

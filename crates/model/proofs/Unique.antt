@@ -6,7 +6,7 @@ use native.Mathlib.Omega.{arith}
 use lib.ListN.{length, getD, take, drop, length-append}
 use lib.Seq.{take-at, drop-at, ext-getD, getD-at}
 use Rattle.wire.specs.Be.{zeros, be, bytes}
-use Rattle.wire.proofs.Laws.{getD-zeros, length-bytes, be-bytes}
+use Rattle.wire.proofs.Numbers.{getD-zeros, length-bytes, be-bytes}
 use Rattle.model.specs.Tree.{Cell, Node, file, device, sub, Entry, Block, Below, Tree}
 use Rattle.model.specs.Render.{Piece, View, blocksAt, cellsAt, padded, kindOf, addressOf, sizeOf, entryBytes, entriesBytes, cellPieces, nodePieces, entryPieces, dirPieces, view, render, ShowsAll, Shows, ats, count}
 use Rattle.model.specs.Geometry.{Geo, blockSize}
@@ -19,13 +19,13 @@ use Rattle.model.proofs.Lists.{all-left, all-right}
 
 -- ---- lists and numbers
 
-pub append-inj : {A : Type 0} (a a′ b b′ : List A) → length a ≡ length a′ → a ++ b ≡ a′ ++ b′ → (a ≡ a′) × (b ≡ b′)
+append-inj : {A : Type 0} (a a′ b b′ : List A) → length a ≡ length a′ → a ++ b ≡ a′ ++ b′ → (a ≡ a′) × (b ≡ b′)
 append-inj {A} a a′ b b′ k e = (
   sym (take-at a b (length a) refl) ∙ ap (take (length a)) e ∙ take-at a′ b′ (length a) (sym k),
   sym (drop-at a b (length a) refl) ∙ ap (drop (length a)) e ∙ drop-at a′ b′ (length a) (sym k),
 )
 
-pub bytes-inj : (n v w : ℕ) → v < 256 ^ n → w < 256 ^ n → bytes n v ≡ bytes n w → v ≡ w
+bytes-inj : (n v w : ℕ) → v < 256 ^ n → w < 256 ^ n → bytes n v ≡ bytes n w → v ≡ w
 bytes-inj n v w h k e = sym (be-bytes n v h) ∙ ap (λ (l : List ℕ). be n l 0) e ∙ be-bytes n w k
 
 -- two lists that the image has at one place
@@ -44,7 +44,7 @@ cells-small [] a = omega arith
 cells-small (c ∷ cs) a = a .0 .1
 
 module _ (B : ℕ) (I : List ℕ) where
-  pub cells-one : (cs ds : List Cell) → All (GoodCell B) cs → All (GoodCell B) ds → All Small (cellPieces cs) → All Small (cellPieces ds)
+  cells-one : (cs ds : List Cell) → All (GoodCell B) cs → All (GoodCell B) ds → All Small (cellPieces cs) → All Small (cellPieces ds)
       → ShowsAll B I (cellPieces cs) → ShowsAll B I (cellPieces ds) → cellsAt cs ≡ cellsAt ds → cs ≡ ds
   unfolding cellPieces cellsAt
   cells-one [] [] g h s u a b e = refl
@@ -195,7 +195,7 @@ module _ {X : Type 0} (B : ℕ) (large : 5 ≤ B) (I : List ℕ) (S : X → Type
   blocks-small [] s = omega arith
   blocks-small (b ∷ bs) s = s .0 .1
 
-  pub dir-one : (bs cs : List (Block X)) → All (GoodBlock B S) bs → All (GoodBlock B S) cs → All Small (dirPieces B v bs) → All Small (dirPieces B v cs)
+  dir-one : (bs cs : List (Block X)) → All (GoodBlock B S) bs → All (GoodBlock B S) cs → All Small (dirPieces B v bs) → All Small (dirPieces B v cs)
       → ShowsAll B I (dirPieces B v bs) → ShowsAll B I (dirPieces B v cs) → blocksAt bs ≡ blocksAt cs → bs ≡ cs
   unfolding dirPieces blocksAt
   dir-one [] [] g h s u a b e = refl
@@ -239,7 +239,7 @@ below-one B l I zero x y g h s u a b e = absurd x
 below-one B l I (suc d) x y g h s u a b e =
     dir-one B l I (GoodBelow B d) (view B d) (from-small B d) (below-one B l I d) x y (g .all) (h .all) s u a b e
 
-pub tree-one : (B : ℕ) → 5 ≤ B → (I : List ℕ) (d : ℕ) (t u : Tree d) → GoodTree B d t → GoodTree B d u → All Small (render B d t) → All Small (render B d u)
+tree-one : (B : ℕ) → 5 ≤ B → (I : List ℕ) (d : ℕ) (t u : Tree d) → GoodTree B d t → GoodTree B d u → All Small (render B d t) → All Small (render B d u)
     → ShowsAll B I (render B d t) → ShowsAll B I (render B d u) → blocksAt t ≡ blocksAt u → t ≡ u
 unfolding render
 tree-one B l I d t u g h s r a b e = dir-one B l I (GoodBelow B d) (view B d) (from-small B d) (below-one B l I d) t u (g .all) (h .all) s r a b e

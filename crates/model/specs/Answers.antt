@@ -1,5 +1,5 @@
 -- 0. How an answer is said: a value, or the number of a refusal (the rules R). Definitions alone.
-use mathlib.Core.Bool.{Bool, true, false}
+use mathlib.Core.Bool.{Bool}
 use mathlib.Core.List.{List, [], _∷_}
 use Prim.Native.Nat.{ℕ, zero, suc}
 use Rattle.wire.specs.Pick.{pick}

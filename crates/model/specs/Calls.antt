@@ -1,6 +1,6 @@
 -- 5. The changing calls, exactly: what each makes of the tree, and of the image around it. Definitions alone.
 use mathlib.Core.Path.{_≡_}
-use mathlib.Core.Bool.{Bool, true, false}
+use mathlib.Core.Bool.{Bool}
 use mathlib.Core.Option.{Option, none, some}
 use mathlib.Core.List.{List, [], _∷_, _++_}
 use Prim.Native.Nat.{ℕ, zero, suc, _+_, _-_, _*_, _≤_, _<_}
@@ -9,7 +9,7 @@ use lib.ListN.{length, getD, take, drop}
 use Rattle.wire.specs.Be.{bytes, splice, zeros}
 use Rattle.wire.specs.Pick.{pick}
 use Rattle.block.specs.Block.{Kept}
-use Rattle.model.specs.Tree.{Name, Cell, Node, file, device, sub, Entry, Block, Tree, any, first, then, orElse, entriesOf, called, holds, lookup, lessFirst, used, inside, Absent, insert, change, delete, Edit, edit, Some, find, blank, Bare}
+use Rattle.model.specs.Tree.{Name, Cell, Node, file, device, sub, Entry, Block, Tree, any, then, orElse, entriesOf, called, holds, lookup, lessFirst, used, inside, Absent, insert, change, delete, Edit, edit, Some, find, blank, Bare}
 use Rattle.model.specs.Render.{Piece, blocksAt, blocks, ats, count, ShowsAll}
 use Rattle.model.specs.Geometry.{Geo, blockSize, mapAt, dataAt, reach}
 use Rattle.model.specs.Volume.{GoodName, fileLimit, blocksFor, Volume}

@@ -1,6 +1,5 @@
 -- 2. The bytes of a tree: every block that it reaches, with all its bytes. B is the block size. Definitions alone.
 use mathlib.Core.Path.{_≡_}
-use mathlib.Core.Bool.{Bool, true, false}
 use mathlib.Core.Option.{Option, none, some}
 use mathlib.Core.List.{List, [], _∷_, _++_}
 use Prim.Native.Nat.{ℕ, zero, suc, _+_, _-_, _*_, _≤_, _<_}
@@ -8,7 +7,7 @@ use lib.Dec.{eqb}
 use lib.ListN.{length, getD, replicate}
 use Rattle.wire.specs.Be.{bytes}
 use Rattle.wire.specs.Pick.{pick}
-use Rattle.model.specs.Tree.{Name, Cell, Node, file, device, sub, Entry, Block, Below, Tree, then, called, holds, lookup, weight, used, sum, inside}
+use Rattle.model.specs.Tree.{Name, Cell, Node, file, device, sub, Entry, Block, Below, Tree, then, called, holds, lookup, weight, sum, inside}
 
 -- A block's address and all its bytes.
 pub record Piece : Type 0 where

@@ -5,7 +5,7 @@ use mathlib.Core.List.{List, []}
 use Prim.Native.Nat.{ℕ, _+_, _-_, _*_, _≤_, _<_}
 use lib.ListN.{length, getD}
 use Rattle.model.specs.Tree.{Name, Cell, Tree}
-use Rattle.model.specs.Render.{Piece, blocks, count, ownTime, InTime}
+use Rattle.model.specs.Render.{blocks, count, ownTime, InTime}
 use Rattle.model.specs.Geometry.{Geo, blockSize, mapAt, dataAt}
 use Rattle.model.specs.Calls.{Vacant, Occupied, created, rewritten, deleted, entryRoom, leftover, Makes}
 

@@ -6,7 +6,7 @@ use Prim.Native.Nat.{ℕ, zero, suc, _+_, _^_, _≤_, _<_}
 use native.Mathlib.Omega.{arith}
 use lib.ListN.{length}
 use Rattle.block.specs.Block.{cell, Off, Kept}
-use Rattle.block.proofs.Laws.{kept-trans, kept-less}
+use Rattle.block.proofs.Blocks.{kept-trans, kept-less}
 use Rattle.model.specs.Tree.{Name, Tree, sum, Edit, edit, Some, find}
 use Rattle.model.specs.Render.{Piece, blocksAt, render, ats, count, blocks, ownTime, ShowsAll}
 use Rattle.model.specs.Geometry.{Geo, blockSize, mapAt, dataAt, mapBits, superBytes, Sound}
@@ -23,7 +23,7 @@ use Rattle.model.proofs.Lists.{not-some}
 use Rattle.model.proofs.Owns.{renewedAt, shows-kept, own-kept, own-renewed}
 use Rattle.model.proofs.Paths.{sub-in}
 use Rattle.bitmap_block.specs.Bitmap.{mark}
-use Rattle.bitmap_block.proofs.Steps.{mark-is, mark-kept}
+use Rattle.bitmap_block.proofs.Stores.{mark-is, mark-kept}
 use Rattle.dir_entry.specs.Entry.{placeAt}
 use Rattle.read_dir.specs.declared.Summed.{Summed}
 use Rattle.read_dir.specs.Walk.{walk}

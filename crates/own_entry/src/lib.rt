@@ -5,7 +5,6 @@ use read_dir::Place;
 use read_dir::Summed;
 use super_block::SuperBlock;
 ghost use mathlib.Core.Path.{_≡_};
-ghost use lib.ListN.{length};
 ghost use Rattle.block.specs.Block.{blockBytes};
 ghost use Rattle.super_block.specs.Super.{geoOf, Fit};
 ghost use Rattle.own_entry.specs.Own.{OwnIn, ownRenewed, sumRenewed};

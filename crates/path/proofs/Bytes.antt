@@ -3,7 +3,7 @@ use mathlib.Core.Path.{_≡_, refl, sym, ap, _∙_, subst}
 use mathlib.Core.Bool.{Bool, true, false, not, _||_, _&&_, or-true, and-true, and-false}
 use mathlib.Core.Logic.{_⊎_, inl, inr}
 use mathlib.Core.List.{List, [], _∷_, _++_, append-assoc}
-use Prim.Native.Nat.{ℕ, zero, suc, _+_, _-_, _≤_, _<_}
+use Prim.Native.Nat.{ℕ, suc, _+_, _-_, _≤_, _<_}
 use native.Mathlib.Nat.{zero-add}
 use native.Mathlib.Omega.{arith}
 use lib.Dec.{ltb, leb, eqb}
@@ -12,7 +12,7 @@ use lib.Seq.{take-length}
 use borrow.Author.Tests.{lt-leb, lt-ltb, le-ltb, leb-true, leb-false, eq-eqb, ne-eqb, eqb-true}
 use Rattle.wire.specs.Be.{splice}
 use Rattle.wire.specs.Pick.{pick}
-use Rattle.wire.proofs.Laws.{length-splice, splice-append}
+use Rattle.wire.proofs.Numbers.{length-splice, splice-append}
 use Rattle.wire.proofs.Picks.{either, not-both, pick-true, pick-false}
 use Rattle.text.specs.Text.{isText}
 use Rattle.text.proofs.Laws.{text-slash, text-none}
@@ -81,7 +81,7 @@ text-joined cwd p = go (either (endsSlash cwd))
 -- ---- a path that starts with a slash
 
 module _ (cwd p : List ℕ) (h : startsSlash p ≡ true) where
-  pub real-plain : realPath cwd p ≡ p
+  real-plain : realPath cwd p ≡ p
   unfolding realPath
   real-plain = pick-true _ _ h
 
@@ -92,7 +92,7 @@ module _ (cwd p : List ℕ) (h : startsSlash p ≡ true) where
 -- ---- a path that doesn't, with k slashes before it
 
 module _ (cwd p : List ℕ) (k : ℕ) (h : startsSlash p ≡ false) (g : replicate k slash ≡ joint cwd) where
-  pub real-joined : realPath cwd p ≡ cwd ++ (replicate k slash ++ p)
+  real-joined : realPath cwd p ≡ cwd ++ (replicate k slash ++ p)
   unfolding realPath
   real-joined = pick-false _ _ h ∙ rw g
 
@@ -111,7 +111,8 @@ bad-byte : (cwd p : List ℕ) → isText (realPath cwd p) ≡ false → badPath 
 unfolding badPath
 bad-byte cwd p h = simp (h, or-true)
 
-good-joined : (cwd p : List ℕ) → startsSlash cwd ≡ true → length (realPath cwd p) ≤ pathLimit → isText (realPath cwd p) ≡ true → badPath cwd p ≡ false
+good-joined : (cwd p : List ℕ) → startsSlash cwd ≡ true → length (realPath cwd p) ≤ pathLimit → isText (realPath cwd p) ≡ true
+    → badPath cwd p ≡ false
 unfolding badPath
 good-joined cwd p h k m = rw (h, le-ltb pathLimit (length (realPath cwd p)) k, m) (go (startsSlash p))
   where
@@ -164,7 +165,8 @@ module _ (l p : List ℕ) where
   pub plain-byte : (t : Bool) → t ≡ isText p → t ≡ false → PathIs (ltb pathLimit (length p) || not (isText p)) p l l Refused
   plain-byte t e h = record { refused = rw (← e, h) (or-true (ltb pathLimit (length p))); kept = refl }
 
-  pub plain-good : (m : List ℕ) (t : Bool) → t ≡ isText p → t ≡ true → length p ≤ pathLimit → m ≡ splice l 0 (take (length p) (drop 0 p))
+  pub plain-good : (m : List ℕ) (t : Bool) → t ≡ isText p → t ≡ true → length p ≤ pathLimit
+      → m ≡ splice l 0 (take (length p) (drop 0 p))
       → PathIs (ltb pathLimit (length p) || not (isText p)) p l m (Len (length p))
   plain-good m t e h k x =
       record { good = rw (← e, h, le-ltb pathLimit (length p) k); long = refl; fits = k; stored = copied l p m 0 x }
@@ -184,7 +186,11 @@ module _ (cwd p l : List ℕ) (h : startsSlash p ≡ false) where
     joined-first e f = record { refused = bad-byte cwd p (rw (joined-bytes cwd p k h g, ← e, f)); kept = refl }
 
     pub joined-second : t ≡ isText p → t ≡ false → RealIs cwd p l l Refused
-    joined-second e f = record { refused = bad-byte cwd p (rw (joined-bytes cwd p k h g, ← e, f) (and-false (isText cwd))); kept = refl }
+    joined-second e f = record {
+      refused = bad-byte cwd p
+          (rw (joined-bytes cwd p k h g, ← e, f) (and-false (isText cwd)));
+      kept = refl;
+    }
 
   pub joined-good : (k : ℕ) → replicate k slash ≡ joint cwd → (m : List ℕ) (s t u v : Bool) → s ≡ startsSlash cwd → s ≡ true
       → t ≡ leb (length cwd + (k + length p)) pathLimit → t ≡ true → u ≡ isText cwd → u ≡ true → v ≡ isText p → v ≡ true
@@ -192,7 +198,8 @@ module _ (cwd p l : List ℕ) (h : startsSlash p ≡ false) where
   joined-good k g m s t u v es fs et ft eu fu ev fv x =
       let q : length cwd + (k + length p) ≤ pathLimit = leb-true (length cwd + (k + length p)) pathLimit (sym et ∙ ft) in
       record {
-        good = good-joined cwd p (sym es ∙ fs) (rw (joined-length cwd p k h g) q) (rw (joined-bytes cwd p k h g, ← eu, ← ev, fu, fv));
+        good = good-joined cwd p (sym es ∙ fs) (rw (joined-length cwd p k h g) q)
+            (rw (joined-bytes cwd p k h g, ← eu, ← ev, fu, fv));
         long = sym (joined-length cwd p k h g);
         fits = q;
         stored = rw (real-joined cwd p k h g) x;

@@ -105,7 +105,7 @@ module _ (full : List ℕ) (end n : ℕ) (inside : end ≤ length full) (below :
 -- ---- the parts
 
 -- what is taken first and then dropped
-pub drop-take : (a e : ℕ) (l : List ℕ) → drop a (take e l) ≡ between l a e
+drop-take : (a e : ℕ) (l : List ℕ) → drop a (take e l) ≡ between l a e
 drop-take zero e l = rw sub-zero
 drop-take (suc a) zero l = rw zero-sub
 drop-take (suc a) (suc e) [] = sym (take-nil (suc e - suc a))

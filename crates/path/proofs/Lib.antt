@@ -1,5 +1,5 @@
 pub mod Bytes
 pub mod Ends
 pub mod Examples
-pub mod Laws
+pub mod FullPaths
 pub mod Pieces

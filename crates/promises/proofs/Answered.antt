@@ -11,9 +11,9 @@ use Rattle.file.specs.declared.Outcome.the-variants as outcome
 use Rattle.file.specs.declared.Counted.{Counted}
 use Rattle.file.specs.declared.Counted.the-variants as counted
 use Rattle.file.specs.Written.{countedSays}
-use Rattle.mfs.specs.declared.Answer.{Answer}
-use Rattle.mfs.specs.declared.Answer.the-variants as answer
-use Rattle.mfs.specs.Says.{says, soughtSays, onAnswer}
+use Rattle.call_volume.specs.declared.Answer.{Answer}
+use Rattle.call_volume.specs.declared.Answer.the-variants as answer
+use Rattle.call_volume.specs.Says.{says, soughtSays, onAnswer}
 
 pub answer-is : (r : Answer) → (r ≡ answer.Success) ⊎ ((x : Refusal) × (r ≡ answer.Refused x))
 answer-is answer.Success = inl refl

@@ -19,8 +19,8 @@ use Rattle.model.proofs.Opens.{when-true, when-false, first-of-none, first-of-h
 use Rattle.check_bitmap.specs.Tally.{markLong}
 use Rattle.check_volume.specs.Whole.{whole}
 use Rattle.check_volume.proofs.Wholes.{whole-complete}
-use Rattle.mfs.specs.Checking.{checkCall, checkRefusal}
-use Rattle.mfs.proofs.Checked.{check-passed}
+use Rattle.call_volume.specs.Checking.{checkCall, checkRefusal}
+use Rattle.call_volume.proofs.Checked.{check-passed}
 use Rattle.promises.specs.Exact.{CheckIsExact}
 
 -- a test in a list gives its number, or what follows it answers

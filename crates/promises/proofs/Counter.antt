@@ -25,9 +25,9 @@ use Rattle.file.specs.OnTree.{FileIn, OnFile, Stale}
 use Rattle.file.specs.Writing.{targetOf, countOf}
 use Rattle.file.specs.Written.{countedSays}
 use Rattle.file.proofs.Targets.{accepted-is, stale-is}
-use Rattle.mfs.specs.Checking.{checkRefusal}
-use Rattle.mfs.specs.Changing.{Writes, writeReply}
-use Rattle.mfs.proofs.Paths.{given-none}
+use Rattle.call_volume.specs.Checking.{checkRefusal}
+use Rattle.call_change.specs.Changing.{Writes, writeReply}
+use Rattle.call_read.proofs.Paths.{given-none}
 use Rattle.thm_calls.proofs.Changing.{volume-at, write-passed, write-before, write-kept}
 use Rattle.promises.specs.Counter.{StaleAtEntry}
 use Rattle.promises.proofs.Answered.{counted-is}

@@ -19,16 +19,16 @@ use Rattle.check_bitmap.specs.Tally.{markLong}
 use Rattle.dir_entry.specs.declared.Kind.{Kind}
 use Rattle.dir_entry.specs.declared.Kind.the-variants.{Dir, File}
 use Rattle.path.specs.Path.{realPath, badPath, pathRefusal}
-use Rattle.path.proofs.Laws.{real-bytes}
+use Rattle.path.proofs.FullPaths.{real-bytes}
 use Rattle.thm_path.specs.Shown.{wayTo}
 use Rattle.create.specs.Creating.{Site, Fresh, badName, siteIn, siteOf, freshOf, createdOn}
 use Rattle.create.specs.OnTree.{treeRefusal}
 use Rattle.create.proofs.Trees.{answer-is, created-block}
-use Rattle.mfs.specs.declared.Answer.{Answer}
-use Rattle.mfs.specs.declared.OpenOut.{OpenOut}
-use Rattle.mfs.specs.Says.{says}
-use Rattle.mfs.specs.Reading.{openSays}
-use Rattle.mfs.specs.Changing.{createReply, freshHandle, plainly, CreatesFile, CreatesDir}
+use Rattle.call_volume.specs.declared.Answer.{Answer}
+use Rattle.call_read.specs.declared.OpenOut.{OpenOut}
+use Rattle.call_volume.specs.Says.{says}
+use Rattle.call_read.specs.Reading.{openSays}
+use Rattle.call_change.specs.Changing.{createReply, freshHandle, plainly, CreatesFile, CreatesDir}
 use Rattle.thm_calls.specs.Named.{wayOf, lastOf}
 use Rattle.thm_calls.proofs.Changing.{volume-at}
 use Rattle.promises.specs.Refusals.{freshIn, createAnswer}

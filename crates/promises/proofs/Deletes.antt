@@ -33,9 +33,9 @@ use Rattle.thm_path.proofs.Finds.{lookup-or, find-missing}
 use Rattle.thm_path.proofs.Holding.{hold-is, hold-some}
 use Rattle.delete.specs.Deleting.{Doomed, doomedIn, doomedOf, deletedOn}
 use Rattle.delete.proofs.OnVolume.{bare-accepted, full-refused}
-use Rattle.mfs.specs.declared.Answer.{Answer}
-use Rattle.mfs.specs.Says.{says}
-use Rattle.mfs.specs.Changing.{changeCall, Deletes}
+use Rattle.call_volume.specs.declared.Answer.{Answer}
+use Rattle.call_volume.specs.Says.{says}
+use Rattle.call_change.specs.Changing.{changeCall, Deletes}
 use Rattle.thm_calls.specs.Named.{wayOf, lastOf}
 use Rattle.thm_calls.proofs.Changing.{volume-at}
 use Rattle.promises.specs.Refusals.{Spot, entryAt, hasEntry, deleteAnswer}

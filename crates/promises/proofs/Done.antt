@@ -19,9 +19,9 @@ use Rattle.file.specs.declared.Counted.the-variants as counted
 use Rattle.file.specs.File.{nameOf}
 use Rattle.file.specs.Written.{countedSays}
 use Rattle.file.proofs.Targets.{accepted-is}
-use Rattle.mfs.specs.Says.{soughtSays}
-use Rattle.mfs.specs.Reading.{Reads}
-use Rattle.mfs.specs.Changing.{Writes}
+use Rattle.call_volume.specs.Says.{soughtSays}
+use Rattle.call_read.specs.Reading.{Reads}
+use Rattle.call_change.specs.Changing.{Writes}
 use Rattle.thm_calls.proofs.Changing.{volume-at, tree-after, write-passed, write-tree}
 use Rattle.thm_calls.proofs.ReadsBack.{bytes-written, write-seek, write-read}
 use Rattle.promises.specs.Work.{FileOf, ReadsBack}
@@ -50,7 +50,7 @@ module _ (K : ℕ) (I W : List ℕ) (h : Handle) (buf : List ℕ) (now : ℕ) (o
     done = write-tree K I W h buf now o J Z c k w clock counts
 
     -- The handle names a file,
-    pub file-before : FileOf h (w .tree)
+    file-before : FileOf h (w .tree)
     file-before =
         record {
           path = done .0;

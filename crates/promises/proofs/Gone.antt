@@ -14,9 +14,9 @@ use Rattle.model.proofs.Edits.{find-edit}
 use Rattle.model.proofs.Full.{good-find}
 use Rattle.model.proofs.Lists.{any-there, lessFirst-here, lessFirst-there}
 use Rattle.model.proofs.Reached.{named-entries}
-use Rattle.mfs.specs.declared.Answer.{Answer}
-use Rattle.mfs.specs.declared.Answer.the-variants as answer
-use Rattle.mfs.specs.Changing.{Deletes}
+use Rattle.call_volume.specs.declared.Answer.{Answer}
+use Rattle.call_volume.specs.declared.Answer.the-variants as answer
+use Rattle.call_change.specs.Changing.{Deletes}
 use Rattle.thm_calls.specs.Named.{wayOf, lastOf}
 use Rattle.thm_calls.proofs.Changing.{volume-at, tree-after, delete-tree}
 use Rattle.promises.proofs.Lookups.{delete-entries}

@@ -41,8 +41,8 @@ use Rattle.file.specs.Written.{countedSays}
 use Rattle.file.proofs.Seeks.{fresh}
 use Rattle.file.proofs.Aims.{aim-empty}
 use Rattle.file.proofs.Targets.{accepted-is, no-room, stale-is, long-is}
-use Rattle.mfs.specs.Reading.{size, area, end, readCall, Reads}
-use Rattle.mfs.specs.Changing.{writeReply, Writes}
+use Rattle.call_read.specs.Reading.{size, area, end, readCall, Reads}
+use Rattle.call_change.specs.Changing.{writeReply, Writes}
 use Rattle.thm_calls.specs.Handles.{HandleOf}
 use Rattle.thm_calls.proofs.Calls.{read-file, read-bytes}
 use Rattle.thm_calls.proofs.FileReads.{FileThere, handle-or}

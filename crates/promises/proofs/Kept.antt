@@ -20,10 +20,10 @@ use Rattle.file.specs.declared.Handle.{Handle}
 use Rattle.file.specs.declared.Counted.the-variants as counted
 use Rattle.file.specs.declared.WriteOut.{WriteOut}
 use Rattle.file.specs.File.{nameOf}
-use Rattle.mfs.specs.declared.Answer.{Answer}
-use Rattle.mfs.specs.declared.Answer.the-variants as answer
-use Rattle.mfs.specs.declared.OpenOut.{OpenOut}
-use Rattle.mfs.specs.Changing.{CreatesFile, CreatesDir, Deletes, Writes}
+use Rattle.call_volume.specs.declared.Answer.{Answer}
+use Rattle.call_volume.specs.declared.Answer.the-variants as answer
+use Rattle.call_read.specs.declared.OpenOut.{OpenOut}
+use Rattle.call_change.specs.Changing.{CreatesFile, CreatesDir, Deletes, Writes}
 use Rattle.thm_calls.specs.Named.{wayOf, lastOf}
 use Rattle.thm_calls.proofs.Changing.{volume-at, tree-after, create-file-tree, create-dir-tree, delete-tree, write-tree}
 use Rattle.promises.specs.Sequence.{Leads}

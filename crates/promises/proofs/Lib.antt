@@ -17,7 +17,7 @@ pub mod Refusals
 pub mod Well
 pub mod Reopened
 pub mod Done
-pub mod Made
+pub mod CreateLeaves
 pub mod Gone
 pub mod Kept
 pub mod Work

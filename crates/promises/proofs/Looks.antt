@@ -28,12 +28,12 @@ use Rattle.dir.specs.Resolve.{held}
 use Rattle.thm_path.specs.Shown.{wayTo}
 use Rattle.thm_path.proofs.Finds.{sum-is}
 use Rattle.thm_path.proofs.Resolves.{lookup-name, resolve-way}
-use Rattle.mfs.specs.declared.OpenOut.{OpenOut}
-use Rattle.mfs.specs.declared.InfoOut.{InfoOut}
-use Rattle.mfs.specs.declared.Listing.{Listing}
-use Rattle.mfs.specs.Reading.{size, area, end, pathCall, openEntry, openOn, openReply, openSays, Opens, About, about, aboutEntry}
-use Rattle.mfs.specs.Reading.{aboutRoot, infoOn, infoReply, infoSays, Informs, Counts, listOn, listReply, recordsOn, onReply}
-use Rattle.mfs.specs.Reading.{listSays, Lists}
+use Rattle.call_read.specs.declared.OpenOut.{OpenOut}
+use Rattle.call_read.specs.declared.InfoOut.{InfoOut}
+use Rattle.call_read.specs.declared.Listing.{Listing}
+use Rattle.call_read.specs.Reading.{size, area, end, pathCall, openEntry, openOn, openReply, openSays, Opens, About, about, aboutEntry}
+use Rattle.call_read.specs.Reading.{aboutRoot, infoOn, infoReply, infoSays, Informs, Counts, listOn, listReply, recordsOn, onReply}
+use Rattle.call_read.specs.Reading.{listSays, Lists}
 use Rattle.thm_calls.specs.Named.{wayOf, lastOf, allOf}
 use Rattle.thm_calls.proofs.Calls.{list-counts, list-records}
 use Rattle.thm_calls.proofs.Changing.{volume-at}

@@ -7,14 +7,14 @@ use lib.ListN.{length}
 use Rattle.wire.specs.Be.{splice}
 use Rattle.model.specs.Answers.{Reply, refused, reply, settle}
 use Rattle.file.specs.Post.{MovedIs, CountedIs}
-use Rattle.mfs.specs.declared.Answer.{Answer}
-use Rattle.mfs.specs.Says.{IfRefused}
-use Rattle.mfs.specs.Reading.{Counts, noHandle, noAbout, aboutOf, onReply, size, area, end, recordsOn, readCall}
+use Rattle.call_volume.specs.declared.Answer.{Answer}
+use Rattle.call_volume.specs.Says.{IfRefused}
+use Rattle.call_read.specs.Reading.{Counts, noHandle, noAbout, aboutOf, onReply, size, area, end, recordsOn, readCall}
 use Rattle.file.specs.File.{bytesRead}
 use Rattle.path.specs.Path.{realPath}
 use Rattle.mfs.proofs.Outcomes.{format-one, usage-one, open-one, info-one, list-one, read-one, seek-one, create-file-one}
 use Rattle.mfs.proofs.Outcomes.{create-dir-one, delete-one, write-one}
-use Rattle.mfs.proofs.Checked.{check-one}
+use Rattle.call_volume.proofs.Checked.{check-one}
 use Rattle.thm_calls.proofs.Changing.{create-file-kept, create-dir-kept, delete-kept, write-kept}
 use Rattle.promises.specs.Once.{OneOutcome, RefusalKeeps}
 use Rattle.promises.proofs.Answered.{value-refused, refusal-said, count-refused, sought-refused}

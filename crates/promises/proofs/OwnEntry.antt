@@ -4,9 +4,7 @@ use mathlib.Core.List.{List}
 use Prim.Native.Nat.{ℕ}
 use Rattle.model.specs.Answers.{accepted}
 use Rattle.model.specs.Geometry.{geoAt, blockSize, dataAt}
-use Rattle.model.specs.Volume.{maxDepth}
 use Rattle.model.specs.Steps.{Bytes}
-use Rattle.limits.proofs.Numbers.{number-few}
 use Rattle.super_block.specs.declared.SuperBlock.{SuperBlock}
 use Rattle.super_block.specs.Super.{superBlock, Fit}
 use Rattle.super_block.proofs.Fits.{opened-fit}
@@ -14,12 +12,8 @@ use Rattle.own_entry.specs.Own.{OwnIn}
 use Rattle.path.specs.Path.{realPath, dirPart}
 use Rattle.dir.specs.Hold.{Hold, holdDir}
 use Rattle.dir.proofs.HoldLaws.{hold-inside, hold-numbers}
-use Rattle.thm_path.proofs.Holding.{own-there}
-use Rattle.mfs.specs.Checking.{checkRefusal}
-use Rattle.mfs.proofs.Checked.{check-passed}
-use Rattle.thm_calls.specs.Named.{wayOf}
-use Rattle.thm_calls.proofs.Changing.{volume-at}
-use Rattle.promises.specs.OwnEntry.{OwnEntryThere}
+use Rattle.call_volume.specs.Checking.{checkRefusal}
+use Rattle.call_volume.proofs.Checked.{check-passed}
 
 own-inside : (K : ℕ) (I : List ℕ) (len : ℕ) → Bytes I → checkRefusal K I len ≡ 0 → (cwd p : List ℕ) (h : Hold)
     → holdDir (blockSize (geoAt K I)) (dataAt (geoAt K I)) (geoAt K I .n) I (dirPart (realPath cwd p)) ≡ accepted h → OwnIn I (h .own)
@@ -27,10 +21,3 @@ own-inside K I len b e cwd p h q =
     let s : SuperBlock = superBlock (geoAt K I) in
     let f : Fit s I = opened-fit K I s (check-passed K I len b e .1) refl in
     hold-inside s I f (dirPart (realPath cwd p)) h (hold-numbers s I f (dirPart (realPath cwd p)) ∙ q)
-
-pub own-entry-there : OwnEntryThere
-own-entry-there = record {
-  inside = own-inside;
-  there = λ K I w cwd p h q. own-there (geoAt K I) I maxDepth (w .tree) _ (wayOf cwd p) (volume-at K I w .laid) h q;
-  numbers = number-few;
-}

@@ -25,10 +25,10 @@ use Rattle.file.specs.declared.Handle.{Handle}
 use Rattle.file.specs.declared.WriteOut.{WriteOut}
 use Rattle.file.specs.declared.Counted.the-variants as counted
 use Rattle.file.specs.File.{nameOf}
-use Rattle.mfs.specs.declared.Answer.{Answer}
-use Rattle.mfs.specs.declared.Answer.the-variants as answer
-use Rattle.mfs.specs.declared.OpenOut.{OpenOut}
-use Rattle.mfs.specs.Changing.{CreatesFile, Deletes, Writes}
+use Rattle.call_volume.specs.declared.Answer.{Answer}
+use Rattle.call_volume.specs.declared.Answer.the-variants as answer
+use Rattle.call_read.specs.declared.OpenOut.{OpenOut}
+use Rattle.call_change.specs.Changing.{CreatesFile, Deletes, Writes}
 use Rattle.thm_calls.specs.Named.{lastOf}
 use Rattle.thm_calls.proofs.Changing.{volume-at, create-file-tree, create-file-bytes, create-file-kept}
 use Rattle.thm_calls.proofs.Changing.{delete-tree, delete-bytes, delete-kept, write-tree, write-bytes, write-kept}

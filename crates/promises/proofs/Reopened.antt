@@ -17,9 +17,9 @@ use Rattle.path.specs.Path.{badPath}
 use Rattle.file.specs.declared.Handle.{Handle}
 use Rattle.file.specs.File.{staleFields, moved, readRefusal}
 use Rattle.file.specs.Written.{countedSays}
-use Rattle.mfs.specs.declared.OpenOut.{OpenOut}
-use Rattle.mfs.specs.Says.{soughtSays}
-use Rattle.mfs.specs.Reading.{Opens, readCall, Reads}
+use Rattle.call_read.specs.declared.OpenOut.{OpenOut}
+use Rattle.call_volume.specs.Says.{soughtSays}
+use Rattle.call_read.specs.Reading.{Opens, readCall, Reads}
 use Rattle.thm_calls.specs.Handles.{HandleOf}
 use Rattle.thm_calls.specs.Named.{wayOf, lastOf}
 use Rattle.thm_calls.proofs.Calls.{open-file, open-handle, read-file, read-bytes}

@@ -32,11 +32,11 @@ use Rattle.file.specs.OnTree.{NoRoom}
 use Rattle.file.specs.Writing.{targetOf}
 use Rattle.file.specs.Written.{countedSays}
 use Rattle.file.proofs.Targets.{no-room}
-use Rattle.mfs.specs.declared.Answer.{Answer}
-use Rattle.mfs.specs.declared.OpenOut.{OpenOut}
-use Rattle.mfs.specs.Says.{says}
-use Rattle.mfs.specs.Reading.{openSays}
-use Rattle.mfs.specs.Changing.{freshHandle, CreatesFile, CreatesDir, Writes}
+use Rattle.call_volume.specs.declared.Answer.{Answer}
+use Rattle.call_read.specs.declared.OpenOut.{OpenOut}
+use Rattle.call_volume.specs.Says.{says}
+use Rattle.call_read.specs.Reading.{openSays}
+use Rattle.call_change.specs.Changing.{freshHandle, CreatesFile, CreatesDir, Writes}
 use Rattle.thm_calls.specs.Named.{wayOf, lastOf}
 use Rattle.thm_calls.proofs.Changing.{volume-at}
 use Rattle.promises.specs.Honest.{CreateFull}

@@ -18,7 +18,7 @@ use Rattle.dir_entry.specs.Shown.{headOf}
 use Rattle.path.specs.Path.{lastName, dirPart, steps}
 use Rattle.dir.specs.Resolve.{Held, held, onName, entryOf}
 use Rattle.dir.specs.Hold.{holdFrom, rootHold}
-use Rattle.dir.proofs.Laws.{name-some}
+use Rattle.dir.proofs.Answers.{name-some}
 use Rattle.thm_path.specs.Shown.{wayTo}
 use Rattle.thm_path.proofs.Finds.{lookup-or}
 use Rattle.dir.proofs.HoldLaws.{hold-resolve}

@@ -14,15 +14,15 @@ use Rattle.check_bitmap.specs.Tally.{markLong}
 use Rattle.file.specs.declared.Handle.{Handle}
 use Rattle.file.specs.declared.WriteOut.{WriteOut}
 use Rattle.file.specs.Written.{countedSays}
-use Rattle.mfs.specs.declared.Answer.{Answer}
-use Rattle.mfs.specs.declared.Answer.the-variants as answer
-use Rattle.mfs.specs.declared.OpenOut.{OpenOut}
-use Rattle.mfs.specs.Says.{says}
-use Rattle.mfs.specs.Reading.{openSays}
-use Rattle.mfs.specs.Format.{Formats}
-use Rattle.mfs.specs.Checking.{Checks}
-use Rattle.mfs.specs.Changing.{CreatesFile, CreatesDir, Deletes, Writes}
-use Rattle.mfs.proofs.Formatted.{format-well-formed}
+use Rattle.call_volume.specs.declared.Answer.{Answer}
+use Rattle.call_volume.specs.declared.Answer.the-variants as answer
+use Rattle.call_read.specs.declared.OpenOut.{OpenOut}
+use Rattle.call_volume.specs.Says.{says}
+use Rattle.call_read.specs.Reading.{openSays}
+use Rattle.call_volume.specs.Format.{Formats}
+use Rattle.call_volume.specs.Checking.{Checks}
+use Rattle.call_change.specs.Changing.{CreatesFile, CreatesDir, Deletes, Writes}
+use Rattle.call_volume.proofs.Formatted.{format-well-formed}
 use Rattle.thm_calls.proofs.Changing.{volume-at, create-file-well, create-dir-well, delete-well, write-well}
 use Rattle.promises.specs.Promises.{UsedTrue}
 use Rattle.promises.proofs.Answered.{value-said, success-said, count-said}
@@ -45,7 +45,7 @@ check-well K I W Z answer.Success c w long = refl
 check-well K I W Z (answer.Refused x) c w long = absurd (c .answer .1 (long-reaches K I W w long) w)
 
 -- W5, of any well-formed volume: the used count is D and the number of set bits.
-pub used-true : (K : ℕ) (J : List ℕ) → WellFormed K J → UsedTrue K J
+used-true : (K : ℕ) (J : List ℕ) → WellFormed K J → UsedTrue K J
 used-true K J w = used-set (geoAt K J) J maxDepth (w .tree) (volume-at K J w)
 
 -- So it is after each accepted call.

@@ -9,7 +9,7 @@ use Rattle.promises.specs.Work.{WorkIsDone}
 use Rattle.promises.proofs.Answered.{value-said, value-is, success-said}
 use Rattle.promises.proofs.Done.{write-then-read, write-leaves}
 use Rattle.promises.proofs.Reopened.{open-then-read}
-use Rattle.promises.proofs.Made.{create-file-leaves, create-dir-leaves, create-changes}
+use Rattle.promises.proofs.CreateLeaves.{create-file-leaves, create-dir-leaves, create-changes}
 use Rattle.promises.proofs.Gone.{delete-leaves}
 
 pub work-is-done : WorkIsDone

@@ -14,12 +14,12 @@ use Rattle.file.specs.declared.Handle.{Handle}
 use Rattle.file.specs.declared.WriteOut.{WriteOut}
 use Rattle.file.specs.File.{nameOf}
 use Rattle.file.specs.Written.{countedSays}
-use Rattle.mfs.specs.declared.Answer.{Answer}
-use Rattle.mfs.specs.declared.OpenOut.{OpenOut}
-use Rattle.mfs.specs.Says.{says}
-use Rattle.mfs.specs.Reading.{openSays}
-use Rattle.mfs.specs.Checking.{checkCall, checkRefusal}
-use Rattle.mfs.specs.Changing.{CreatesFile, CreatesDir, Deletes, Writes}
+use Rattle.call_volume.specs.declared.Answer.{Answer}
+use Rattle.call_read.specs.declared.OpenOut.{OpenOut}
+use Rattle.call_volume.specs.Says.{says}
+use Rattle.call_read.specs.Reading.{openSays}
+use Rattle.call_volume.specs.Checking.{checkCall, checkRefusal}
+use Rattle.call_change.specs.Changing.{CreatesFile, CreatesDir, Deletes, Writes}
 use Rattle.thm_calls.specs.Named.{wayOf, lastOf}
 
 -- S6: a changing call that is accepted found a well-formed volume, and what it made of the image is the model's call on that

@@ -11,16 +11,16 @@ use Rattle.file.specs.declared.ReadOut.{ReadOut}
 use Rattle.file.specs.declared.WriteOut.{WriteOut}
 use Rattle.file.specs.Post.{SoughtIs}
 use Rattle.file.specs.Written.{countedSays}
-use Rattle.mfs.specs.declared.Answer.{Answer}
-use Rattle.mfs.specs.declared.Space.{Space}
-use Rattle.mfs.specs.declared.OpenOut.{OpenOut}
-use Rattle.mfs.specs.declared.InfoOut.{InfoOut}
-use Rattle.mfs.specs.declared.Listing.{Listing}
-use Rattle.mfs.specs.Format.{Formats, Uses}
-use Rattle.mfs.specs.Says.{says, soughtSays}
-use Rattle.mfs.specs.Reading.{noHandle, openSays, Opens, noAbout, aboutOf, infoSays, Informs, listSays, Lists, Reads}
-use Rattle.mfs.specs.Checking.{workAfter, Checks}
-use Rattle.mfs.specs.Changing.{CreatesFile, CreatesDir, Deletes, Writes}
+use Rattle.call_volume.specs.declared.Answer.{Answer}
+use Rattle.call_volume.specs.declared.Space.{Space}
+use Rattle.call_read.specs.declared.OpenOut.{OpenOut}
+use Rattle.call_read.specs.declared.InfoOut.{InfoOut}
+use Rattle.call_read.specs.declared.Listing.{Listing}
+use Rattle.call_volume.specs.Format.{Formats, Uses}
+use Rattle.call_volume.specs.Says.{says, soughtSays}
+use Rattle.call_read.specs.Reading.{noHandle, openSays, Opens, noAbout, aboutOf, infoSays, Informs, listSays, Lists, Reads}
+use Rattle.call_volume.specs.Checking.{workAfter, Checks}
+use Rattle.call_change.specs.Changing.{CreatesFile, CreatesDir, Deletes, Writes}
 
 -- D1: any two outcomes that a call's contract allows are equal, in answer, image, handle, work buffer and read buffer, refused
 -- ones too.

@@ -11,7 +11,7 @@ use Rattle.limits.specs.Refusals.{refusalNumber}
 use Rattle.own_entry.specs.Own.{OwnIn, OwnOf}
 use Rattle.path.specs.Path.{realPath, dirPart}
 use Rattle.dir.specs.Hold.{Hold, holdDir}
-use Rattle.mfs.specs.Checking.{checkRefusal}
+use Rattle.call_volume.specs.Checking.{checkRefusal}
 use Rattle.thm_calls.specs.Named.{wayOf}
 
 -- The image I passes the check, with its superblock at K and a work buffer of len bytes, and the directory part of a path leads to the

@@ -18,13 +18,13 @@ use Rattle.file.specs.declared.WriteOut.{WriteOut}
 use Rattle.file.specs.File.{staleFields}
 use Rattle.file.specs.OnTree.{OnFile, Stale}
 use Rattle.file.specs.Written.{countedSays}
-use Rattle.mfs.specs.declared.Answer.{Answer}
-use Rattle.mfs.specs.declared.OpenOut.{OpenOut}
-use Rattle.mfs.specs.Says.{says}
-use Rattle.mfs.specs.Reading.{openSays}
-use Rattle.mfs.specs.Format.{Formats}
-use Rattle.mfs.specs.Checking.{Checks}
-use Rattle.mfs.specs.Changing.{CreatesFile, CreatesDir, Deletes, Writes}
+use Rattle.call_volume.specs.declared.Answer.{Answer}
+use Rattle.call_read.specs.declared.OpenOut.{OpenOut}
+use Rattle.call_volume.specs.Says.{says}
+use Rattle.call_read.specs.Reading.{openSays}
+use Rattle.call_volume.specs.Format.{Formats}
+use Rattle.call_volume.specs.Checking.{Checks}
+use Rattle.call_change.specs.Changing.{CreatesFile, CreatesDir, Deletes, Writes}
 use Rattle.promises.specs.Sequence.{Leads, Calls}
 use Rattle.promises.specs.Counter.{Untouched, Another, StaleAtEntry}
 

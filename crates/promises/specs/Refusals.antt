@@ -34,13 +34,13 @@ use Rattle.file.specs.File.{nameOf, staleFields, moved, toRead}
 use Rattle.file.specs.Writing.{tooLong, blocksToAdd}
 use Rattle.file.specs.OnTree.{NoRoom}
 use Rattle.file.specs.Written.{countedSays}
-use Rattle.mfs.specs.declared.Answer.{Answer}
-use Rattle.mfs.specs.declared.OpenOut.{OpenOut}
-use Rattle.mfs.specs.declared.InfoOut.{InfoOut}
-use Rattle.mfs.specs.declared.Listing.{Listing}
-use Rattle.mfs.specs.Says.{says}
-use Rattle.mfs.specs.Reading.{About, about, Counts, openSays, Opens, infoSays, Informs, listSays, Lists, Reads}
-use Rattle.mfs.specs.Changing.{freshHandle, plainly, CreatesFile, CreatesDir, Deletes, Writes}
+use Rattle.call_volume.specs.declared.Answer.{Answer}
+use Rattle.call_read.specs.declared.OpenOut.{OpenOut}
+use Rattle.call_read.specs.declared.InfoOut.{InfoOut}
+use Rattle.call_read.specs.declared.Listing.{Listing}
+use Rattle.call_volume.specs.Says.{says}
+use Rattle.call_read.specs.Reading.{About, about, Counts, openSays, Opens, infoSays, Informs, listSays, Lists, Reads}
+use Rattle.call_change.specs.Changing.{freshHandle, plainly, CreatesFile, CreatesDir, Deletes, Writes}
 use Rattle.thm_calls.specs.Named.{wayOf, lastOf, allOf, recordsLong, recordsOf, listedFrom}
 use Rattle.promises.specs.Honest.{CreateFull}
 

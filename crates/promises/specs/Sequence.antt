@@ -11,10 +11,10 @@ use Rattle.file.specs.declared.ReadOut.{ReadOut}
 use Rattle.file.specs.declared.WriteOut.{WriteOut}
 use Rattle.file.specs.File.{nameOf}
 use Rattle.file.specs.Post.{SoughtIs}
-use Rattle.mfs.specs.declared.Answer.{Answer}
-use Rattle.mfs.specs.declared.OpenOut.{OpenOut}
-use Rattle.mfs.specs.Reading.{Opens, Reads}
-use Rattle.mfs.specs.Changing.{CreatesFile, Deletes, Writes}
+use Rattle.call_volume.specs.declared.Answer.{Answer}
+use Rattle.call_read.specs.declared.OpenOut.{OpenOut}
+use Rattle.call_read.specs.Reading.{Opens, Reads}
+use Rattle.call_change.specs.Changing.{CreatesFile, Deletes, Writes}
 use Rattle.thm_calls.specs.Named.{wayOf, lastOf}
 
 -- D3, any working directory and spelling that lead to the path: what is given has the directory names p and the last name n

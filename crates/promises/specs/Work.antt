@@ -22,11 +22,11 @@ use Rattle.file.specs.declared.WriteOut.{WriteOut}
 use Rattle.file.specs.File.{nameOf}
 use Rattle.file.specs.Post.{SoughtIs}
 use Rattle.file.specs.Written.{countedSays}
-use Rattle.mfs.specs.declared.Answer.{Answer}
-use Rattle.mfs.specs.declared.OpenOut.{OpenOut}
-use Rattle.mfs.specs.Says.{says, soughtSays}
-use Rattle.mfs.specs.Reading.{openSays, Opens, Reads}
-use Rattle.mfs.specs.Changing.{CreatesFile, CreatesDir, Deletes, Writes}
+use Rattle.call_volume.specs.declared.Answer.{Answer}
+use Rattle.call_read.specs.declared.OpenOut.{OpenOut}
+use Rattle.call_volume.specs.Says.{says, soughtSays}
+use Rattle.call_read.specs.Reading.{openSays, Opens, Reads}
+use Rattle.call_change.specs.Changing.{CreatesFile, CreatesDir, Deletes, Writes}
 use Rattle.thm_calls.specs.Handles.{HandleOf}
 use Rattle.thm_calls.specs.Named.{wayOf, lastOf}
 

@@ -13,7 +13,7 @@ use Rattle.model.specs.Render.{blocksAt, addressOf, nodePieces, entryPieces, di
 use Rattle.model.specs.Geometry.{Geo, blockSize, dataAt, Sound}
 use Rattle.model.specs.Volume.{All, GoodNode, GoodEntry, GoodBlock, GoodBelow, Laid, maxDepth}
 use Rattle.model.specs.Calls.{DirAt, among, pathTo}
-use Rattle.model.proofs.Reached.{path-found, path-none, path-is}
+use Rattle.model.proofs.Reached.{path-found, path-is}
 use Rattle.super_block.specs.declared.SuperBlock.{SuperBlock}
 use Rattle.super_block.specs.Super.{geoOf, Fit}
 use Rattle.dir_entry.specs.Shown.{kindIs, headOf}
@@ -81,7 +81,7 @@ module _ (g : Geo) (I : List ℕ) (sound : Sound g (length I)) (a d : ℕ)
 -- ---- the tree
 
 -- From a directory that the image holds.
-pub part-reach : (g : Geo) (I : List ℕ) (a d : ℕ) (t : Tree d) → Part g I d t → reaches (blockSize g) (dataAt g) (g .n) I a d (blocksAt t) ≡ hasPath (pathTo d a t)
+part-reach : (g : Geo) (I : List ℕ) (a d : ℕ) (t : Tree d) → Part g I d t → reaches (blockSize g) (dataAt g) (g .n) I a d (blocksAt t) ≡ hasPath (pathTo d a t)
 unfolding reaches pathTo render
 part-reach g I a zero t p = path-last (eqb a (blocksAt t))
 part-reach g I a (suc d) t p =
@@ -100,7 +100,7 @@ answer-is s I r a f e t u l = e ∙ ap (λ (D : ℕ). reaches 512 D (s .blocks) 
 -- ---- what the two answers mean
 
 -- true: a path leads to the directory, and no other does.
-pub has-path : (g : Geo) (I : List ℕ) (d : ℕ) (t : Tree d) (u a : ℕ) → Laid g I d t u → hasPath (pathTo d a t) ≡ true → OnlyPath d a t
+has-path : (g : Geo) (I : List ℕ) (d : ℕ) (t : Tree d) (u a : ℕ) → Laid g I d t u → hasPath (pathTo d a t) ≡ true → OnlyPath d a t
 has-path g I d t u a l r = go (pathTo d a t) refl
   where
     go : (o : Option (List Name)) → pathTo d a t ≡ o → OnlyPath d a t
@@ -111,14 +111,6 @@ has-path g I d t u a l r = go (pathTo d a t) refl
           there = path-found (blockSize g) d a t p (l .good) h;
           only = λ q s. let k : some q ≡ some p = sym (path-is g I d t u a q l s) ∙ h in let e : q ≡ p = cc in e;
         }
-
--- false: no path leads to it.
-pub no-path : (d a : ℕ) (t : Tree d) (p : List Name) → hasPath (pathTo d a t) ≡ false → DirAt d a p t → ⊥
-no-path d a t p r s = go (pathTo d a t) refl
-  where
-    go : (o : Option (List Name)) → pathTo d a t ≡ o → ⊥
-    go none h = path-none d a t h p s
-    go (some q) h = not-both (ap hasPath h) r
 
 -- The same of the bytes' function: reached, and so at one path; at a path, and so reached.
 pub reach-path : (g : Geo) (I : List ℕ) (d : ℕ) (t : Tree d) (u a : ℕ) → Laid g I d t u → reaches (blockSize g) (dataAt g) (g .n) I a d (dataAt g) ≡ true → OnlyPath d a t

@@ -32,7 +32,7 @@ module _ (B D n : ℕ) (I : List ℕ) (target : ℕ) where
   reach-last d a e z = sym (ap (λ (k : ℕ). reaches B D n I target k a) z ∙ ne-eqb target a e)
 
   -- elsewhere it is what the walk says, a level further down
-  pub reach-walk : (d m a : ℕ) → (target ≡ a → ⊥) → (d ≡ 0 → ⊥) → m ≡ d - 1 → reaches B D n I target d a ≡ anyIn (onDir (reaches B D n I target m)) (walk B D n I a)
+  reach-walk : (d m a : ℕ) → (target ≡ a → ⊥) → (d ≡ 0 → ⊥) → m ≡ d - 1 → reaches B D n I target d a ≡ anyIn (onDir (reaches B D n I target m)) (walk B D n I a)
   unfolding reaches
   reach-walk d m a e z b =
       let q : d ≡ suc m = omega arith in

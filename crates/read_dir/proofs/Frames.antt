@@ -10,13 +10,13 @@ use borrow.Author.Tests.{eqb-false}
 use Rattle.wire.specs.Pick.{pick}
 use Rattle.wire.proofs.Picks.{either, pick-true, pick-false}
 use Rattle.block.specs.Block.{next, Kept}
-use Rattle.block.proofs.Laws.{next-kept}
+use Rattle.block.proofs.Blocks.{next-kept}
 use Rattle.dir_entry.specs.declared.DirEntry.{DirEntry}
 use Rattle.dir_entry.specs.declared.Slot.{Slot}
 use Rattle.dir_entry.specs.declared.Slot.the-variants.{Entry, Stop}
 use Rattle.dir_entry.specs.Entry.{header, placeAt, nameAt, slotAt}
 use Rattle.dir_entry.proofs.Slots.{slot-stands, slot-kept, name-kept}
-use Rattle.read_dir.specs.Walk.{Walk, finished, damaged, onSlot, inArea, shown, entriesFrom, chainFrom, walk}
+use Rattle.read_dir.specs.Walk.{Walk, finished, damaged, onSlot, inArea, shown, entriesFrom, chainFrom}
 use Rattle.read_dir.proofs.Unroll.{area-true, onwards}
 
 -- Q holds of each block that the chain from block a shows, of which k may be read.
@@ -25,7 +25,7 @@ Through B D n I Q zero a = Unit {0}
 Through B D n I Q (suc k) a = D ≤ a → a < n → Q a × ((next B I a ≡ 0 → ⊥) → Through B D n I Q k (next B I a))
 
 -- It holds where Q holds of the whole area.
-pub through-all : (B D n : ℕ) (I : List ℕ) (Q : ℕ → Type 0) → ((b : ℕ) → D ≤ b → b < n → Q b) → (k a : ℕ) → Through B D n I Q k a
+through-all : (B D n : ℕ) (I : List ℕ) (Q : ℕ → Type 0) → ((b : ℕ) → D ≤ b → b < n → Q b) → (k a : ℕ) → Through B D n I Q k a
 unfolding Through
 through-all B D n I Q f zero a = tt
 through-all B D n I Q f (suc k) a = λ h l. (f a h l, λ _. through-all B D n I Q f k (next B I a))
@@ -66,7 +66,7 @@ module _ (B D n : ℕ) (P : ℕ → ℕ → Type 0) (I J : List ℕ) (k : Kept B
 
   module _ (four : 4 ≤ B) where
     -- A chain reads the same in an image that keeps its blocks.
-    pub chain-kept : (m a : ℕ) → Through B D n I Same m a → chainFrom B D n J m a ≡ chainFrom B D n I m a
+    chain-kept : (m a : ℕ) → Through B D n I Same m a → chainFrom B D n J m a ≡ chainFrom B D n I m a
     unfolding chainFrom Through
     chain-kept zero a t = refl
     chain-kept (suc m) a t = go (either (inArea B D n I a)) (λ u. chain-kept m (next B I a) u)
@@ -79,10 +79,3 @@ module _ (B D n : ℕ) (P : ℕ → ℕ → Type 0) (I J : List ℕ) (k : Kept B
             let s = t (q .0) (q .1) in
             pick-true _ _ r ∙ entries-kept B a 0 _ _ (s .0) (onwards-kept m a (next-kept B P I J k a four (λ p l. s .0 p (omega arith))) (λ z. ih (s .1 z))) ∙ sym (pick-true _ _ r)
         go (inr r) ih = pick-false _ _ r ∙ sym (pick-false _ _ r)
-
-    -- So does a directory: where its own blocks are kept, and where the whole area is.
-    pub walk-kept-through : (a : ℕ) → Through B D n I Same (n - D) a → walk B D n J a ≡ walk B D n I a
-    walk-kept-through a t = chain-kept (n - D) a t
-
-    pub walk-kept : ((b p : ℕ) → D ≤ b → b < n → p < B → P b p) → (a : ℕ) → walk B D n J a ≡ walk B D n I a
-    walk-kept f a = chain-kept (n - D) a (through-all B D n I Same (λ b h l p q. f b p h l q) (n - D) a)

@@ -8,16 +8,15 @@ use native.Mathlib.Omega.{arith}
 use lib.Dec.{eqb}
 use borrow.Author.Tests.{eqb-false}
 use Rattle.wire.specs.Pick.{same}
-use Rattle.wire.proofs.Picks.{either, not-both, pick-true, pick-false, same-eq, same-refl, pick-case}
+use Rattle.wire.proofs.Picks.{either, pick-true, pick-false, same-eq, pick-case}
 use Rattle.dir_entry.specs.declared.DirEntry.{DirEntry}
 use Rattle.dir_entry.specs.declared.Slot.the-variants.{Entry}
 use Rattle.dir_entry.specs.Entry.{placeAt, nameAt, slotAt}
 use Rattle.read_dir.specs.Walk.{Walk, item, finished, damaged, shown, entriesFrom, chainFrom, walk}
 use Rattle.read_dir.specs.Cursor.{items}
-use Rattle.read_dir.specs.Finds.{placed, findIn, skip, listFrom}
+use Rattle.read_dir.specs.Finds.{placed, findIn, skip}
 use Rattle.read_dir.specs.declared.Place.{Place}
 use Rattle.read_dir.specs.declared.Found.the-variants as found
-use Rattle.read_dir.specs.declared.Listed.the-variants as listed
 use Rattle.read_dir.proofs.Unroll.{entries-ind, chain-ind}
 
 -- P holds of each entry, with its block, its offset and its name.
@@ -52,7 +51,7 @@ module _ (B D n : ℕ) (I : List ℕ) where
 -- ---- an answer of a lookup
 
 -- What holds of each entry holds of the one that is found, under the name asked for;
-pub found-each : (P : DirEntry → ℕ → ℕ → List ℕ → Type 0) (name : List ℕ) (w : Walk) (e : DirEntry) (p : Place) → Each P w → findIn name w ≡ found.At e p → P e (p .block .0) (p .offset) name
+found-each : (P : DirEntry → ℕ → ℕ → List ℕ → Type 0) (name : List ℕ) (w : Walk) (e : DirEntry) (p : Place) → Each P w → findIn name w ≡ found.At e p → P e (p .block .0) (p .offset) name
 unfolding findIn
 found-each P name (item d a o x w) e p i f = go (either (same x name)) (λ g. found-each P name w e p (i .1) g)
   where
@@ -73,18 +72,6 @@ found-each P name damaged e p i f = absurd (let z : _≡_ {A = ℕ} 0 1 = cc in 
 pub found-item : (B D n : ℕ) (I : List ℕ) (dir : ℕ) (name : List ℕ) (e : DirEntry) (p : Place) → findIn name (walk B D n I dir) ≡ found.At e p → Item B D n I e (p .block .0) (p .offset) name
 found-item B D n I dir name e p f = found-each (Item B D n I) name (walk B D n I dir) e p (chain-each B D n I (n - D) dir) f
 
--- Where none is found, none has the name.
-pub missing-each : (name : List ℕ) (w : Walk) → findIn name w ≡ found.Missing → Each (λ e a o x. x ≡ name → ⊥) w
-unfolding findIn
-missing-each name (item e a o x w) f = go (either (same x name)) (λ g. missing-each name w g)
-  where
-    go : (same x name ≡ true) ⊎ (same x name ≡ false) → (findIn name w ≡ found.Missing → Each (λ e a o x. x ≡ name → ⊥) w) → (x ≡ name → ⊥) × Each (λ e a o x. x ≡ name → ⊥) w
-    go (inl t) ih = absurd (let q : found.At e (placed a o) ≡ found.Missing = sym (pick-true _ _ t) ∙ f in let z : _≡_ {A = ℕ} 0 1 = cc in omega arith)
-    go (inr t) ih =
-        (λ q. not-both (ap (λ (y : List ℕ). same y name) q ∙ same-refl name) t, ih (sym (pick-false _ _ t) ∙ f))
-missing-each name finished f = tt
-missing-each name damaged f = tt
-
 -- ---- a listing past the last entry
 
 -- the walk comes to its end
@@ -93,7 +80,7 @@ Whole (item e a o x w) = Whole w
 Whole finished = Unit {0}
 Whole damaged = ⊥
 
-pub skip-past : (i : ℕ) (w : Walk) → Whole w → items w ≤ i → skip i w ≡ finished
+skip-past : (i : ℕ) (w : Walk) → Whole w → items w ≤ i → skip i w ≡ finished
 unfolding skip items
 skip-past zero (item e a o x w) h l = absurd (omega arith)
 skip-past zero finished h l = refl
@@ -101,8 +88,3 @@ skip-past zero damaged h l = absurd h
 skip-past (suc i) (item e a o x w) h l = skip-past i w h (omega arith)
 skip-past (suc i) finished h l = refl
 skip-past (suc i) damaged h l = absurd h
-
--- C6: from a number past the last entry, 0 bytes and that number.
-pub list-past : (cap i : ℕ) (w : Walk) → Whole w → items w ≤ i → listFrom cap 0 i (skip i w) ≡ listed.Records 0 i
-unfolding listFrom
-list-past cap i w h l = ap (listFrom cap 0 i) (skip-past i w h l)

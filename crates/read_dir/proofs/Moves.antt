@@ -147,7 +147,7 @@ module _ (B D n : ℕ) (I : List ℕ) where
     slot-in slot.Stop p = pick-case MoveIn (eqb (next B I (c .block .0)) 0) _ _ (λ _. tt) (λ _. tt)
 
   -- What remains from a cursor is what its move says.
-  pub unroll : (c : ReadDir) → cursorWalk B D n I c ≡ onMove (moveAt B D n I c)
+  unroll : (c : ReadDir) → cursorWalk B D n I c ≡ onMove (moveAt B D n I c)
   unroll c = go (decLt 0 (c .left)) (either (inArea B D n I (c .block .0)))
     where
       go : Dec (0 < c .left) → (inArea B D n I (c .block .0) ≡ true) ⊎ (inArea B D n I (c .block .0) ≡ false) → cursorWalk B D n I c ≡ onMove (moveAt B D n I c)
@@ -159,7 +159,7 @@ module _ (B D n : ℕ) (I : List ℕ) where
           slot-walks c p (q .0) (q .1) (slotAt B I (c .block .0) (c .offset)) refl ∙ ap onMove (sym (move-in B D n I c (omega arith) t))
       go (yes p) (inr t) = rest-out B D n I (c .left) (c .block .0) (c .offset) t ∙ ap onMove (move-out B D n I c t)
 
-  pub move-lies : (c : ReadDir) → MoveIn (moveAt B D n I c)
+  move-lies : (c : ReadDir) → MoveIn (moveAt B D n I c)
   move-lies c = go (decLt 0 (c .left)) (either (inArea B D n I (c .block .0)))
     where
       go : Dec (0 < c .left) → (inArea B D n I (c .block .0) ≡ true) ⊎ (inArea B D n I (c .block .0) ≡ false) → MoveIn (moveAt B D n I c)

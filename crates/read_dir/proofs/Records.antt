@@ -7,7 +7,7 @@ use native.Mathlib.Omega.{arith}
 use lib.ListN.{length, take, drop, set, take-append-drop, length-append}
 use lib.Seq.{length-take-le, take-at, drop-at, drop-drop}
 use Rattle.wire.specs.Be.{bytes, splice}
-use Rattle.wire.proofs.Laws.{length-bytes, length-splice, set-splice}
+use Rattle.wire.proofs.Numbers.{length-bytes, length-splice, set-splice}
 use Rattle.dir_entry.specs.declared.DirEntry.{DirEntry}
 use Rattle.dir_entry.specs.Entry.{kindByte, nameAt}
 use Rattle.dir_entry.proofs.Heads.{splice-then}
@@ -25,7 +25,7 @@ length-record e x =
     rw (length-append (kindByte (e .kind) ∷ (s ++ t)) (e .len ∷ x)) (omega (arith, length-append s t, length-bytes 4 (e .size), length-bytes 8 (e .time)))
 
 -- code stores kind, size, time and length one after the other, then the name x
-pub record-stored : (b b₁ b₂ b₃ b₄ : List ℕ) (at k : ℕ) (e : DirEntry) (x : List ℕ) → at + (14 + e .len) ≤ length b → k ≡ kindByte (e .kind) → length x ≡ e .len
+record-stored : (b b₁ b₂ b₃ b₄ : List ℕ) (at k : ℕ) (e : DirEntry) (x : List ℕ) → at + (14 + e .len) ≤ length b → k ≡ kindByte (e .kind) → length x ≡ e .len
     → b₁ ≡ set b at k → b₂ ≡ splice b₁ (at + 1) (bytes 4 (e .size)) → b₃ ≡ splice b₂ (at + 5) (bytes 8 (e .time)) → b₄ ≡ splice (set b₃ (at + 13) (e .len)) (at + 14) x
     → b₄ ≡ splice b at (recordOf e x)
 unfolding recordOf

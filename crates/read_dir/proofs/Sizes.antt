@@ -29,7 +29,7 @@ weigh finished = 0
 weigh damaged = 0
 
 -- The sum of a directory, where there is one.
-pub sum-weigh : (w : Walk) (s t : ℕ) → sumFrom s w ≡ summed.Total t → t ≡ s + weigh w
+sum-weigh : (w : Walk) (s t : ℕ) → sumFrom s w ≡ summed.Total t → t ≡ s + weigh w
 unfolding sumFrom weigh
 sum-weigh (item e a o x w) s t p = omega (arith, sum-weigh w (s + (header + e .len)) t p)
 sum-weigh finished s t p = let q : s ≡ t = cc in omega arith
@@ -56,14 +56,14 @@ module _ (B D n : ℕ) (I : List ℕ) where
       pick-case (λ (u : Walk). 19 * items u ≤ (B - 5 - o) + 19 * items w) (eqb (e .addr .0) 0) _ _ (λ _. omega arith) (λ _. omega arith))
 
   -- a chain of which k blocks may be read
-  pub chain-weigh : (k a : ℕ) → weigh (chainFrom B D n I k a) ≤ (B - 5) * k
+  chain-weigh : (k a : ℕ) → weigh (chainFrom B D n I k a) ≤ (B - 5) * k
   unfolding weigh
   chain-weigh =
       chain-ind B D n I (λ k a w. weigh w ≤ (B - 5) * k) (λ k a. omega arith)
       (λ k a h l z. omega (arith, entries-weigh a finished B 0, mul-suc (B - 5) k))
       (λ k a w h l z q. omega (arith, entries-weigh a w B 0, mul-suc (B - 5) k))
 
-  pub chain-count : (k a : ℕ) → 19 * items (chainFrom B D n I k a) ≤ (B - 5) * k
+  chain-count : (k a : ℕ) → 19 * items (chainFrom B D n I k a) ≤ (B - 5) * k
   unfolding items
   chain-count =
       chain-ind B D n I (λ k a w. 19 * items w ≤ (B - 5) * k) (λ k a. omega arith)
@@ -71,7 +71,7 @@ module _ (B D n : ℕ) (I : List ℕ) where
       (λ k a w h l z q. omega (arith, entries-count a w B 0, mul-suc (B - 5) k))
 
 -- A walk has at most 27 entries to a block,
-pub count-few : (D n : ℕ) (I : List ℕ) (a : ℕ) → items (walk 512 D n I a) ≤ 27 * (n - D)
+count-few : (D n : ℕ) (I : List ℕ) (a : ℕ) → items (walk 512 D n I a) ≤ 27 * (n - D)
 count-few D n I a = omega (arith, chain-count 512 D n I (n - D) a)
 
 -- so their numbers fit 32 bits, and so does their sum.
@@ -80,9 +80,6 @@ count-fits D n I a h = omega (arith, count-few D n I a)
 
 pub weigh-fits : (D n : ℕ) (I : List ℕ) (a : ℕ) → n ≤ 8388608 → weigh (walk 512 D n I a) < 2 ^ 32
 weigh-fits D n I a h = omega (arith, chain-weigh 512 D n I (n - D) a)
-
-pub sum-fits : (D n : ℕ) (I : List ℕ) (a t : ℕ) → n ≤ 8388608 → sumFrom 0 (walk 512 D n I a) ≡ summed.Total t → t < 2 ^ 32
-sum-fits D n I a t h p = omega (arith, sum-weigh (walk 512 D n I a) 0 t p, weigh-fits D n I a h)
 
 -- The numbers of the entries that a listing from i on shows: past the last entry there is none.
 pub skip-fits : (i : ℕ) (w : Walk) → i < 2 ^ 32 → items w < 2 ^ 32 → i + items (skip i w) < 2 ^ 32

@@ -57,11 +57,11 @@ on-same (Entry e) j k w h = h e
 on-same Stop j k w h = refl
 
 module _ (B D n : ℕ) (I : List ℕ) where
-  pub shown-zero : (e : DirEntry) (a o : ℕ) (w : Walk) → e .addr .0 ≡ 0 → shown B D n I e a o w ≡ w
+  shown-zero : (e : DirEntry) (a o : ℕ) (w : Walk) → e .addr .0 ≡ 0 → shown B D n I e a o w ≡ w
   unfolding shown
   shown-zero e a o w z = pick-true _ _ (eq-eqb _ _ z)
 
-  pub shown-item : (e : DirEntry) (a o : ℕ) (w : Walk) → (e .addr .0 ≡ 0 → ⊥) → shown B D n I e a o w ≡ item e a o (nameAt I (placeAt B a o) (e .len)) w
+  shown-item : (e : DirEntry) (a o : ℕ) (w : Walk) → (e .addr .0 ≡ 0 → ⊥) → shown B D n I e a o w ≡ item e a o (nameAt I (placeAt B a o) (e .len)) w
   unfolding shown
   shown-item e a o w z = pick-false _ _ (ne-eqb _ _ z)
 
@@ -71,7 +71,7 @@ module _ (B D n : ℕ) (I : List ℕ) where
   past-end (suc f) a o w h = on-stop (slotAt B I a o) _ w (stop-offset B I a o (omega arith))
 
   -- Any fuel from B - o on serves.
-  pub enough : (f g a o : ℕ) (w : Walk) → B - o ≤ f → B - o ≤ g → entriesFrom B D n I f a o w ≡ entriesFrom B D n I g a o w
+  enough : (f g a o : ℕ) (w : Walk) → B - o ≤ f → B - o ≤ g → entriesFrom B D n I f a o w ≡ entriesFrom B D n I g a o w
   unfolding entriesFrom
   enough zero g a o w p q = sym (past-end g a o w (omega arith))
   enough (suc f) zero a o w p q = past-end (suc f) a o w (omega arith)
@@ -89,7 +89,7 @@ module _ (B D n : ℕ) (I : List ℕ) where
     entries-stop p = entries-once a o w ∙ on-stop (slotAt B I a o) _ w p
 
     -- at an entry; one with address 0 is passed over
-    pub entries-entry : (e : DirEntry) → slotAt B I a o ≡ Entry e → entriesFrom B D n I B a o w ≡ shown B D n I e a o (entriesFrom B D n I B a (o + header + e .len) w)
+    entries-entry : (e : DirEntry) → slotAt B I a o ≡ Entry e → entriesFrom B D n I B a o w ≡ shown B D n I e a o (entriesFrom B D n I B a (o + header + e .len) w)
     entries-entry e p = entries-once a o w ∙ on-entry (slotAt B I a o) e _ w p
 
     pub entries-over : (e : DirEntry) → slotAt B I a o ≡ Entry e → e .addr .0 ≡ 0 → entriesFrom B D n I B a o w ≡ entriesFrom B D n I B a (o + header + e .len) w
@@ -135,12 +135,6 @@ module _ (B D n : ℕ) (I : List ℕ) where
 
   -- The same of a chain from its first block on.
   module _ (k a : ℕ) where
-    pub chain-none : k ≡ 0 → chainFrom B D n I k a ≡ damaged
-    chain-none z = chain-rest k a ∙ rest-none k a 0 z
-
-    pub chain-in : 0 < k → D ≤ a → a < n → chainFrom B D n I k a ≡ entriesFrom B D n I B a 0 (onwards (k - 1) a)
-    chain-in h l m = chain-rest k a ∙ rest-in k a 0 h l m
-
     pub chain-out : inArea B D n I a ≡ false → chainFrom B D n I k a ≡ damaged
     chain-out e = chain-rest k a ∙ rest-out k a 0 e
 

@@ -1,7 +1,7 @@
 -- The struct of a volume's numbers, and what reading, making and writing a superblock gives.
 use mathlib.Core.Path.{_≡_}
 use mathlib.Core.List.{List}
-use Prim.Native.Nat.{ℕ, _+_, _*_, _≤_, _<_, _^_}
+use Prim.Native.Nat.{ℕ, _+_, _*_}
 use lib.ListN.{length}
 use Rattle.wire.specs.Be.{bytes, splice}
 use Rattle.limits.specs.Refusals.{refusalNumber}

@@ -3,9 +3,9 @@
 use block::Addr;
 use limits::Refusal;
 ghost use mathlib.Core.Path.{_≡_};
-ghost use Prim.Native.Nat.{_+_, _-_, _*_, _≤_, _<_, _^_};
+ghost use Prim.Native.Nat.{_+_, _-_, _*_, _≤_, _<_};
 ghost use lib.ListN.{length};
-ghost use Rattle.model.specs.Geometry.{geo, rest, badImage, badMark, badCount, usedCount, countAt};
+ghost use Rattle.model.specs.Geometry.{geo, rest, badImage, badMark, badCount, usedCount};
 ghost use Rattle.super_block.specs.Super.{geoOf, superBlock, Fit, OpenedIs, MadeIs, counted, superWritten};
 
 // Blocks, and so bytes, of the largest image.

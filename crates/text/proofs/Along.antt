@@ -1,6 +1,6 @@
 -- How the code goes along the bytes: what is left to do is what was to be done.
 use mathlib.Core.Path.{_≡_, refl, sym, ap, _∙_}
-use mathlib.Core.Bool.{Bool, true, false, not, _&&_, and-true, and-false}
+use mathlib.Core.Bool.{Bool, true, false, and-true, and-false}
 use mathlib.Core.List.{List, [], _∷_}
 use Prim.Native.Nat.{ℕ, zero, suc, _+_, _≤_, _<_}
 use native.Mathlib.Numerals.{add-one}
@@ -21,7 +21,8 @@ next-byte l i h = rw add-one (drop-cons l i 0 h)
 -- ---- the walk
 
 module _ (l : List ℕ) (from i : ℕ) (d : Due) (v : textFrom (due d) (drop i l) ≡ isText (drop from l)) where
-  pub walk-again : (x : List Range) → x ≡ step (due d) (getD l i 0) → i < length l → textFrom x (drop (i + 1) l) ≡ isText (drop from l)
+  pub walk-again : (x : List Range) → x ≡ step (due d) (getD l i 0) → i < length l
+      → textFrom x (drop (i + 1) l) ≡ isText (drop from l)
   unfolding textFrom
   walk-again x e h = ap (λ (y : List Range). textFrom y (drop (i + 1) l)) e ∙ sym (ap (textFrom (due d)) (next-byte l i h)) ∙ v
 
@@ -42,13 +43,15 @@ walk-start l from x e = ap (λ (y : List Range). textFrom y (drop from l)) e
 pub passed-none : (l : List ℕ) (a : ℕ) → Passed l a 0
 passed-none l a = record { high = omega arith; text = refl; without = refl }
 
-pub passed-on : (l : List ℕ) (a i : ℕ) → Passed l a i → i < length l → 0x20 ≤ getD l i 0 → getD l i 0 ≤ 0x7E → (getD l i 0 ≡ a → ⊥)
+pub passed-on : (l : List ℕ) (a i : ℕ) → Passed l a i → i < length l → 0x20 ≤ getD l i 0 → getD l i 0 ≤ 0x7E
+    → (getD l i 0 ≡ a → ⊥)
     → Passed l a (i + 1)
 unfolding textFrom step hasByte
 passed-on l a i p h low high n =
     record {
       high = omega arith;
-      text = sym (ap isText (next-byte l i h) ∙ ap (λ (y : List Range). textFrom y (drop (i + 1) l)) (plain-begun (getD l i 0) low (omega arith))) ∙ p .text;
+      text = sym (ap isText (next-byte l i h)
+          ∙ ap (λ (y : List Range). textFrom y (drop (i + 1) l)) (plain-begun (getD l i 0) low (omega arith))) ∙ p .text;
       without = sym (ap (hasByte a) (next-byte l i h) ∙ rw (ne-eqb (getD l i 0) a n)) ∙ p .without;
     }
 

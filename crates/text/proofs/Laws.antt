@@ -1,25 +1,13 @@
--- What callers need of text: one text after another, and text around a `/`.
-use mathlib.Core.Path.{_≡_, refl, sym, ap, _∙_, subst}
-use mathlib.Core.Bool.{Bool, true, false, not, _||_, _&&_, and-true, and-false}
-use mathlib.Core.Logic.{_⊎_, inl, inr}
-use mathlib.Core.List.{List, [], _∷_, _++_, append-assoc}
-use Prim.Native.Nat.{ℕ, zero, suc, _≤_, _<_}
+-- What callers need of text: bytes around a `/`, which never stands inside a character.
+use mathlib.Core.Path.{_≡_, refl, ap, _∙_}
+use mathlib.Core.Bool.{true, false, _&&_}
+use mathlib.Core.List.{List, [], _∷_, _++_}
+use Prim.Native.Nat.{ℕ, zero, suc}
 use native.Mathlib.Omega.{arith}
-use lib.Dec.{eqb, leb}
-use lib.ListN.{replicate}
 use Rattle.wire.specs.Pick.{pick}
-use Rattle.wire.proofs.Picks.{either, not-both, and-both, both-and, pick-true, pick-false, pick-case}
-use Rattle.text.specs.Text.{Range, from-to, inside, Row, row, table, never, begun, isDone, step, textFrom, isText, slash, hasByte, isName}
-use Rattle.text.proofs.Rows.{range-low, range-high}
-
--- ---- one text after another
-
--- bytes behind text are text exactly if the whole is
-pub from-append : (rs : List Range) (l m : List ℕ) → textFrom rs l ≡ true → textFrom rs (l ++ m) ≡ isText m
-unfolding textFrom
-from-append [] [] m h = refl
-from-append (r ∷ rs) [] m h = absurd (not-both h refl)
-from-append rs (c ∷ l) m h = from-append (step rs c) l m h
+use Rattle.wire.proofs.Picks.{pick-false, pick-case}
+use Rattle.text.specs.Text.{Range, from-to, inside, Row, row, table, never, begun, step, textFrom, isText, slash}
+use Rattle.text.proofs.Rows.{range-high}
 
 -- ---- around a slash
 
@@ -38,8 +26,25 @@ never-slash = (refl, tt)
 
 table-slash : NoSlashes table
 unfolding inside
-table-slash =
-    (tt, ((refl, tt), ((refl, (refl, tt)), ((refl, (refl, tt)), ((refl, (refl, tt)), ((refl, (refl, tt)), ((refl, (refl, (refl, tt))), ((refl, (refl, (refl, tt))), ((refl, (refl, (refl, tt))), tt)))))))))
+table-slash = (
+  tt,
+  (
+    (refl, tt),
+    (
+      (refl, (refl, tt)),
+      (
+        (refl, (refl, tt)),
+        (
+          (refl, (refl, tt)),
+          (
+            (refl, (refl, tt)),
+            ((refl, (refl, (refl, tt))), ((refl, (refl, (refl, tt))), ((refl, (refl, (refl, tt))), tt))),
+          ),
+        ),
+      ),
+    ),
+  ),
+)
 
 begun-slash : (t : List Row) (c : ℕ) → NoSlashes t → NoSlash (begun t c)
 unfolding begun
@@ -52,7 +57,7 @@ step-slash [] c h = begun-slash table c table-slash
 step-slash (r ∷ rs) c h = pick-case NoSlash (inside r c) rs never (λ e. h .1) (λ e. never-slash)
 
 -- nothing is text where a byte is due that there is not
-never-text : (l : List ℕ) → textFrom never l ≡ false
+pub never-text : (l : List ℕ) → textFrom never l ≡ false
 unfolding textFrom step inside
 never-text [] = refl
 never-text (c ∷ l) = ap (λ (rs : List Range). textFrom rs l) (pick-false _ _ (none c)) ∙ never-text l

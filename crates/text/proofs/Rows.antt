@@ -1,9 +1,9 @@
 -- What is due after a byte, by the rows of the table; x is what the code holds.
 use mathlib.Core.Path.{_≡_, refl, sym, ap, _∙_}
-use mathlib.Core.Bool.{Bool, true, false, _&&_, and-false}
+use mathlib.Core.Bool.{true, false, and-false}
 use mathlib.Core.Logic.{_⊎_, inl, inr}
 use mathlib.Core.List.{List, [], _∷_}
-use Prim.Native.Nat.{ℕ, zero, suc, _+_, _-_, _≤_, _<_}
+use Prim.Native.Nat.{ℕ, zero, suc, _-_, _≤_, _<_}
 use native.Mathlib.Omega.{arith}
 use lib.Dec.{leb}
 use lib.ListN.{replicate}
@@ -16,11 +16,11 @@ use Rattle.text.specs.declared.Due.{Due}
 -- ---- a range
 
 module _ (a b c : ℕ) where
-  pub range-in : a ≤ c → c ≤ b → inside (from-to a b) c ≡ true
+  range-in : a ≤ c → c ≤ b → inside (from-to a b) c ≡ true
   unfolding inside
   range-in h k = rw (le-leb a c h, le-leb c b k)
 
-  pub range-low : c < a → inside (from-to a b) c ≡ false
+  range-low : c < a → inside (from-to a b) c ≡ false
   unfolding inside
   range-low h = rw (lt-leb a c h)
 
@@ -52,13 +52,15 @@ fours =
     row (from-to 0xF4 0xF4) (from-to 0x80 0x8F ∷ tail ∷ tail ∷ []) ∷
     []
 
-abbrev threes : List Row
-threes =
-    row (from-to 0xE0 0xE0) (from-to 0xA0 0xBF ∷ tail ∷ []) ∷
+abbrev threes-but-E0 : List Row
+threes-but-E0 =
     row (from-to 0xE1 0xEC) (tail ∷ tail ∷ []) ∷
     row (from-to 0xED 0xED) (from-to 0x80 0x9F ∷ tail ∷ []) ∷
     row (from-to 0xEE 0xEF) (tail ∷ tail ∷ []) ∷
     fours
+
+abbrev threes : List Row
+threes = row (from-to 0xE0 0xE0) (from-to 0xA0 0xBF ∷ tail ∷ []) ∷ threes-but-E0
 
 module _ (c : ℕ) where
   to-threes : 0xDF < c → begun table c ≡ begun threes c
@@ -66,12 +68,14 @@ module _ (c : ℕ) where
 
   to-fours : 0xEF < c → begun table c ≡ begun fours c
   to-fours h =
-      to-threes (omega arith) ∙ high 0xE0 0xE0 c (from-to 0xA0 0xBF ∷ tail ∷ []) _ (omega arith) ∙ high 0xE1 0xEC c (tail ∷ tail ∷ []) _ (omega arith)
+      to-threes (omega arith) ∙ high 0xE0 0xE0 c (from-to 0xA0 0xBF ∷ tail ∷ []) _ (omega arith)
+      ∙ high 0xE1 0xEC c (tail ∷ tail ∷ []) _ (omega arith)
       ∙ high 0xED 0xED c (from-to 0x80 0x9F ∷ tail ∷ []) _ (omega arith) ∙ high 0xEE 0xEF c (tail ∷ tail ∷ []) fours h
 
   past-F3 : 0xF3 < c → begun table c ≡ begun (row (from-to 0xF4 0xF4) (from-to 0x80 0x8F ∷ tail ∷ tail ∷ []) ∷ []) c
   past-F3 h =
-      to-fours (omega arith) ∙ high 0xF0 0xF0 c (from-to 0x90 0xBF ∷ tail ∷ tail ∷ []) _ (omega arith) ∙ high 0xF1 0xF3 c (tail ∷ tail ∷ tail ∷ []) _ h
+      to-fours (omega arith) ∙ high 0xF0 0xF0 c (from-to 0x90 0xBF ∷ tail ∷ tail ∷ []) _ (omega arith)
+      ∙ high 0xF1 0xF3 c (tail ∷ tail ∷ tail ∷ []) _ h
 
   no-row : begun [] c ≡ never
   unfolding begun
@@ -82,7 +86,8 @@ module _ (c : ℕ) where
   none-three h =
       low 0xE0 0xE0 c (from-to 0xA0 0xBF ∷ tail ∷ []) _ h ∙ low 0xE1 0xEC c (tail ∷ tail ∷ []) _ (omega arith)
       ∙ low 0xED 0xED c (from-to 0x80 0x9F ∷ tail ∷ []) _ (omega arith) ∙ low 0xEE 0xEF c (tail ∷ tail ∷ []) fours (omega arith)
-      ∙ low 0xF0 0xF0 c (from-to 0x90 0xBF ∷ tail ∷ tail ∷ []) _ (omega arith) ∙ low 0xF1 0xF3 c (tail ∷ tail ∷ tail ∷ []) _ (omega arith)
+      ∙ low 0xF0 0xF0 c (from-to 0x90 0xBF ∷ tail ∷ tail ∷ []) _ (omega arith)
+      ∙ low 0xF1 0xF3 c (tail ∷ tail ∷ tail ∷ []) _ (omega arith)
       ∙ low 0xF4 0xF4 c (from-to 0x80 0x8F ∷ tail ∷ tail ∷ []) [] (omega arith) ∙ no-row
 
   none-two : c < 0xC2 → begun (row (from-to 0xC2 0xDF) (tail ∷ []) ∷ threes) c ≡ never
@@ -112,21 +117,23 @@ module _ (c : ℕ) where
 
     pub after-E0 : x ≡ ranges 2 0xA0 0xBF → c ≡ 0xE0 → x ≡ begun table c
     unfolding ranges
-    after-E0 e h = e ∙ sym (to-threes (omega arith) ∙ hit 0xE0 0xE0 c (from-to 0xA0 0xBF ∷ tail ∷ []) _ (omega arith) (omega arith))
+    after-E0 e h = e
+        ∙ sym (to-threes (omega arith) ∙ hit 0xE0 0xE0 c (from-to 0xA0 0xBF ∷ tail ∷ []) _ (omega arith) (omega arith))
 
     pub after-ED : x ≡ ranges 2 0x80 0x9F → c ≡ 0xED → x ≡ begun table c
     unfolding ranges
     after-ED e h =
         e ∙ sym (to-threes (omega arith) ∙ high 0xE0 0xE0 c (from-to 0xA0 0xBF ∷ tail ∷ []) _ (omega arith)
-        ∙ high 0xE1 0xEC c (tail ∷ tail ∷ []) _ (omega arith) ∙ hit 0xED 0xED c (from-to 0x80 0x9F ∷ tail ∷ []) _ (omega arith) (omega arith))
+        ∙ high 0xE1 0xEC c (tail ∷ tail ∷ []) _ (omega arith)
+        ∙ hit 0xED 0xED c (from-to 0x80 0x9F ∷ tail ∷ []) _ (omega arith) (omega arith))
 
     pub three-bytes : x ≡ ranges 2 0x80 0xBF → 0xE0 ≤ c → c ≤ 0xEF → (c ≡ 0xE0 → ⊥) → (c ≡ 0xED → ⊥) → x ≡ begun table c
     unfolding ranges
     three-bytes e h k m n =
-        e ∙ sym (to-threes (omega arith) ∙ high 0xE0 0xE0 c (from-to 0xA0 0xBF ∷ tail ∷ []) _ (omega arith) ∙ go (either (leb c 0xEC)))
+        e ∙ sym (to-threes (omega arith) ∙ high 0xE0 0xE0 c (from-to 0xA0 0xBF ∷ tail ∷ []) _ (omega arith)
+        ∙ go (either (leb c 0xEC)))
       where
-        go : (leb c 0xEC ≡ true) ⊎ (leb c 0xEC ≡ false) → begun (row (from-to 0xE1 0xEC) (tail ∷ tail ∷ []) ∷ row (from-to 0xED 0xED) (from-to 0x80 0x9F ∷ tail ∷ []) ∷ row (from-to 0xEE 0xEF) (tail ∷ tail ∷ []) ∷ fours) c
-            ≡ tail ∷ tail ∷ []
+        go : (leb c 0xEC ≡ true) ⊎ (leb c 0xEC ≡ false) → begun threes-but-E0 c ≡ tail ∷ tail ∷ []
         go (inl t) = let q = leb-true c 0xEC t in hit 0xE1 0xEC c (tail ∷ tail ∷ []) _ (omega arith) q
         go (inr f) =
             let q = leb-false c 0xEC f in
@@ -135,7 +142,8 @@ module _ (c : ℕ) where
 
     pub after-F0 : x ≡ ranges 3 0x90 0xBF → c ≡ 0xF0 → x ≡ begun table c
     unfolding ranges
-    after-F0 e h = e ∙ sym (to-fours (omega arith) ∙ hit 0xF0 0xF0 c (from-to 0x90 0xBF ∷ tail ∷ tail ∷ []) _ (omega arith) (omega arith))
+    after-F0 e h = e
+        ∙ sym (to-fours (omega arith) ∙ hit 0xF0 0xF0 c (from-to 0x90 0xBF ∷ tail ∷ tail ∷ []) _ (omega arith) (omega arith))
 
     pub four-bytes : x ≡ ranges 3 0x80 0xBF → 0xF0 ≤ c → (c ≡ 0xF0 → ⊥) → c < 0xF4 → x ≡ begun table c
     unfolding ranges
@@ -145,7 +153,8 @@ module _ (c : ℕ) where
 
     pub after-F4 : x ≡ ranges 3 0x80 0x8F → c ≡ 0xF4 → x ≡ begun table c
     unfolding ranges
-    after-F4 e h = e ∙ sym (past-F3 (omega arith) ∙ hit 0xF4 0xF4 c (from-to 0x80 0x8F ∷ tail ∷ tail ∷ []) [] (omega arith) (omega arith))
+    after-F4 e h = e
+        ∙ sym (past-F3 (omega arith) ∙ hit 0xF4 0xF4 c (from-to 0x80 0x8F ∷ tail ∷ tail ∷ []) [] (omega arith) (omega arith))
 
     pub above-all : x ≡ ranges 1 1 0 → 0xF4 ≤ c → (c ≡ 0xF4 → ⊥) → x ≡ begun table c
     unfolding ranges
@@ -184,4 +193,6 @@ module _ (d : Due) (c : ℕ) (x : List Range) where
 
       go : (j : ℕ) → (j ≡ 0 → ⊥) → x ≡ ranges (j - 1) 0x80 0xBF → x ≡ step (ranges j (d .low) (d .high)) c
       go zero m f = absurd (m refl)
-      go (suc j) m f = let y : suc j - 1 ≡ j = omega arith in f ∙ ap (λ (i : ℕ). ranges i 0x80 0xBF) y ∙ tails j ∙ sym (pick-true _ _ (range-in (d .low) (d .high) c h k))
+      go (suc j) m f =
+          let y : suc j - 1 ≡ j = omega arith in
+          f ∙ ap (λ (i : ℕ). ranges i 0x80 0xBF) y ∙ tails j ∙ sym (pick-true _ _ (range-in (d .low) (d .high) c h k))

@@ -20,8 +20,8 @@ abbrev pub tail : Range
 tail = from-to 0x80 0xBF
 
 -- The table of RFC 3629, section 4, row by row; its first row, 0x00 to 0x7F, without the controls and 0x7F.
--- No row begins with 0x80 to 0xC1 or from 0xF5 on; 0xE0 and 0xF0 have no longer form of a shorter character, 0xED no surrogate,
--- and 0xF4 nothing above U+10FFFF.
+-- No row begins with 0x80 to 0xC1 or with 0xF5 and above. Behind 0xE0 and 0xF0 there is no longer form of a shorter character,
+-- behind 0xED no surrogate, behind 0xF4 nothing above U+10FFFF.
 abbrev pub table : List Row
 table =
     row (from-to 0x20 0x7E) [] ∷

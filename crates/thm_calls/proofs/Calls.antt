@@ -9,7 +9,7 @@ use native.Mathlib.Nat.{zero-add}
 use native.Mathlib.Omega.{arith}
 use lib.ListN.{length, take, drop}
 use lib.Seq.{take-append-seam}
-use Rattle.wire.specs.Pick.{pick, same}
+use Rattle.wire.specs.Pick.{same}
 use Rattle.wire.proofs.Picks.{pick-true, pick-false, same-refl}
 use Rattle.model.specs.Answers.{Reply, accepted, refused, andThen, firstOf, given}
 use Rattle.model.specs.Tree.{Name, Cell, Node, file, device, sub, Entry, Below, entriesOf, Absent, lookup, sum, Some, find}
@@ -26,13 +26,13 @@ use Rattle.dir_entry.specs.Shown.{kindIs, headOf}
 use Rattle.read_dir.specs.Walk.{Walk, walk}
 use Rattle.read_dir.specs.Finds.{sumFrom, skip, listFrom, recordsFrom}
 use Rattle.path.specs.Path.{slash, realPath, badPath}
-use Rattle.path.proofs.Laws.{root-good}
+use Rattle.path.proofs.FullPaths.{root-good}
 use Rattle.dir.specs.Resolve.{Held, held, onName, entryOf, openDir}
 use Rattle.file.specs.declared.Handle.{Handle}
 use Rattle.file.specs.File.{readRefusal, bytesRead}
-use Rattle.mfs.specs.Reading.{pathCall, size, area, end, handleFor, openEntry, openOn, openReply, about, aboutEntry, aboutRoot, infoOn, infoReply, countsOf, listOn, listReply, recordsAt, recordsOn}
-use Rattle.mfs.proofs.Opening.{entry-dir, entry-device, entry-file}
-use Rattle.mfs.proofs.Paths.{given-none}
+use Rattle.call_read.specs.Reading.{pathCall, size, area, end, handleFor, openEntry, openOn, openReply, about, aboutEntry, aboutRoot, infoOn, infoReply, countsOf, listOn, listReply, recordsAt, recordsOn}
+use Rattle.call_read.proofs.Opening.{entry-dir, entry-device, entry-file}
+use Rattle.call_read.proofs.Paths.{given-none}
 use Rattle.thm_walk.specs.Shown.{walkOf}
 use Rattle.thm_walk.proofs.Walks.{walk-is}
 use Rattle.thm_path.specs.Shown.{wayTo}
@@ -112,10 +112,6 @@ module _ (K : ℕ) (I : List ℕ) (w : WellFormed K I) (cwd p : List ℕ) (good 
 
   -- ---- nothing is there
 
-  -- Open with an empty last name gives 5.
-  pub open-nameless : lastOf cwd p ≡ [] → openReply K I cwd p ≡ refused 5
-  open-nameless e = open-stops 5 (at-none e)
-
   -- Open of a path whose names lead to no directory gives 5 or 6, never 17.
   pub open-lost : find maxDepth (wayOf cwd p) (w .tree) ≡ none → (openReply K I cwd p ≡ refused 5) ⊎ (openReply K I cwd p ≡ refused 6)
   open-lost f = go (at-lost f)
@@ -123,10 +119,6 @@ module _ (K : ℕ) (I : List ℕ) (w : WellFormed K I) (cwd p : List ℕ) (good 
       go : (at-path ≡ refused 5) ⊎ (at-path ≡ refused 6) → (openReply K I cwd p ≡ refused 5) ⊎ (openReply K I cwd p ≡ refused 6)
       go (inl e) = inl (open-stops 5 e)
       go (inr e) = inr (open-stops 6 e)
-
-  -- Info, but for `/` itself, gives 5 for an empty last name,
-  pub info-nameless : same p (slash ∷ []) ≡ false → lastOf cwd p ≡ [] → infoReply K I cwd p ≡ refused 5
-  info-nameless o e = info-stops 5 o (at-none e)
 
   -- and 5 or 6, never 17, where the names lead to no directory.
   pub info-lost : same p (slash ∷ []) ≡ false → find maxDepth (wayOf cwd p) (w .tree) ≡ none → (infoReply K I cwd p ≡ refused 5) ⊎ (infoReply K I cwd p ≡ refused 6)
@@ -237,7 +229,7 @@ module _ (K : ℕ) (I : List ℕ) (w : WellFormed K I) (cwd p : List ℕ) (good 
 
     module _ (i cap : ℕ) where
       -- A listing is that of the tree's directory,
-      pub list-dir : listReply K I cwd p i cap ≡ countsOf (listFrom cap 0 i (skip i (walkOf (viewAt K I (s .0)) (s .1))))
+      list-dir : listReply K I cwd p i cap ≡ countsOf (listFrom cap 0 i (skip i (walkOf (viewAt K I (s .0)) (s .1))))
       unfolding listReply listOn andThen
       list-dir =
           call-given K I w cwd p good _

@@ -21,7 +21,7 @@ use Rattle.model.proofs.Replies.{settle-none, given-accepted, then-accepted, fi
 use Rattle.dir_entry.specs.declared.Kind.{Kind}
 use Rattle.dir_entry.specs.declared.Kind.the-variants as kind
 use Rattle.path.specs.Path.{realPath, badPath, lastName}
-use Rattle.path.proofs.Laws.{real-bytes}
+use Rattle.path.proofs.FullPaths.{real-bytes}
 use Rattle.create.specs.Creating.{Site, Fresh, siteOf, freshOf, createdOn, createdImage}
 use Rattle.create.specs.Creating.{imageAt as createdAt}
 use Rattle.create.proofs.Trees.{created-file, created-dir}
@@ -36,14 +36,14 @@ use Rattle.file.specs.Writing.{Target, targetOf, writtenImage, grownHandle, han
 use Rattle.file.specs.Writing.{imageAt as writtenAt}
 use Rattle.file.specs.Written.{countedSays}
 use Rattle.file.proofs.Targets.{written-is}
-use Rattle.mfs.specs.declared.Answer.{Answer}
-use Rattle.mfs.specs.declared.Answer.the-variants as answer
-use Rattle.mfs.specs.declared.OpenOut.{OpenOut}
-use Rattle.mfs.specs.Says.{says, onAnswer, IfRefused}
-use Rattle.mfs.specs.Reading.{noHandle}
-use Rattle.mfs.specs.Checking.{checkRefusal}
-use Rattle.mfs.specs.Changing.{changeCall, createReply, createImage, freshHandle, CreatesFile, CreatesDir, Deletes, writeReply, Writes}
-use Rattle.mfs.proofs.Checked.{check-passed}
+use Rattle.call_volume.specs.declared.Answer.{Answer}
+use Rattle.call_volume.specs.declared.Answer.the-variants as answer
+use Rattle.call_read.specs.declared.OpenOut.{OpenOut}
+use Rattle.call_volume.specs.Says.{says, onAnswer, IfRefused}
+use Rattle.call_read.specs.Reading.{noHandle}
+use Rattle.call_volume.specs.Checking.{checkRefusal}
+use Rattle.call_change.specs.Changing.{changeCall, createReply, createImage, freshHandle, CreatesFile, CreatesDir, Deletes, writeReply, Writes}
+use Rattle.call_volume.proofs.Checked.{check-passed}
 use Rattle.thm_calls.specs.Named.{wayOf, lastOf}
 use Rattle.thm_calls.proofs.Stored.{bytes-inserted, bytes-removed, bytes-wrote}
 
@@ -62,7 +62,7 @@ pub volume-at : (K : ℕ) (I : List ℕ) (w : WellFormed K I) → Volume (geoAt 
 volume-at K I w = subst (λ (g : Geo). Volume g I maxDepth (w .tree)) (well-formed-geo K I w) (w .volume)
 
 -- What a changing call makes of a well-formed image is a well-formed image, of the new tree.
-pub well-after : (K : ℕ) (I J : List ℕ) → WellFormed K I → (u : Tree maxDepth) (left : List Piece) → Makes (geoAt K I) maxDepth u left I J → WellFormed K J
+well-after : (K : ℕ) (I J : List ℕ) → WellFormed K I → (u : Tree maxDepth) (left : List Piece) → Makes (geoAt K I) maxDepth u left I J → WellFormed K J
 well-after K I J w u left m = record { numbers = geoAt K I; here = ap (λ (g : Geo). g .K) (sym (well-formed-geo K I w)) ∙ w .here; tree = u; volume = m .volume }
 
 -- and however J is found well formed, its tree is that one.

@@ -13,7 +13,7 @@ use lib.Seq.{length-take-le, take-nil, take-all, take-take, take-append-add}
 use borrow.Author.Tests.{le-leb, le-ltb, eq-eqb, ne-eqb}
 use Rattle.wire.specs.Be.{bytes}
 use Rattle.wire.specs.Pick.{pick, same}
-use Rattle.wire.proofs.Laws.{length-bytes}
+use Rattle.wire.proofs.Numbers.{length-bytes}
 use Rattle.wire.proofs.Picks.{either, pick-true, pick-false, same-refl, both-and}
 use Rattle.block.specs.Block.{next}
 use Rattle.model.specs.Tree.{Name, Cell, Node, file, device, Entry, Block, Below, Tree, then, first, entriesOf, called, lookup, weight, Some, find}
@@ -53,7 +53,7 @@ module _ (g : Geo) (I : List ℕ) (sound : Sound g (length I)) where
   cells-small (c ∷ cs) s = omega (arith, stored-in g I _ _ s .1, few g (length I) sound)
 
   -- The first m blocks of a chain that the image holds.
-  pub chain-cells : (cs : List Cell) (m : ℕ) → m ≤ length cs → Stored g I (cellPieces cs)
+  chain-cells : (cs : List Cell) (m : ℕ) → m ≤ length cs → Stored g I (cellPieces cs)
       → chain (blockSize g) (dataAt g) (g .n) I m (cellsAt cs) ≡ some (take m (places cs))
   unfolding chain cellsAt places cellPieces
   chain-cells [] zero h s = refl
@@ -80,7 +80,7 @@ module _ (g : Geo) (I : List ℕ) (sound : Sound g (length I)) where
       ∙ shown-part I (B * c .at + 4) (c .body) (omega (arith, w .whole, block-inside g (length I) sound (c .at) (r .1), size-large g)) h
 
   -- The data bytes of its first m blocks.
-  pub data-cells : (cs : List Cell) (m : ℕ) → All (GoodCell (blockSize g)) cs → Stored g I (cellPieces cs)
+  data-cells : (cs : List Cell) (m : ℕ) → All (GoodCell (blockSize g)) cs → Stored g I (cellPieces cs)
       → dataOf (blockSize g) (dataAt g) (g .n) I (take m (places cs)) ≡ take ((blockSize g - 4) * m) (stream cs)
   unfolding dataOf places stream
   data-cells [] m w s = ap (dataOf (blockSize g) (dataAt g) (g .n) I) (take-nil m) ∙ sym (take-nil ((blockSize g - 4) * m))
@@ -93,7 +93,7 @@ module _ (g : Geo) (I : List ℕ) (sound : Sound g (length I)) where
       ∙ sym (ap (λ (j : ℕ). take j (c .body ++ stream cs)) e ∙ take-append-add (c .body) (stream cs) ((B - 4) * m))
 
   -- The data bytes of all of it.
-  pub data-all : (cs : List Cell) → All (GoodCell (blockSize g)) cs → Stored g I (cellPieces cs) → dataOf (blockSize g) (dataAt g) (g .n) I (places cs) ≡ stream cs
+  data-all : (cs : List Cell) → All (GoodCell (blockSize g)) cs → Stored g I (cellPieces cs) → dataOf (blockSize g) (dataAt g) (g .n) I (places cs) ≡ stream cs
   data-all cs w s =
       ap (dataOf (blockSize g) (dataAt g) (g .n) I) (sym (take-all (length cs) (places cs) (omega (arith, length-places cs))))
       ∙ data-cells cs (length cs) w s
@@ -120,7 +120,7 @@ module _ (g : Geo) (I : List ℕ) (d : ℕ) (t : Tree d) (u : ℕ) (p : List Nam
       subst (λ (y : Node (Below (s .0))). GoodNode (blockSize g) (GoodBelow (blockSize g) (s .0)) y) i
       (good-lookup (blockSize g) (GoodBelow (blockSize g) (s .0)) n (s .1) e (there .good) k .below)
 
-  pub chained : (e .node ≡ file z cs) ⊎ (e .node ≡ device z cs) → Chained g I cs
+  chained : (e .node ≡ file z cs) ⊎ (e .node ≡ device z cs) → Chained g I cs
   unfolding nodePieces
   chained (inl i) = record { stored = node-stored (file z cs) i; cells = node-good (file z cs) i .cells }
   chained (inr i) = record { stored = node-stored (device z cs) i; cells = node-good (device z cs) i .cells }
@@ -181,12 +181,12 @@ module _ {X : Type 0} (v : View X) (h : Handle) where
           pick-false 0 (held es 11) (not-own v h e x) ∙ r (omega arith) ∙ sym (ap (heldBy v h) (first-there (called (nameOf h)) e es x))
 
   -- The walk of a directory with distinct names holds the handle exactly where the entry of its name does.
-  pub walk-held : (bs : List (Block X)) → ((n : Name) → namedIn n bs ≤ 1) → heldIn h (walkOf v bs) ≡ heldBy v h (lookup (nameOf h) bs)
+  walk-held : (bs : List (Block X)) → ((n : Name) → namedIn n bs ≤ 1) → heldIn h (walkOf v bs) ≡ heldBy v h (lookup (nameOf h) bs)
   walk-held bs c =
       entries-held bs ∙ held-first (entriesOf bs) (omega (arith, c (nameOf h), named-entries (nameOf h) bs)) ∙ ap (heldBy v h) (sym (lookup-entries (nameOf h) bs))
 
 -- A handle of a directory of the volume: 0 where the tree has its file there, else 11.
-pub held-is : (g : Geo) (I : List ℕ) (d : ℕ) (t : Tree d) (u : ℕ) (p : List Name) (s : Some) (h : Handle) → Laid g I d t u → find d p t ≡ some s
+held-is : (g : Geo) (I : List ℕ) (d : ℕ) (t : Tree d) (u : ℕ) (p : List Name) (s : Some) (h : Handle) → Laid g I d t u → find d p t ≡ some s
     → heldIn h (walk (blockSize g) (dataAt g) (g .n) I (blocksAt (s .1))) ≡ heldBy (view (blockSize g) (s .0)) h (lookup (nameOf h) (s .1))
 held-is g I d t u p s h l f =
     ap (heldIn h) (walk-is g I d t u p s l f)
@@ -296,7 +296,7 @@ module _ (g : Geo) (I : List ℕ) (d : ℕ) (t : Tree d) (u : ℕ) (p : List Nam
 
 module _ {X : Type 0} (v : View X) (h : Handle) where
   -- The entry of the handle's name is the handle's file, or 11 is the answer.
-  pub held-or : (bs : List (Block X))
+  held-or : (bs : List (Block X))
       → ((e : Entry X) × (cs : List Cell) × (lookup (nameOf h) bs ≡ some e) × (e .node ≡ file (h .size) cs) × (h .addr .0 ≡ cellsAt cs)) ⊎ (heldBy v h (lookup (nameOf h) bs) ≡ 11)
   unfolding heldBy
   held-or bs = go (lookup (nameOf h) bs) refl

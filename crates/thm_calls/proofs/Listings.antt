@@ -26,7 +26,7 @@ use Rattle.thm_calls.specs.Named.{recordsLong, recordsOf, fitting, liste
 
 module _ {X : Type 0} where
   -- All records go into a buffer with more bytes than they have.
-  pub all-fit : (cap b : ℕ) (es : List (Entry X)) → b + recordsLong es < cap → fitting cap b es ≡ length es
+  all-fit : (cap b : ℕ) (es : List (Entry X)) → b + recordsLong es < cap → fitting cap b es ≡ length es
   unfolding recordsLong fitting
   all-fit cap b [] h = refl
   all-fit cap b (e ∷ es) h =
@@ -70,13 +70,13 @@ module _ {X : Type 0} (v : View X) where
   tells-items a (e ∷ es) fs o w t = (refl, refl, tells-items a es fs (o + weight e) w t)
 
   -- A directory's walk has its entries,
-  pub tells-walk : (bs : List (Block X)) → Tells (entriesOf bs) (walkOf v bs)
+  tells-walk : (bs : List (Block X)) → Tells (entriesOf bs) (walkOf v bs)
   unfolding walkOf entriesOf
   tells-walk [] = tt
   tells-walk (b ∷ bs) = tells-items (b .at) (b .entries) (entriesOf bs) 0 (walkOf v bs) (tells-walk bs)
 
   -- and without the first i of them it has the others.
-  pub tells-skip : (i : ℕ) (es : List (Entry X)) (w : Walk) → Tells es w → Tells (drop i es) (skip i w)
+  tells-skip : (i : ℕ) (es : List (Entry X)) (w : Walk) → Tells es w → Tells (drop i es) (skip i w)
   unfolding skip
   tells-skip zero es w t = t
   tells-skip (suc i) [] (item h a o x w) t = absurd t
@@ -94,7 +94,7 @@ module _ {X : Type 0} (v : View X) where
   len-is h e t = ap (λ (r : DirEntry). r .len) t
 
   -- It shows the entries that go into the buffer: their bytes and the number after them are the answer,
-  pub listing-counts : (cap : ℕ) (es : List (Entry X)) (w : Walk) (b i : ℕ) → Tells es w
+  listing-counts : (cap : ℕ) (es : List (Entry X)) (w : Walk) (b i : ℕ) → Tells es w
       → listFrom cap b i w ≡ listed.Records (b + recordsLong (take (fitting cap b es) es)) (i + fitting cap b es)
   unfolding listFrom recordsLong fitting
   listing-counts cap [] (item h a o x w) b i t = absurd t
@@ -125,7 +125,7 @@ module _ {X : Type 0} (v : View X) where
           ∙ sym (ap (λ (k : ℕ). listed.Records (b + recordsLong (take k (e ∷ es))) (i + k)) (pick-false (suc m) 0 y))
 
   -- and the bytes are those of their records.
-  pub listing-records : (cap : ℕ) (es : List (Entry X)) (w : Walk) (b : ℕ) → Tells es w → recordsFrom cap b w ≡ recordsOf v (take (fitting cap b es) es)
+  listing-records : (cap : ℕ) (es : List (Entry X)) (w : Walk) (b : ℕ) → Tells es w → recordsFrom cap b w ≡ recordsOf v (take (fitting cap b es) es)
   unfolding recordsFrom recordsOf fitting
   listing-records cap [] (item h a o x w) b t = absurd t
   listing-records cap [] finished b t = refl

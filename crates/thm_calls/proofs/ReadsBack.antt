@@ -36,8 +36,8 @@ use Rattle.file.specs.OnTree.{OnFile}
 use Rattle.file.proofs.Seeks.{fresh}
 use Rattle.file.proofs.Targets.{accepted-is}
 use Rattle.file.proofs.Renewed.{still-fresh, was-good, there-after, starts-after, held-after, from-after}
-use Rattle.mfs.specs.Reading.{size, area, end, readCall, Reads}
-use Rattle.mfs.specs.Changing.{Writes}
+use Rattle.call_read.specs.Reading.{size, area, end, readCall, Reads}
+use Rattle.call_change.specs.Changing.{Writes}
 use Rattle.thm_calls.specs.Handles.{HandleOf}
 use Rattle.thm_calls.proofs.Calls.{read-file, read-bytes}
 use Rattle.thm_calls.proofs.Changing.{volume-at, write-passed, write-handle}
@@ -95,12 +95,12 @@ module _ (K : ℕ) (I J : List ℕ) (w : WellFormed K I) (h : Handle) (now : ℕ
 
     module _ (len : ℕ) where
       -- A read through the answered handle, moved to a position in the file, is accepted,
-      pub reads-back : readCall K J (moved (grownHandle h (length buf)) i) len ≡ 0
+      reads-back : readCall K J (moved (grownHandle h (length buf)) i) len ≡ 0
       unfolding fileEntry readCall
       reads-back = read-file K J after q dir′ there (nameOf h) (fileEntry (nameOf h) now long es) held long es refl at handle-of len
 
       -- and gives those bytes from there on: as many as are asked for, or as there are.
-      pub bytes-back : bytesRead (size K J) (area K J) (end K J) J (moved (grownHandle h (length buf)) i) len
+      bytes-back : bytesRead (size K J) (area K J) (end K J) J (moved (grownHandle h (length buf)) i) len
           ≡ take (min len (h .position + length buf - i)) (drop i (take (h .position) (contents (m .size) (m .cells)) ++ buf))
       unfolding fileEntry
       bytes-back =

@@ -7,7 +7,7 @@ use lib.Dec.{eqb, ltb}
 use lib.ListN.{length, getD, take, drop, set}
 use Rattle.wire.specs.Be.{bytes, splice, zeros}
 use Rattle.wire.specs.Pick.{pick, zeroFrom}
-use Rattle.wire.proofs.Laws.{getD-zeros}
+use Rattle.wire.proofs.Numbers.{getD-zeros}
 use Rattle.bits.specs.Bit.{digit, withDigit, withBit}
 use Rattle.block.specs.Block.{linked, zeroed, next}
 use Rattle.model.specs.Tree.{Name}

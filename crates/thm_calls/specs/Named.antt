@@ -13,7 +13,7 @@ use Rattle.dir_entry.specs.declared.DirEntry.{DirEntry}
 use Rattle.dir_entry.specs.Shown.{headOf}
 use Rattle.read_dir.specs.Finds.{recordOf}
 use Rattle.path.specs.Path.{realPath, lastName, dirPart, steps}
-use Rattle.mfs.specs.Reading.{size}
+use Rattle.call_read.specs.Reading.{size}
 
 -- The names on the way to the last name of a call's path, that last name, and the names of the whole path.
 abbrev pub wayOf : List ℕ → List ℕ → List Name

@@ -4,10 +4,9 @@ use mathlib.Core.Bool.{true, false}
 use mathlib.Core.Logic.{_⊎_, inl, inr}
 use mathlib.Core.Option.{some}
 use mathlib.Core.List.{List, [], _∷_, _++_, map, map-append}
-use Prim.Native.Nat.{ℕ, zero, suc, _+_}
+use Prim.Native.Nat.{ℕ, _+_}
 use native.Mathlib.Nat.{add-zero, zero-add, add-assoc}
 use native.Mathlib.Omega.{arith}
-use lib.ListN.{drop}
 use Rattle.wire.proofs.Picks.{either, not-both, pick-true, pick-false, same-swap}
 use Rattle.model.specs.Tree.{Name, Entry, Block, Below, Tree, any, first, then, entriesOf, called, holds, Absent, lookup, weight, sum, Some, find}
 use Rattle.model.specs.Render.{View, blocksAt, view, offset}
@@ -20,8 +19,8 @@ use Rattle.dir_entry.specs.Shown.{headOf}
 use Rattle.read_dir.specs.declared.Place.{Place}
 use Rattle.read_dir.specs.declared.Found.the-variants as found
 use Rattle.read_dir.specs.declared.Summed.the-variants as summed
-use Rattle.read_dir.specs.Walk.{Walk, item, finished, damaged, walk}
-use Rattle.read_dir.specs.Finds.{placed, findIn, sumFrom, skip}
+use Rattle.read_dir.specs.Walk.{Walk, walk}
+use Rattle.read_dir.specs.Finds.{placed, findIn, sumFrom}
 use Rattle.thm_walk.specs.Shown.{itemsOf, walkOf, spotOf, itemsIn}
 use Rattle.thm_walk.proofs.Walks.{walk-is, walk-sum}
 
@@ -116,18 +115,10 @@ module _ {X : Type 0} (v : View X) where
   items-list a [] o w = refl
   items-list a (e ∷ es) o w = ap (λ (l : List (DirEntry × List ℕ)). pairOf e ∷ l) (items-list a es (o + weight e) w)
 
-  pub walk-list : (bs : List (Block X)) → itemsIn (walkOf v bs) ≡ map pairOf (entriesOf bs)
+  walk-list : (bs : List (Block X)) → itemsIn (walkOf v bs) ≡ map pairOf (entriesOf bs)
   unfolding walkOf itemsIn entriesOf
   walk-list [] = refl
   walk-list (b ∷ bs) = items-list (b .at) (b .entries) 0 (walkOf v bs) ∙ ap (λ (l : List (DirEntry × List ℕ)). map pairOf (b .entries) ++ l) (walk-list bs) ∙ sym (map-append pairOf (b .entries) (entriesOf bs))
-
--- Without the first i entries of a walk.
-pub skip-list : (i : ℕ) (w : Walk) → itemsIn (skip i w) ≡ drop i (itemsIn w)
-unfolding skip itemsIn
-skip-list zero w = refl
-skip-list (suc i) (item e a o x w) = skip-list i w
-skip-list (suc i) finished = refl
-skip-list (suc i) damaged = refl
 
 -- ---- on a volume
 
@@ -164,14 +155,6 @@ module _ (g : Geo) (I : List ℕ) (d : ℕ) (t : Tree d) (u : ℕ) (p : List Nam
       go : ((e : Entry (Below (s .0))) × (lookup n (s .1) ≡ some e)) ⊎ Absent n (s .1) → Absent n (s .1)
       go (inl h) = let m = find-is n (h .0) (h .1) in let z : _≡_ {A = ℕ} 0 1 = cc in absurd (omega arith)
       go (inr h) = h
-
-  -- and no damage is met.
-  pub never-damaged : (n : Name) → findIn n at-path ≡ found.Damaged → ⊥
-  never-damaged n k = go (lookup-or n (s .1))
-    where
-      go : ((e : Entry (Below (s .0))) × (lookup n (s .1) ≡ some e)) ⊎ Absent n (s .1) → ⊥
-      go (inl h) = let m = find-is n (h .0) (h .1) in let z : _≡_ {A = ℕ} 0 1 = cc in omega arith
-      go (inr h) = let m = find-missing n h in let z : _≡_ {A = ℕ} 0 1 = cc in omega arith
 
   -- The sum is the directory's size.
   pub sum-is : sumFrom 0 at-path ≡ summed.Total (sum (s .1))

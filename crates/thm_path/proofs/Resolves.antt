@@ -23,7 +23,7 @@ use Rattle.read_dir.specs.declared.Found.{Found}
 use Rattle.read_dir.specs.Finds.{findIn}
 use Rattle.path.specs.Path.{lastName, dirPart, steps}
 use Rattle.dir.specs.Resolve.{onFound, onName, Held, lookupIn, resolve, entryOf}
-use Rattle.dir.proofs.Laws.{name-some}
+use Rattle.dir.proofs.Answers.{name-some}
 use Rattle.thm_walk.proofs.Parts.{Part, laid-part, part-sub}
 use Rattle.thm_walk.proofs.Walks.{part-walk}
 use Rattle.thm_path.specs.Shown.{onNode, onEntry, wayTo}
@@ -136,7 +136,7 @@ module _ (g : Geo) (I : List ℕ) where
   enter-is v p f e h = enter-node v p f (e .node) h
 
   -- The way from a directory that the image holds is the tree's.
-  pub resolve-part : (d : ℕ) (p : List Name) (t : Tree d) → Part g I d t
+  resolve-part : (d : ℕ) (p : List Name) (t : Tree d) → Part g I d t
       → resolve (blockSize g) (dataAt g) (g .n) I p (blocksAt t) ≡ starts (wayTo d p t)
   unfolding wayTo resolve andThen view
   resolve-part zero [] t a = refl

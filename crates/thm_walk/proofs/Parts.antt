@@ -108,12 +108,12 @@ part-find g I (suc d) (n ∷ p) t s a f =
 
 module _ (g : Geo) (I : List ℕ) where
   -- a chain with a block begins in the data area
-  pub cells-in : (cs : List Cell) → 1 ≤ length cs → Stored g I (cellPieces cs) → (dataAt g ≤ cellsAt cs) × (cellsAt cs < g .n)
+  cells-in : (cs : List Cell) → 1 ≤ length cs → Stored g I (cellPieces cs) → (dataAt g ≤ cellsAt cs) × (cellsAt cs < g .n)
   unfolding cellPieces cellsAt
   cells-in [] h s = absurd (omega arith)
   cells-in (c ∷ cs) h s = stored-in g I _ _ s
 
-  pub blocks-in : {X : Type 0} (v : View X) (bs : List (Block X)) → Packed bs → Stored g I (dirPieces (blockSize g) v bs) → (dataAt g ≤ blocksAt bs) × (blocksAt bs < g .n)
+  blocks-in : {X : Type 0} (v : View X) (bs : List (Block X)) → Packed bs → Stored g I (dirPieces (blockSize g) v bs) → (dataAt g ≤ blocksAt bs) × (blocksAt bs < g .n)
   unfolding dirPieces blocksAt
   blocks-in v [] h s = absurd h
   blocks-in v (b ∷ bs) h s = stored-in g I _ _ s

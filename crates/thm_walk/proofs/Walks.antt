@@ -21,7 +21,6 @@ use Rattle.model.proofs.Sums.{chain-long}
 use Rattle.model.proofs.Lists.{not-some}
 use Rattle.model.proofs.Others.{lookup-there}
 use Rattle.dir_entry.specs.declared.Slot.{Slot}
-use Rattle.dir_entry.specs.declared.Slot.the-variants as slot
 use Rattle.dir_entry.specs.Entry.{header, placeAt}
 use Rattle.dir_entry.specs.Shown.{headOf}
 use Rattle.dir_entry.proofs.Shown.{Legible, head-weight, less-left, first-shown, block-stops, slot-is, name-is}
@@ -44,7 +43,7 @@ module _ {X : Type 0} (B D n : ℕ) (I : List ℕ) (v : View X) (a : ℕ) (insid
       ∙ ap (λ (x : List ℕ). item (headOf v e) a o x w) (name-is B I v a inside o e h s)
 
   -- A block that shows entries from offset o on, and zeros after them: they are read, with any bound that the block's rest does not pass.
-  pub entries-walk : (es : List (Entry X)) (f o : ℕ) (w : Walk) → B - o ≤ f → o + used es ≤ B - 5 → All (Legible v) es
+  entries-walk : (es : List (Entry X)) (f o : ℕ) (w : Walk) → B - o ≤ f → o + used es ≤ B - 5 → All (Legible v) es
       → Shows I (placeAt B a o) (padded (B - 4 - o) (entriesBytes v es)) → entriesFrom B D n I f a o w ≡ itemsOf v a o es w
   unfolding entriesFrom itemsOf onSlot used entriesBytes
   entries-walk [] zero o w k h l s = refl

@@ -1,3 +1,3 @@
-pub mod Laws
+pub mod Numbers
 pub mod Picks
 pub mod Zeros

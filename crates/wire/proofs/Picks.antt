@@ -66,7 +66,7 @@ same-swap l m = go (either (same l m)) (either (same m l))
     go (inr a) (inr b) = a ∙ sym b
 
 -- lists that differ at a place are not the same
-pub same-differ : (l m : List ℕ) (i : ℕ) → (getD l i 0 ≡ getD m i 0 → ⊥) → same l m ≡ false
+same-differ : (l m : List ℕ) (i : ℕ) → (getD l i 0 ≡ getD m i 0 → ⊥) → same l m ≡ false
 same-differ l m i d = go (either (same l m))
   where
     go : (same l m ≡ true) ⊎ (same l m ≡ false) → same l m ≡ false

@@ -5,7 +5,7 @@ use Prim.Native.Nat.{ℕ, zero, suc, _+_, _-_, _*_, _≤_, _<_}
 use native.Mathlib.Omega.{arith}
 use lib.ListN.{length, length-append, length-replicate}
 use Rattle.wire.specs.Be.{bytes, splice}
-use Rattle.wire.proofs.Laws.{length-bytes}
+use Rattle.wire.proofs.Numbers.{length-bytes}
 use Rattle.block.specs.Block.{linked}
 use Rattle.model.specs.Tree.{Cell}
 use Rattle.model.specs.Render.{cellsAt, cellPieces, count, Shows, ShowsAll}

@@ -8,7 +8,7 @@ use native.Mathlib.Omega.{arith}
 use lib.ListN.{length, take, drop, length-append, length-take, length-drop, take-append-drop, drop-of-length-le}
 use lib.Seq.{length-take-le, take-all, take-at, drop-at, take-append-le, drop-append-le, drop-append-add, take-add}
 use Rattle.wire.specs.Be.{splice}
-use Rattle.wire.proofs.Laws.{length-splice, splice-nil, splice-past}
+use Rattle.wire.proofs.Numbers.{length-splice, splice-nil, splice-past}
 use Rattle.model.specs.Tree.{Cell}
 use Rattle.model.specs.Render.{cellsAt}
 use Rattle.model.specs.Volume.{All}
@@ -17,7 +17,7 @@ use Rattle.model.specs.Calls.{places, stream, chop}
 -- ---- a store over two lists side by side
 
 -- it ends in the first
-pub splice-one : (A S : List ℕ) (o : ℕ) (vs : List ℕ) → o + length vs ≤ length A → splice (A ++ S) o vs ≡ splice A o vs ++ S
+splice-one : (A S : List ℕ) (o : ℕ) (vs : List ℕ) → o + length vs ≤ length A → splice (A ++ S) o vs ≡ splice A o vs ++ S
 unfolding splice
 splice-one A S o vs h =
     (λ i. take-append-le o A S (let q : o ≤ length A = omega arith in q) i ++ (vs ++ drop-append-le (o + length vs) A S h i))
@@ -38,7 +38,7 @@ splice-over A S o us vs h =
     ∙ ap (λ (x : List ℕ). (take o A ++ x) ++ (vs ++ drop (0 + length vs) S)) (sym (append-nil us) ∙ ap (λ (x : List ℕ). us ++ x) (sym z))
 
 -- either way: what has room goes into the first
-pub splice-both : (w : ℕ) (A S : List ℕ) (o : ℕ) (vs : List ℕ) → length A ≡ w → o ≤ w → splice (A ++ S) o vs ≡ splice A o (take (w - o) vs) ++ splice S 0 (drop (w - o) vs)
+splice-both : (w : ℕ) (A S : List ℕ) (o : ℕ) (vs : List ℕ) → length A ≡ w → o ≤ w → splice (A ++ S) o vs ≡ splice A o (take (w - o) vs) ++ splice S 0 (drop (w - o) vs)
 splice-both w A S o vs a h = go (decLt (length vs) (w - o))
   where
     go : Dec (length vs < w - o) → splice (A ++ S) o vs ≡ splice A o (take (w - o) vs) ++ splice S 0 (drop (w - o) vs)
@@ -53,7 +53,7 @@ splice-both w A S o vs a h = go (decLt (length vs) (w - o))
 -- ---- bytes laid into blocks
 
 -- the first block's bytes, then the others'
-pub chop-cons : (w a : ℕ) (xs X Y : List ℕ) → length X ≡ w → chop w (a ∷ xs) (X ++ Y) ≡ record { at = a; body = X } ∷ chop w xs Y
+chop-cons : (w a : ℕ) (xs X Y : List ℕ) → length X ≡ w → chop w (a ∷ xs) (X ++ Y) ≡ record { at = a; body = X } ∷ chop w xs Y
 unfolding chop
 chop-cons w a xs X Y h = λ i. record { at = a; body = take-at X Y w h i } ∷ chop w xs (drop-at X Y w h i)
 
@@ -70,7 +70,7 @@ chop-starts w [] l = refl
 chop-starts w (c ∷ cs) l = refl
 
 -- only as many bytes count as there is room for
-pub chop-take : (w : ℕ) (xs l : List ℕ) → w * length xs ≤ length l → chop w xs (take (w * length xs) l) ≡ chop w xs l
+chop-take : (w : ℕ) (xs l : List ℕ) → w * length xs ≤ length l → chop w xs (take (w * length xs) l) ≡ chop w xs l
 unfolding chop
 chop-take w [] l h = refl
 chop-take w (a ∷ xs) l h =

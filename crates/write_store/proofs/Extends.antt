@@ -7,7 +7,7 @@ use native.Mathlib.Omega.{arith}
 use lib.ListN.{length, take}
 use Rattle.wire.specs.Be.{bytes}
 use Rattle.block.specs.Block.{cell, Off, Kept}
-use Rattle.block.proofs.Laws.{kept-refl, kept-trans, kept-less}
+use Rattle.block.proofs.Blocks.{kept-refl, kept-trans, kept-less}
 use Rattle.model.specs.Tree.{Cell}
 use Rattle.model.specs.Render.{cellsAt, cellPieces, count, Shows, ShowsAll}
 use Rattle.model.specs.Geometry.{Geo, blockSize, dataAt, mapBits, superBytes, usedCount, Sound}
@@ -19,7 +19,7 @@ use Rattle.model.proofs.Frame.{SameBlock}
 use Rattle.model.proofs.Full.{zero-byte}
 use Rattle.model.proofs.Lists.{all-left, all-right, all-append}
 use Rattle.bitmap_block.specs.Bitmap.{mark, clears, Room, fresh}
-use Rattle.bitmap_block.proofs.Steps.{index-in, Aside, aside-data, fresh-low, fresh-head, fresh-high, fresh-clear}
+use Rattle.bitmap_block.proofs.Stores.{index-in, Aside, aside-data, fresh-low, fresh-head, fresh-high, fresh-clear}
 use Rattle.write_store.specs.Write.{grown, extended, HeldCells}
 use Rattle.write_store.proofs.Cells.{count-places, count-cell, count-no-cell, block-long, tail-shows, back-shows, empties, empty-good, count-last}
 use Rattle.write_store.proofs.Grows.{grown-kept, grown-sound, grown-used, grown-clears, grown-room, grown-mark, grown-top, grown-zero, grown-links}
@@ -30,11 +30,11 @@ module _ (g : Geo) (I : List ℕ) (s : Sound g (length I)) (xs : List Cell) (c :
   all : (i : ℕ) → count i (places (xs ++ (c ∷ []))) ≡ count i (places xs) + count i (c .at ∷ [])
   all i = count-last i xs c
 
-  pub last-in : (dataAt g ≤ c .at) × (c .at < g .n)
+  last-in : (dataAt g ≤ c .at) × (c .at < g .n)
   last-in = h .range (c .at) (omega (arith, all (c .at), count-self (c .at)))
 
   -- the new block is none of the chain's, since theirs are marked
-  pub fresh-new : count (fresh g I) (places (xs ++ (c ∷ []))) ≡ 0
+  fresh-new : count (fresh g I) (places (xs ++ (c ∷ []))) ≡ 0
   fresh-new = go (decLt 0 (count (fresh g I) (places (xs ++ (c ∷ [])))))
     where
       go : Dec (0 < count (fresh g I) (places (xs ++ (c ∷ [])))) → count (fresh g I) (places (xs ++ (c ∷ []))) ≡ 0
@@ -70,7 +70,7 @@ module _ (g : Geo) (I : List ℕ) (s : Sound g (length I)) (xs : List Cell) (c :
       short i q = omega (arith, block-long (blockSize g) (omega (arith, size-large g)) (emptyCell g (fresh g I)) 0 (empty-good g (fresh g I)))
 
   -- The chain has the new block at its end.
-  pub grown-held : HeldCells g (grown g I (c .at)) ((xs ++ (c ∷ [])) ++ (emptyCell g (fresh g I) ∷ []))
+  grown-held : HeldCells g (grown g I (c .at)) ((xs ++ (c ∷ [])) ++ (emptyCell g (fresh g I) ∷ []))
   unfolding J cellsAt
   grown-held =
       let B : ℕ = blockSize g in

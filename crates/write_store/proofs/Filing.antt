@@ -5,7 +5,7 @@ use Prim.Native.Nat.{ℕ, _+_, _-_, _*_, _≤_}
 use native.Mathlib.Omega.{arith}
 use lib.ListN.{length, length-append}
 use Rattle.wire.specs.Be.{bytes, splice}
-use Rattle.wire.proofs.Laws.{length-bytes, length-splice}
+use Rattle.wire.proofs.Numbers.{length-bytes, length-splice}
 use Rattle.block.specs.Block.{cell, Off, Kept}
 use Rattle.model.specs.Tree.{Name, Cell, weight}
 use Rattle.model.specs.Render.{Piece, View, cellsAt, padded, kindOf, addressOf, sizeOf, entryBytes, Shows}
@@ -20,7 +20,7 @@ use Rattle.model.proofs.Owns.{renewedAt, own-entry, own-block, renewed-kept, cu
 -- ---- the entry alone
 
 -- A file's entry renewed: its size and its time are stored, and the rest of it stays.
-pub file-stored : {X : Type 0} (v : View X) (I : List ℕ) (k : ℕ) (n : Name) (c c′ z z′ : ℕ) (cs ds : List Cell) → cellsAt ds ≡ cellsAt cs → k + 17 ≤ length I
+file-stored : {X : Type 0} (v : View X) (I : List ℕ) (k : ℕ) (n : Name) (c c′ z z′ : ℕ) (cs ds : List Cell) → cellsAt ds ≡ cellsAt cs → k + 17 ≤ length I
     → Shows I k (entryBytes v (fileEntry n c z cs)) → Shows (renewedAt I k z′ c′) k (entryBytes v (fileEntry n c′ z′ ds))
 unfolding entryBytes addressOf sizeOf kindOf fileEntry
 file-stored v I k n c c′ z z′ cs ds q h a =

@@ -7,9 +7,9 @@ use native.Mathlib.Decide.{decLt}
 use native.Mathlib.Omega.{arith}
 use lib.ListN.{length, getD, take, drop, length-append, length-take, length-drop}
 use Rattle.wire.specs.Be.{bytes, splice}
-use Rattle.wire.proofs.Laws.{length-bytes, length-splice, splice-before, splice-in, splice-after, splice-nil}
+use Rattle.wire.proofs.Numbers.{length-bytes, length-splice, splice-before, splice-in, splice-after, splice-nil}
 use Rattle.block.specs.Block.{cell, next, Off, Kept}
-use Rattle.block.proofs.Laws.{kept-refl, kept-trans, kept-less, splice-kept}
+use Rattle.block.proofs.Blocks.{kept-refl, kept-trans, kept-less, splice-kept}
 use Rattle.model.specs.Tree.{Cell}
 use Rattle.model.specs.Render.{cellsAt, cellPieces, count, Shows, ShowsAll}
 use Rattle.model.specs.Geometry.{Geo, blockSize, dataAt, Sound}
@@ -21,7 +21,7 @@ use Rattle.model.proofs.Counts.{count-same, count-self}
 use Rattle.model.proofs.Frame.{SameBlock}
 use Rattle.model.proofs.Owns.{shows-kept}
 use Rattle.model.proofs.Lists.{all-left, all-right, length-none}
-use Rattle.bitmap_block.proofs.Steps.{sound-kept}
+use Rattle.bitmap_block.proofs.Stores.{sound-kept}
 use Rattle.write_store.specs.Write.{hop, poured, spread}
 use Rattle.write_store.proofs.Cells.{Front, front-of, count-places, count-cell, tail-shows, back-shows}
 use Rattle.write_store.proofs.Chops.{chop-same, chop-starts, chop-first, chop-past}
@@ -154,7 +154,7 @@ module _ (g : Geo) where
               (kept-less (λ b p q. omega (arith, q, count-cell b c cs)) (f .kept));
         }
 
-  pub poured-is : (m : ℕ) (I : List ℕ) → Sound g (length I) → (cs : List Cell) → Row g I cs → (o : ℕ) → o ≤ w → (vs : List ℕ) → m ≤ length cs → o + length vs ≤ w * m
+  poured-is : (m : ℕ) (I : List ℕ) → Sound g (length I) → (cs : List Cell) → Row g I cs → (o : ℕ) → o ≤ w → (vs : List ℕ) → m ≤ length cs → o + length vs ≤ w * m
       → Filled g I (poured (blockSize g) I (cellsAt cs) o vs m) cs (chop w (places cs) (splice (stream cs) o vs))
   poured-is zero I s cs r o h vs k l =
       let e : vs ≡ [] = length-none vs (omega (arith, mul-zero w)) in

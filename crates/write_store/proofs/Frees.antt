@@ -7,7 +7,7 @@ use native.Mathlib.Omega.{arith}
 use lib.ListN.{length}
 use Rattle.wire.specs.Be.{bytes}
 use Rattle.block.specs.Block.{cell, next, linked, Off, Kept}
-use Rattle.block.proofs.Laws.{kept-refl, kept-trans, kept-less}
+use Rattle.block.proofs.Blocks.{kept-refl, kept-trans, kept-less}
 use Rattle.model.specs.Tree.{Cell}
 use Rattle.model.specs.Render.{cellsAt, cellPieces, count, Shows, ShowsAll}
 use Rattle.model.specs.Geometry.{Geo, blockSize, dataAt, mapBits, superBytes, usedCount, Sound}
@@ -19,7 +19,7 @@ use Rattle.model.proofs.Frame.{SameBlock}
 use Rattle.model.proofs.Owns.{shows-kept}
 use Rattle.model.proofs.Lists.{all-left, all-right}
 use Rattle.bitmap_block.specs.Bitmap.{mark, freed}
-use Rattle.bitmap_block.proofs.Steps.{index-in, sound-kept, Aside, aside-data, freed-kept, used-freed, top-freed, mark-freed, mark-freed-other}
+use Rattle.bitmap_block.proofs.Stores.{index-in, sound-kept, Aside, aside-data, freed-kept, used-freed, top-freed, mark-freed, mark-freed-other}
 use Rattle.write_store.specs.Write.{dropped, cutAfter, HeldCells}
 use Rattle.write_store.proofs.Cells.{count-places, count-cell, count-no-cell, block-long, tail-shows, back-shows, relinked, count-last}
 use Rattle.write_store.proofs.Grows.{link-kept, link-mark, link-top}
@@ -28,7 +28,7 @@ use Rattle.write_store.proofs.Hops.{next-cell}
 -- ---- a chain that is held still
 
 -- its blocks are as they were, and marked
-pub held-kept : (g : Geo) (I J : List ℕ) (cs : List Cell) → HeldCells g I cs → ((b : ℕ) → 1 ≤ count b (places cs) → SameBlock (blockSize g) I J b)
+held-kept : (g : Geo) (I J : List ℕ) (cs : List Cell) → HeldCells g I cs → ((b : ℕ) → 1 ≤ count b (places cs) → SameBlock (blockSize g) I J b)
     → ((i : ℕ) → 1 ≤ count i (places cs) → mark g J (i - dataAt g) ≡ 1) → HeldCells g J cs
 unfolding cellPieces
 held-kept g I J cs h s m =
@@ -43,7 +43,7 @@ held-kept g I J cs h s m =
     }
 
 -- the rest of it
-pub held-back : (g : Geo) (I : List ℕ) (xs ys : List Cell) → HeldCells g I (xs ++ ys) → HeldCells g I ys
+held-back : (g : Geo) (I : List ℕ) (xs ys : List Cell) → HeldCells g I (xs ++ ys) → HeldCells g I ys
 held-back g I xs ys h =
     record {
       shown = back-shows (blockSize g) I xs ys (h .shown);
@@ -149,7 +149,7 @@ module _ (g : Geo) (I : List ℕ) (s : Sound g (length I)) (y : Cell) (ys : List
       }
 
 module _ (g : Geo) where
-  pub dropped-is : (ys : List Cell) (I : List ℕ) → Sound g (length I) → HeldCells g I ys → length ys ≤ usedCount g I → usedCount g I ≤ g .n → Dropped g I (dropped g I (cellsAt ys) (length ys)) ys
+  dropped-is : (ys : List Cell) (I : List ℕ) → Sound g (length I) → HeldCells g I ys → length ys ≤ usedCount g I → usedCount g I ≤ g .n → Dropped g I (dropped g I (cellsAt ys) (length ys)) ys
   dropped-is [] I s h l u =
       subst (λ (L : List ℕ). Dropped g I L []) (sym (dropped-none g I (cellsAt [])))
       (record {

@@ -6,10 +6,10 @@ use native.Mathlib.Decide.{ℕ-discrete}
 use native.Mathlib.Omega.{arith}
 use lib.ListN.{length, drop, length-drop, length-append}
 use Rattle.wire.specs.Be.{bytes}
-use Rattle.wire.proofs.Laws.{length-bytes}
+use Rattle.wire.proofs.Numbers.{length-bytes}
 use Rattle.bits.specs.Bit.{AllSet}
 use Rattle.block.specs.Block.{cell, linked, Off, Kept}
-use Rattle.block.proofs.Laws.{kept-trans, kept-less, linked-kept}
+use Rattle.block.proofs.Blocks.{kept-trans, kept-less, linked-kept}
 use Rattle.model.specs.Render.{count, Shows}
 use Rattle.model.specs.Geometry.{Geo, blockSize, mapAt, dataAt, mapBits, superBytes, usedCount, Sound}
 use Rattle.model.proofs.Areas.{area, few, size-large, block-inside}
@@ -17,7 +17,7 @@ use Rattle.model.proofs.Counts.{count-same, count-other, count-none}
 use Rattle.model.proofs.Demand.{whole-super}
 use Rattle.model.proofs.Owns.{shows-kept}
 use Rattle.bitmap_block.specs.Bitmap.{mark, clears, taken, Room, fresh}
-use Rattle.bitmap_block.proofs.Steps.{mark-is, index-in, sound-kept, used-kept, mark-kept, clears-kept, Aside, aside-data, taken-kept, sound-taken, used-taken, top-taken, mark-taken, mark-taken-other, cell-taken, clears-taken, set-taken, fresh-index, fresh-first, fresh-data, fresh-clear}
+use Rattle.bitmap_block.proofs.Stores.{mark-is, index-in, sound-kept, used-kept, mark-kept, clears-kept, Aside, aside-data, taken-kept, sound-taken, used-taken, top-taken, mark-taken, mark-taken-other, cell-taken, clears-taken, set-taken, fresh-index, fresh-first, fresh-data, fresh-clear}
 use Rattle.write_store.specs.Write.{grown}
 use Rattle.write_store.proofs.Cells.{relinked}
 
@@ -27,13 +27,13 @@ module _ (g : Geo) (I : List ℕ) (s : Sound g (length I)) (a : ℕ) (low : data
   pub link-kept : (v : ℕ) → Kept (blockSize g) (Off a 0 4) I (linked (blockSize g) I a v)
   link-kept v = linked-kept (blockSize g) I a (omega (arith, size-large g)) (block-inside g (length I) s a high) v
 
-  pub link-used : (v : ℕ) → usedCount g (linked (blockSize g) I a v) ≡ usedCount g I
+  link-used : (v : ℕ) → usedCount g (linked (blockSize g) I a v) ≡ usedCount g I
   link-used v = used-kept g I s _ _ (link-kept v) (λ o _ _ e _ _. omega (arith, area g (length I) s .maps))
 
   pub link-mark : (v x : ℕ) → x < mapBits g → mark g (linked (blockSize g) I a v) x ≡ mark g I x
   link-mark v x h = mark-kept g I s _ _ (link-kept v) (λ b o _ q e _ _. omega arith) x h
 
-  pub link-clears : (v : ℕ) → clears g (linked (blockSize g) I a v) ≡ clears g I
+  link-clears : (v : ℕ) → clears g (linked (blockSize g) I a v) ≡ clears g I
   link-clears v = clears-kept g I s _ _ (link-kept v) (λ b o _ q e _ _. omega arith)
 
   pub link-top : (v u : ℕ) → Shows I (blockSize g * g .K) (superBytes g u) → Shows (linked (blockSize g) I a v) (blockSize g * g .K) (superBytes g u)

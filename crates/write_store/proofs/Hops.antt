@@ -24,7 +24,7 @@ pub hop-more : (B : ℕ) (I : List ℕ) (k a : ℕ) → hop B I (suc k) a ≡ ho
 unfolding hop
 hop-more B I k a = refl
 
-pub hop-add : (B : ℕ) (I : List ℕ) (k i a : ℕ) → hop B I (k + i) a ≡ hop B I i (hop B I k a)
+hop-add : (B : ℕ) (I : List ℕ) (k i a : ℕ) → hop B I (k + i) a ≡ hop B I i (hop B I k a)
 unfolding hop
 hop-add B I zero i a = ap (λ (x : ℕ). hop B I x a) (let e : 0 + i ≡ i = omega arith in e)
 hop-add B I (suc k) i a = ap (λ (x : ℕ). hop B I x a) (let e : suc k + i ≡ suc (k + i) = omega arith in e) ∙ hop-add B I k i (next B I a)
@@ -37,7 +37,7 @@ hop-last B I k a h = sym (hop-add B I (k - 1) 1 a) ∙ (let e : k - 1 + 1 ≡ k 
 abbrev pub SameNext : Geo → List ℕ → List ℕ → Type 0
 SameNext g I J = (b : ℕ) → dataAt g ≤ b → b < g .n → next (blockSize g) J b ≡ next (blockSize g) I b
 
-pub along-step : (g : Geo) (I : List ℕ) (a k : ℕ) → dataAt g ≤ a → a < g .n → Along g I (next (blockSize g) I a) k → Along g I a (suc k)
+along-step : (g : Geo) (I : List ℕ) (a k : ℕ) → dataAt g ≤ a → a < g .n → Along g I (next (blockSize g) I a) k → Along g I a (suc k)
 along-step g I a k p q h = record { at = go }
   where
     go : (i : ℕ) → i < suc k → (dataAt g ≤ hop (blockSize g) I i a) × (hop (blockSize g) I i a < g .n)
@@ -57,7 +57,7 @@ module _ (g : Geo) (I : List ℕ) where
   pub along-less : (a k m : ℕ) → m ≤ k → Along g I a k → Along g I a m
   along-less a k m l h = record { at = λ i q. h .at i (omega arith) }
 
-  pub along-none : (a : ℕ) → Along g I a 0
+  along-none : (a : ℕ) → Along g I a 0
   along-none a = record { at = λ i l. absurd (omega arith) }
 
   -- what is left of it after k hops
@@ -80,16 +80,16 @@ module _ (g : Geo) (I : List ℕ) (sound : Sound g (length I)) where
   abbrev pub InArea : List ℕ → Type 0
   InArea xs = (i : ℕ) → 1 ≤ count i xs → (dataAt g ≤ i) × (i < g .n)
 
-  pub area-head : (c : Cell) (cs : List Cell) → InArea (places (c ∷ cs)) → (dataAt g ≤ c .at) × (c .at < g .n)
+  area-head : (c : Cell) (cs : List Cell) → InArea (places (c ∷ cs)) → (dataAt g ≤ c .at) × (c .at < g .n)
   unfolding places
   area-head c cs r = r (c .at) (omega (arith, count-same (c .at) (c .at) (places cs) refl))
 
-  pub area-tail : (c : Cell) (cs : List Cell) → InArea (places (c ∷ cs)) → InArea (places cs)
+  area-tail : (c : Cell) (cs : List Cell) → InArea (places (c ∷ cs)) → InArea (places cs)
   unfolding places
   area-tail c cs r i h = r i (omega (arith, count-cons i (c .at) (places cs)))
 
   -- an address of four bytes
-  pub starts-small : (cs : List Cell) → InArea (places cs) → cellsAt cs < 2 ^ 32
+  starts-small : (cs : List Cell) → InArea (places cs) → cellsAt cs < 2 ^ 32
   unfolding cellsAt
   starts-small [] r = omega arith
   starts-small (c ∷ cs) r = omega (arith, area-head c cs r .1, few g (length I) sound)
@@ -98,7 +98,7 @@ module _ (g : Geo) (I : List ℕ) (sound : Sound g (length I)) where
   unfolding cellPieces
   next-cell c cs r s = next-shown (blockSize g) I (c .at) (cellsAt cs) (c .body) (starts-small cs (area-tail c cs r)) (s .0)
 
-  pub cells-tail : (c : Cell) (cs : List Cell) → ShowsAll (blockSize g) I (cellPieces (c ∷ cs)) → ShowsAll (blockSize g) I (cellPieces cs)
+  cells-tail : (c : Cell) (cs : List Cell) → ShowsAll (blockSize g) I (cellPieces (c ∷ cs)) → ShowsAll (blockSize g) I (cellPieces cs)
   unfolding cellPieces
   cells-tail c cs s = s .1
 

@@ -11,7 +11,7 @@ use Rattle.wire.specs.Be.{splice}
 use Rattle.wire.proofs.Picks.{pick-true, pick-false}
 use Rattle.bits.specs.Bit.{AllSet}
 use Rattle.block.specs.Block.{next, linked, Kept}
-use Rattle.block.proofs.Laws.{next-kept, splice-kept}
+use Rattle.block.proofs.Blocks.{next-kept, splice-kept}
 use Rattle.model.specs.Render.{cellsAt}
 use Rattle.model.specs.Geometry.{Geo, blockSize, mapAt, dataAt, usedCount, Sound}
 use Rattle.model.specs.Volume.{blocksFor}
@@ -19,8 +19,8 @@ use Rattle.super_block.specs.declared.SuperBlock.{SuperBlock}
 use Rattle.super_block.specs.Super.{geoOf, Fit}
 use Rattle.super_block.proofs.Fits.{placed, fit-long}
 use Rattle.bitmap_block.specs.Bitmap.{clears, taken, freed, Room, fresh}
-use Rattle.bitmap_block.proofs.Laws.{found-in}
-use Rattle.bitmap_block.proofs.Steps.{Aside, aside-data, freed-kept, used-freed, fresh-high}
+use Rattle.bitmap_block.proofs.Answers.{found-in}
+use Rattle.bitmap_block.proofs.Stores.{Aside, aside-data, freed-kept, used-freed, fresh-high}
 use Rattle.dir_entry.specs.declared.DirEntry.{DirEntry}
 use Rattle.read_dir.specs.declared.Place.{Place}
 use Rattle.model.proofs.Contents.{blocks-enough}
@@ -45,7 +45,7 @@ module _ (s : SuperBlock) (I : List ℕ) (b left : ℕ) (f : Fit s I) (h : 0 < l
   pub chain-low : (d : ℕ) → d ≡ s .area .0 → d ≤ b
   chain-low d e = omega (arith, along-here (geoOf s) I b left w h, f .area)
 
-  pub chain-next : (m to : ℕ) → m ≡ b → to ≡ next 512 I m → Along (geoOf s) I to (left - 1)
+  chain-next : (m to : ℕ) → m ≡ b → to ≡ next 512 I m → Along (geoOf s) I to (left - 1)
   chain-next m to e q =
       subst (λ (x : ℕ). Along (geoOf s) I x (left - 1)) (sym (q ∙ ap (next 512 I) e)) (along-next (geoOf s) I b (left - 1) (subst (Along (geoOf s) I b) (step h) w))
 
@@ -166,7 +166,7 @@ module _ (s : SuperBlock) (I : List ℕ) (b left : ℕ) (f : Fit s I) (h : 0 < l
         (λ c l _. next-kept 512 (Aside (geoOf s)) I J kept c (omega arith) (λ o _. aside-data (geoOf s) (length I) (f .sound) c o l))
         (left - 1) to (chain-next s I b left f h w m to p r)
 
-    pub free-used : 0 < usedCount (geoOf s) I → usedCount (geoOf s) I ≤ s .blocks → usedCount (geoOf s) J ≡ usedCount (geoOf s) I - 1
+    free-used : 0 < usedCount (geoOf s) I → usedCount (geoOf s) I ≤ s .blocks → usedCount (geoOf s) J ≡ usedCount (geoOf s) I - 1
     free-used l u = ap (usedCount (geoOf s)) j ∙ used-freed (geoOf s) I (f .sound) x free-data (omega (arith, placed f .few))
 
     pub free-enough : left ≤ usedCount (geoOf s) I → usedCount (geoOf s) I ≤ s .blocks → left - 1 ≤ usedCount (geoOf s) J
@@ -203,14 +203,14 @@ module _ (buf : List ℕ) (i at r : ℕ) (e : r ≡ min (length buf - i) (508 - 
   run-of-rest : r ≡ min (length (drop i buf)) (508 - at)
   run-of-rest = omega (arith, length-drop i buf)
 
-  pub run-taken : take r (drop i buf) ≡ take (508 - at) (drop i buf)
+  run-taken : take r (drop i buf) ≡ take (508 - at) (drop i buf)
   run-taken = run-short (drop i buf) r run-of-rest .0
 
   -- stored where the block's data begins
   pub run-stored : (I J : List ℕ) (p b : ℕ) → p ≡ 512 * b + 4 + at → J ≡ splice I p (take r (drop i buf)) → J ≡ splice I (512 * b + 4 + at) (take (508 - at) (drop i buf))
   run-stored I J p b ep ej = ej ∙ (λ j. splice I (ep j) (run-taken j))
 
-  pub run-dropped : drop (i + r) buf ≡ drop (508 - at) (drop i buf)
+  run-dropped : drop (i + r) buf ≡ drop (508 - at) (drop i buf)
   run-dropped = sym (drop-drop r i buf) ∙ run-short (drop i buf) r run-of-rest .1
 
 -- wherever the data area lies
@@ -263,7 +263,7 @@ cut-is g I J L last k m a p z em ea ej ep ez el =
 
 -- ---- the chain resized
 
-pub chain-along : (g : Geo) (I : List ℕ) (a k : ℕ) → Sound g (length I) → Chained g I a k → Along g I a k
+chain-along : (g : Geo) (I : List ℕ) (a k : ℕ) → Sound g (length I) → Chained g I a k → Along g I a k
 chain-along g I a k s c =
     subst (λ (x : ℕ). Along g I x k) (c .starts) (subst (Along g I (cellsAt (c .cells))) (c .long) (along-cells g I s (c .cells) (c .held .range) (c .held .shown)))
 

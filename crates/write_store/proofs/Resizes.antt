@@ -11,7 +11,7 @@ use lib.Seq.{length-take-le, take-all, take-at, take-append-add}
 use Rattle.wire.specs.Be.{zeros}
 use Rattle.wire.proofs.Picks.{pick-true, pick-false}
 use Rattle.block.specs.Block.{Kept}
-use Rattle.block.proofs.Laws.{kept-less}
+use Rattle.block.proofs.Blocks.{kept-less}
 use Rattle.model.specs.Tree.{Cell}
 use Rattle.model.specs.Render.{cellsAt, count, Shows}
 use Rattle.model.specs.Geometry.{Geo, blockSize, dataAt, mapBits, superBytes, usedCount, Sound}
@@ -21,7 +21,7 @@ use Rattle.model.proofs.Contents.{length-stream, length-places}
 use Rattle.model.proofs.Counts.{count-same, count-self}
 use Rattle.model.proofs.Lists.{all-left, length-none}
 use Rattle.bitmap_block.specs.Bitmap.{mark, clears, Room}
-use Rattle.bitmap_block.proofs.Steps.{Aside}
+use Rattle.bitmap_block.proofs.Stores.{Aside}
 use Rattle.write_store.specs.Write.{hop, extended, cutAfter, resized, HeldCells}
 use Rattle.write_store.proofs.Cells.{Front, front-of, places-append, count-places, count-cell, empties, places-empties, count-last}
 use Rattle.write_store.proofs.Extends.{Extended, extended-held, extended-is}
@@ -85,7 +85,7 @@ module _ (g : Geo) (I : List ℕ) (s : Sound g (length I)) (xs : List Cell) (c :
   is : Extended g I (extended g I (c .at) k) (c .at) ws
   is = extended-is g k I s (c .at) (last-in .0) (last-in .1) r
 
-  pub grows-resized : Resized g I (extended g I (c .at) k) (xs ++ (c ∷ [])) ((xs ++ (c ∷ [])) ++ empties g (take k (clears g I))) (length (xs ++ (c ∷ [])) + k)
+  grows-resized : Resized g I (extended g I (c .at) k) (xs ++ (c ∷ [])) ((xs ++ (c ∷ [])) ++ empties g (take k (clears g I))) (length (xs ++ (c ∷ [])) + k)
   grows-resized =
       let B : ℕ = blockSize g in
       let w : ℕ = B - 4 in
@@ -135,7 +135,7 @@ module _ (g : Geo) (I : List ℕ) (s : Sound g (length I)) (xs : List Cell) (c :
   same-start [] = refl
   same-start (x ∷ xs) = refl
 
-  pub cuts-resized : Resized g I (cutAfter g I (c .at) (length ys)) (xs ++ (c ∷ ys)) (xs ++ (c ∷ [])) (length (xs ++ (c ∷ [])))
+  cuts-resized : Resized g I (cutAfter g I (c .at) (length ys)) (xs ++ (c ∷ ys)) (xs ++ (c ∷ [])) (length (xs ++ (c ∷ [])))
   cuts-resized =
       let B : ℕ = blockSize g in
       let w : ℕ = B - 4 in

@@ -9,7 +9,7 @@ use native.Mathlib.Omega.{arith}
 use lib.ListN.{length, getD, take, drop, length-append, length-replicate, take-append-drop}
 use Rattle.wire.specs.Be.{bytes, splice, zeros}
 use Rattle.block.specs.Block.{cell, Off, Kept}
-use Rattle.block.proofs.Laws.{kept-trans, kept-less}
+use Rattle.block.proofs.Blocks.{kept-trans, kept-less}
 use Rattle.bits.specs.Bit.{bit}
 use Rattle.model.specs.Tree.{Name, Cell, Entry, Below, Tree, lookup, change, edit, Some, find}
 use Rattle.model.specs.Render.{View, cellsAt, blocksAt, padded, addressOf, sizeOf, entryBytes, cellPieces, nodePieces, view, render, ats, blocks, count, placeOf, Shows, ShowsAll}
@@ -31,7 +31,7 @@ use Rattle.model.proofs.OneVolume.{used-is}
 use Rattle.model.proofs.Owns.{renewedAt, shows-kept, cut-shown, cut-whole}
 use Rattle.model.proofs.Commit.{cut-length, cut-shorter}
 use Rattle.bitmap_block.specs.Bitmap.{mark, Room}
-use Rattle.bitmap_block.proofs.Steps.{mark-is, index-in, sound-kept, mark-kept, Aside, aside-data, aside-other, volume-clears, volume-room}
+use Rattle.bitmap_block.proofs.Stores.{mark-is, index-in, sound-kept, mark-kept, Aside, aside-data, aside-other, volume-clears, volume-room}
 use Rattle.dir_entry.specs.declared.DirEntry.{DirEntry}
 use Rattle.dir_entry.specs.Shown.{headOf}
 use Rattle.read_dir.specs.declared.Place.{Place}
@@ -96,7 +96,7 @@ module _ (g : Geo) (I : List ℕ) (d : ℕ) (t : Tree d) (v : Volume g I d t) (p
   within i = omega (arith, cut-within B _ _ _ _ _ _ _ (cut k z cs) i, ap (count i) (ats-cells cs))
 
   -- The file's chain is as W2, W4 and W5 say.
-  pub file-held : HeldCells g I cs
+  file-held : HeldCells g I cs
   file-held =
       record {
         shown = stored .shown;
@@ -141,7 +141,7 @@ module _ (g : Geo) (I : List ℕ) (d : ℕ) (t : Tree d) (v : Volume g I d t) (p
     some-new = blocks-some B (omega (arith, size-large g)) (c + length buf)
 
     -- What the code asks of the image is there.
-    pub can-write : CanWrite g I (headOf (view (blockSize g) (s .0)) (fileEntry n k z cs)) (spotOf n (s .1)) c (length buf)
+    can-write : CanWrite g I (headOf (view (blockSize g) (s .0)) (fileEntry n k z cs)) (spotOf n (s .1)) c (length buf)
     unfolding headOf addressOf sizeOf fileEntry render
     can-write =
         let e : length cs ≡ blocksFor B z = good-file .long in
@@ -430,7 +430,7 @@ module _ (g : Geo) (I : List ℕ) (d : ℕ) (t : Tree d) (v : Volume g I d t) (p
     makes clock = record { volume = volume clock; remains = tt; frame = frame }
 
     -- The stores of a write are the edit of the model.
-    pub wrote-file : now < 2 ^ 64 → TreeWrites g d p n now c buf t I (wrote g I (headOf (view (blockSize g) (s .0)) (fileEntry n k z cs)) (spotOf n (s .1)) c buf now)
+    wrote-file : now < 2 ^ 64 → TreeWrites g d p n now c buf t I (wrote g I (headOf (view (blockSize g) (s .0)) (fileEntry n k z cs)) (spotOf n (s .1)) c buf now)
     wrote-file clock =
         record {
           size = z;

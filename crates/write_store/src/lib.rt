@@ -13,7 +13,6 @@ ghost use Rattle.wire.specs.Be.{splice};
 ghost use Rattle.bits.specs.Bit.{AllSet};
 ghost use Rattle.block.specs.Block.{blockBytes, next};
 ghost use Rattle.model.specs.Geometry.{blockSize, mapAt, dataAt, usedCount};
-ghost use Rattle.model.specs.Volume.{blocksFor};
 ghost use Rattle.super_block.specs.Super.{geoOf, Fit};
 ghost use Rattle.dir_entry.specs.Entry.{placeAt};
 ghost use Rattle.bitmap_block.specs.Bitmap.{fresh, Room};

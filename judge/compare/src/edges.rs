@@ -53,7 +53,22 @@ impl Judge<'_> {
         tree.dir(ROOT, b"e", 1);
         let start = laid(tree, None, "an empty directory");
         let long = ["é".repeat(127) + "e", "€".repeat(85), "😀".repeat(63) + "€"];
-        let short = ["é", "ø", "ü\u{301}", "€", "😀", "\u{80}", "\u{9f}", "\u{7ff}", "\u{800}", "\u{d7ff}", "\u{e000}", "\u{ffff}", "\u{10000}", "\u{10ffff}"];
+        let short = [
+            "é",
+            "ø",
+            "ü\u{301}",
+            "€",
+            "😀",
+            "\u{80}",
+            "\u{9f}",
+            "\u{7ff}",
+            "\u{800}",
+            "\u{d7ff}",
+            "\u{e000}",
+            "\u{ffff}",
+            "\u{10000}",
+            "\u{10ffff}",
+        ];
         let names = short.iter().map(|name| name.to_string()).chain(long);
         names.into_iter().try_for_each(|name| self.compare(&start, life_of(name.as_bytes())))
     }

@@ -5,15 +5,37 @@ use volumes::{draw_accented, fill_of, Entry, Geometry, Kind, Rng, HEADER};
 
 /// Bytes at the edges of what may stand in text.
 pub const ODD_BYTES: [u8; 22] = [
-    0, 0x1f, 0x20, b'/', 0x7e, 0x7f, 0x80, 0x8f, 0x90, 0x9f, 0xa0, 0xbf, 0xc0, 0xc1, 0xc2, 0xe0, 0xed, 0xf0, 0xf3, 0xf4, 0xf5, 0xff,
+    0, 0x1f, 0x20, b'/', 0x7e, 0x7f, 0x80, 0x8f, 0x90, 0x9f, 0xa0, 0xbf, 0xc0, 0xc1, 0xc2, 0xe0, 0xed, 0xf0, 0xf3, 0xf4, 0xf5,
+    0xff,
 ];
 
 /// Characters at the edges of the table of UTF-8, and what is none: forms too long, numbers kept for UTF-16 or above U+10FFFF, parts of
 /// characters, a slash inside one, and 0x7F.
 pub const SEQUENCES: [&[u8]; 24] = [
-    b"\xc3\xa9", b"\xc2\x80", b"\xdf\xbf", b"\xe0\xa0\x80", b"\xe2\x82\xac", b"\xed\x9f\xbf", b"\xee\x80\x80", b"\xf0\x90\x80\x80",
-    b"\xf4\x8f\xbf\xbf", b"\xc0\x80", b"\xc1\xbf", b"\xe0\x9f\xbf", b"\xed\xa0\x80", b"\xed\xbf\xbf", b"\xf0\x8f\xbf\xbf",
-    b"\xf4\x90\x80\x80", b"\xf5\x80\x80\x80", b"\xc3", b"\xe2\x82", b"\xf0\x9f\x98", b"\x80", b"\xc3/\xa9", b"\xc3\xc0", b"\x7f",
+    b"\xc3\xa9",
+    b"\xc2\x80",
+    b"\xdf\xbf",
+    b"\xe0\xa0\x80",
+    b"\xe2\x82\xac",
+    b"\xed\x9f\xbf",
+    b"\xee\x80\x80",
+    b"\xf0\x90\x80\x80",
+    b"\xf4\x8f\xbf\xbf",
+    b"\xc0\x80",
+    b"\xc1\xbf",
+    b"\xe0\x9f\xbf",
+    b"\xed\xa0\x80",
+    b"\xed\xbf\xbf",
+    b"\xf0\x8f\xbf\xbf",
+    b"\xf4\x90\x80\x80",
+    b"\xf5\x80\x80\x80",
+    b"\xc3",
+    b"\xe2\x82",
+    b"\xf0\x9f\x98",
+    b"\x80",
+    b"\xc3/\xa9",
+    b"\xc3\xc0",
+    b"\x7f",
 ];
 
 /// The working directory and the path of a call.

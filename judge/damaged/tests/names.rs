@@ -8,8 +8,8 @@ const K: u32 = 8;
 
 /// The edges of the ranges that a first byte may be in, with a byte before and behind.
 const FIRST: [u8; 27] = [
-    0x1f, 0x20, 0x2e, 0x2f, 0x30, 0x7e, 0x7f, 0x80, 0xbf, 0xc0, 0xc1, 0xc2, 0xdf, 0xe0, 0xe1, 0xec, 0xed, 0xee, 0xef, 0xf0, 0xf1, 0xf3, 0xf4,
-    0xf5, 0xf7, 0xf8, 0xff,
+    0x1f, 0x20, 0x2e, 0x2f, 0x30, 0x7e, 0x7f, 0x80, 0xbf, 0xc0, 0xc1, 0xc2, 0xdf, 0xe0, 0xe1, 0xec, 0xed, 0xee, 0xef, 0xf0, 0xf1,
+    0xf3, 0xf4, 0xf5, 0xf7, 0xf8, 0xff,
 ];
 /// The same of the bytes that follow.
 const LATER: [u8; 11] = [0x00, 0x2f, 0x41, 0x7f, 0x80, 0x8f, 0x90, 0x9f, 0xa0, 0xbf, 0xc0];
@@ -56,7 +56,19 @@ impl Card {
         let (root, time) = (b"/", 1_700_000_000);
         unsafe {
             raw::mfs_c_create_file(
-                image, size, K, root.as_ptr(), 1, path.as_ptr(), path.len(), time, work.as_mut_ptr(), work.len(), &mut handle, &mut name, &mut len,
+                image,
+                size,
+                K,
+                root.as_ptr(),
+                1,
+                path.as_ptr(),
+                path.len(),
+                time,
+                work.as_mut_ptr(),
+                work.len(),
+                &mut handle,
+                &mut name,
+                &mut len,
             )
         }
     }

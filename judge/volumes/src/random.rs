@@ -33,8 +33,26 @@ const SIZES: [u32; 18] = [0, 1, 2, 490, 507, 508, 509, 600, 1000, 1015, 1016, 10
 const LONG: [usize; 9] = [60, 100, 144, 145, 200, 235, 236, 237, 255];
 /// Letters, and the characters at the edges of the table of UTF-8; U+0080 to U+009F are allowed.
 const CHARACTERS: [char; 20] = [
-    'a', 'e', ' ', '~', 'é', 'ø', 'ü', '\u{80}', '\u{9f}', '\u{7ff}', '\u{800}', '\u{fff}', '€', '\u{d7ff}', '\u{e000}', '\u{ffff}',
-    '\u{10000}', '😀', '\u{fffff}', '\u{10ffff}',
+    'a',
+    'e',
+    ' ',
+    '~',
+    'é',
+    'ø',
+    'ü',
+    '\u{80}',
+    '\u{9f}',
+    '\u{7ff}',
+    '\u{800}',
+    '\u{fff}',
+    '€',
+    '\u{d7ff}',
+    '\u{e000}',
+    '\u{ffff}',
+    '\u{10000}',
+    '😀',
+    '\u{fffff}',
+    '\u{10ffff}',
 ];
 const SHORT: [&str; 14] = ["a", "b", ".", "..", "ab", "ba", "a.", "..b", "aa", "bb", "a b", "~", " ", "m1"];
 

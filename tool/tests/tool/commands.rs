@@ -114,6 +114,17 @@ fn put_makes_replaces_and_empties_files() {
 }
 
 #[test]
+fn names_may_have_accents() {
+    let bench = Bench::with_card();
+    bench.file("Skj\u{f8}rn\u{e9}", b"7");
+    bench.ok(&["put", "card.img", "Skj\u{f8}rn\u{e9}"]);
+    assert_eq!(bench.ok(&["ls", "card.img"]), "Skj\u{f8}rn\u{e9}\n");
+    bench.ok(&["get", "card.img", "/Skj\u{f8}rn\u{e9}", "copy"]);
+    assert_eq!(bench.read("copy"), b"7");
+    assert_eq!(bench.ok(&["check", "--explain", "card.img"]), "card.img: well formed\n  0 directories, 1 file, 0 devices\n");
+}
+
+#[test]
 fn put_of_many_does_what_it_can() {
     let bench = Bench::with_card();
     bench.file("many/a", b"a");

@@ -5,6 +5,7 @@ mod explain;
 mod formats;
 mod killed;
 mod objects;
+mod paths;
 mod readme;
 mod refusals;
 mod sharing;

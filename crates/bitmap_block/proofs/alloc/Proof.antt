@@ -1,4 +1,4 @@
-use Rattle.bitmap_block.proofs.Laws.{found-in}
+use Rattle.bitmap_block.proofs.Answers.{found-in}
 use borrow.Author.Needs.{needs}
 use Rattle.bitmap_block.proofs.alloc.Statement.{statement}
 use Rattle.bitmap_block.proofs.alloc.Tie as tie

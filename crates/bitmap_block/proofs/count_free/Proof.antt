@@ -1,4 +1,4 @@
-use Rattle.bitmap_block.proofs.Laws.{reach-place, set-few, clear-many}
+use Rattle.bitmap_block.proofs.Answers.{reach-place, set-few, clear-many}
 use borrow.Author.Needs.{needs}
 use Rattle.bitmap_block.proofs.count_free.Statement.{statement}
 use Rattle.bitmap_block.proofs.count_free.Tie as tie

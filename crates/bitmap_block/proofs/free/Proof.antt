@@ -1,4 +1,4 @@
-use Rattle.bitmap_block.proofs.Laws.{clear-fit, clear-used}
+use Rattle.bitmap_block.proofs.Answers.{clear-fit, clear-used}
 use Rattle.bitmap_block.specs.Bitmap.{freed}
 use borrow.Author.Needs.{needs}
 use Rattle.bitmap_block.proofs.free.Statement.{statement}

@@ -1,4 +1,4 @@
-use Rattle.bitmap_block.proofs.Laws.{reach-few, reach-place, hint, hint-reach, first-at, first-none}
+use Rattle.bitmap_block.proofs.Answers.{reach-few, reach-place, hint, hint-reach, first-at, first-none}
 use borrow.Author.Needs.{needs}
 use Rattle.bitmap_block.proofs.next_free.Statement.{statement}
 use Rattle.bitmap_block.proofs.next_free.Tie as tie

@@ -1,4 +1,4 @@
-use Rattle.bitmap_block.proofs.Laws.{bit-place}
+use Rattle.bitmap_block.proofs.Answers.{bit-place}
 use Rattle.bitmap_block.specs.Bitmap.{marked}
 use borrow.Author.Needs.{needs}
 use Rattle.bitmap_block.proofs.set_mark.Statement.{statement}

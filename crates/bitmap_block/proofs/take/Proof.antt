@@ -1,4 +1,4 @@
-use Rattle.bitmap_block.proofs.Laws.{half-fit, half-used}
+use Rattle.bitmap_block.proofs.Answers.{half-fit, half-used}
 use Rattle.bitmap_block.specs.Bitmap.{taken}
 use borrow.Author.Needs.{needs}
 use Rattle.bitmap_block.proofs.take.Statement.{statement}

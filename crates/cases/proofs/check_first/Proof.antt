@@ -5,7 +5,7 @@ use Rattle.cases.proofs.check_first.Tie as tie
 use Rattle.cases.proofs.check_first.Reads as reads
 use Rattle.cases.proofs.check_first.Lts as lts
 use Rattle.cases.proofs.answer.Reads as answer-reads
-use Rattle.mfs.proofs.check.Reads as check-reads
+use Rattle.call_volume.proofs.check.Reads as check-reads
 
 -- src/main.rt:963:41
 slice-relend-prefix-check : tie.Need-slice-relend-prefix-check

@@ -9,7 +9,7 @@ use Rattle.cases.proofs.others.Reads as others-reads
 use Rattle.cases.proofs.put.Reads as put-reads
 use Rattle.cases.proofs.refuse.Reads as refuse-reads
 use Rattle.cases.proofs.told.Reads as told-reads
-use Rattle.mfs.proofs.list.Reads as list-reads
+use Rattle.call_read.proofs.list.Reads as list-reads
 
 -- src/main.rt:846:13
 slice-aggregate-put : tie.Need-slice-aggregate-put

@@ -9,7 +9,7 @@ use Rattle.cases.proofs.held.Reads as held-reads
 use Rattle.cases.proofs.put.Reads as put-reads
 use Rattle.cases.proofs.refuse.Reads as refuse-reads
 use Rattle.cases.proofs.told.Reads as told-reads
-use Rattle.mfs.proofs.read.Reads as read-reads
+use Rattle.call_read.proofs.read.Reads as read-reads
 
 -- src/main.rt:615:13
 slice-aggregate-put : tie.Need-slice-aggregate-put

@@ -7,7 +7,7 @@ use Rattle.cases.proofs.write_sown.Lts as lts
 use Rattle.cases.proofs.put.Reads as put-reads
 use Rattle.cases.proofs.sow.Reads as sow-reads
 use Rattle.cases.proofs.written.Reads as written-reads
-use Rattle.mfs.proofs.write.Reads as write-reads
+use Rattle.call_change.proofs.write.Reads as write-reads
 
 -- src/main.rt:725:14
 element-copy-out-sow : tie.Need-element-copy-out-sow

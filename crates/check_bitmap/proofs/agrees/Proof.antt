@@ -1,4 +1,4 @@
-use Rattle.check_bitmap.proofs.Laws.{marks-long, marks-in, marks-differ, past-in, past-image, marks-tested}
+use Rattle.check_bitmap.proofs.Answers.{marks-long, marks-in, marks-differ, past-in, past-image, marks-tested}
 use borrow.Author.Needs.{needs}
 use Rattle.check_bitmap.proofs.agrees.Statement.{statement}
 use Rattle.check_bitmap.proofs.agrees.Tie as tie

@@ -1,4 +1,4 @@
-use Rattle.check_bitmap.proofs.Laws.{map-before, limit-fits, bits-in, sum-fits, count-tested}
+use Rattle.check_bitmap.proofs.Answers.{map-before, limit-fits, bits-in, sum-fits, count-tested}
 use borrow.Author.Needs.{needs}
 use Rattle.check_bitmap.proofs.count_right.Statement.{statement}
 use Rattle.check_bitmap.proofs.count_right.Tie as tie

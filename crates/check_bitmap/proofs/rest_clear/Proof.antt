@@ -1,4 +1,4 @@
-use Rattle.check_bitmap.proofs.Laws.{rest-tested}
+use Rattle.check_bitmap.proofs.Answers.{rest-tested}
 use borrow.Author.Needs.{needs}
 use Rattle.check_bitmap.proofs.rest_clear.Statement.{statement}
 use Rattle.check_bitmap.proofs.rest_clear.Tie as tie

@@ -1,11 +1,9 @@
-use Prim.Native.Nat.{ℕ, _≤_}
+use Prim.Native.Nat.{_≤_}
 use mathlib.Core.Path.{_≡_, ap, _∙_}
-use native.Mathlib.Omega.{arith}
 use borrow.Author.Needs.{needs}
 use borrow.Author.Tests.{not-true, not-false}
 use lib.ListN.{length}
 use Rattle.block.specs.Block.{next}
-use Rattle.check_bitmap.specs.Tally.{markBytes}
 use Rattle.check_volume.proofs.Chains.{Left, left-start, left-step, left-stop, left-end, left-over, fileCheck, file-done, file-over, file-stop, file-next, still-long, claimed-inside}
 use Rattle.check_volume.proofs.cells.Statement.{statement}
 use Rattle.check_volume.proofs.cells.Tie as tie

@@ -1,11 +1,9 @@
-use Prim.Native.Nat.{ℕ, _-_, _≤_}
+use Prim.Native.Nat.{_-_, _≤_}
 use mathlib.Core.Path.{_≡_, ap, _∙_}
-use native.Mathlib.Omega.{arith}
 use borrow.Author.Needs.{needs}
 use borrow.Author.Tests.{not-true, not-false}
 use lib.ListN.{length}
 use Rattle.block.specs.Block.{next}
-use Rattle.check_bitmap.specs.Tally.{markBytes}
 use Rattle.check_volume.proofs.Chains.{Left, left-start, left-step, left-stop, left-over, left-last, deviceCheck, device-over, device-stop, device-last, device-next, still-long, claimed-inside}
 use Rattle.check_volume.proofs.chain.Statement.{statement}
 use Rattle.check_volume.proofs.chain.Tie as tie

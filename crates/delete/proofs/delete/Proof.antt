@@ -1,4 +1,4 @@
-use Rattle.delete.proofs.Laws.{begins-in, lies-from, lies-below, lies-ends, own-inside, deleted-done, image-done, deleted-refused, image-refused}
+use Rattle.delete.proofs.Answers.{begins-in, lies-from, lies-below, lies-ends, own-inside, deleted-done, image-done, deleted-refused, image-refused}
 use borrow.Author.Needs.{needs}
 use Rattle.delete.proofs.delete.Statement.{statement}
 use Rattle.delete.proofs.delete.Tie as tie

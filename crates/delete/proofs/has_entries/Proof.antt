@@ -1,4 +1,4 @@
-use Rattle.delete.proofs.Laws.{has-dir, has-file, has-device}
+use Rattle.delete.proofs.Answers.{has-dir, has-file, has-device}
 use borrow.Author.Needs.{needs}
 use Rattle.delete.proofs.has_entries.Statement.{statement}
 use Rattle.delete.proofs.has_entries.Tie as tie

@@ -1,4 +1,4 @@
-use Rattle.delete.proofs.Laws.{mark-empty, mark-held, mark-refused}
+use Rattle.delete.proofs.Answers.{mark-empty, mark-held, mark-refused}
 use borrow.Author.Needs.{needs}
 use Rattle.delete.proofs.mark.Statement.{statement}
 use Rattle.delete.proofs.mark.Tie as tie

@@ -1,4 +1,4 @@
-use Rattle.delete.proofs.Laws.{at-full, at-bare}
+use Rattle.delete.proofs.Answers.{at-full, at-bare}
 use borrow.Author.Needs.{needs}
 use Rattle.delete.proofs.mark_at.Statement.{statement}
 use Rattle.delete.proofs.mark_at.Tie as tie

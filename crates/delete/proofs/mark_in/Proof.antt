@@ -1,4 +1,4 @@
-use Rattle.delete.proofs.Laws.{in-at, in-missing, in-damaged}
+use Rattle.delete.proofs.Answers.{in-at, in-missing, in-damaged}
 use borrow.Author.Needs.{needs}
 use Rattle.delete.proofs.mark_in.Statement.{statement}
 use Rattle.delete.proofs.mark_in.Tie as tie

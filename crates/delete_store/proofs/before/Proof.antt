@@ -2,7 +2,7 @@ use mathlib.Core.Path.{_≡_, refl}
 use Prim.Native.Nat.{_-_, _<_}
 use borrow.Author.Needs.{needs}
 use Rattle.delete_store.specs.Delete.{beforeFrom}
-use Rattle.delete_store.proofs.Laws.{before-here, before-out, before-more, before-end}
+use Rattle.delete_store.proofs.Answers.{before-here, before-out, before-more, before-end}
 use Rattle.delete_store.proofs.before.Statement.{statement}
 use Rattle.delete_store.proofs.before.Tie as tie
 use Rattle.delete_store.proofs.before.Reads as reads

@@ -1,4 +1,4 @@
-use Rattle.delete_store.proofs.Laws.{bare-first, bare-gone, bare-kept}
+use Rattle.delete_store.proofs.Answers.{bare-first, bare-gone, bare-kept}
 use borrow.Author.Needs.{needs}
 use Rattle.delete_store.proofs.drop_bare.Statement.{statement}
 use Rattle.delete_store.proofs.drop_bare.Tie as tie

@@ -5,7 +5,7 @@ use borrow.Author.Needs.{needs}
 use Rattle.super_block.specs.Super.{geoOf}
 use Rattle.super_block.proofs.Fits.{area-inside, fit-inside}
 use Rattle.delete_store.specs.Delete.{chainFreed}
-use Rattle.delete_store.proofs.Laws.{still-fit, chain-low, chain-high, chain-more, chain-end}
+use Rattle.delete_store.proofs.Answers.{still-fit, chain-low, chain-high, chain-more, chain-end}
 use Rattle.delete_store.proofs.free_chain.Statement.{statement}
 use Rattle.delete_store.proofs.free_chain.Tie as tie
 use Rattle.delete_store.proofs.free_chain.Reads as reads

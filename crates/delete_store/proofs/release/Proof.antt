@@ -1,4 +1,4 @@
-use Rattle.delete_store.proofs.Laws.{release-none, release-some, some-used, index-inside}
+use Rattle.delete_store.proofs.Answers.{release-none, release-some, some-used, index-inside}
 use borrow.Author.Needs.{needs}
 use Rattle.delete_store.proofs.release.Statement.{statement}
 use Rattle.delete_store.proofs.release.Tie as tie

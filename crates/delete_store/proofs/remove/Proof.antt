@@ -1,4 +1,4 @@
-use Rattle.delete_store.proofs.Laws.{fit-twice, own-still, removed-in}
+use Rattle.delete_store.proofs.Answers.{fit-twice, own-still, removed-in}
 use borrow.Author.Needs.{needs}
 use Rattle.delete_store.proofs.remove.Statement.{statement}
 use Rattle.delete_store.proofs.remove.Tie as tie

@@ -1,4 +1,4 @@
-use Rattle.delete_store.proofs.Laws.{unlink-is}
+use Rattle.delete_store.proofs.Answers.{unlink-is}
 use borrow.Author.Needs.{needs}
 use Rattle.delete_store.proofs.unlink.Statement.{statement}
 use Rattle.delete_store.proofs.unlink.Tie as tie

@@ -1,4 +1,4 @@
-use Rattle.dir.proofs.Laws.{name-empty}
+use Rattle.dir.proofs.Answers.{name-empty}
 use Rattle.dir.proofs.HoldLaws.{enter-at, enter-none, enter-bad}
 use borrow.Author.Needs.{needs}
 use Rattle.dir.proofs.enter.Statement.{statement}

@@ -1,4 +1,4 @@
-use Rattle.dir.proofs.Laws.{entry-empty, entry-in, entry-unopened}
+use Rattle.dir.proofs.Answers.{entry-empty, entry-in, entry-unopened}
 use borrow.Author.Needs.{needs}
 use Rattle.dir.proofs.find.Statement.{statement}
 use Rattle.dir.proofs.find.Tie as tie

@@ -1,4 +1,4 @@
-use Rattle.dir.proofs.Laws.{find-at, found-none, found-bad}
+use Rattle.dir.proofs.Answers.{find-at, found-none, found-bad}
 use borrow.Author.Needs.{needs}
 use Rattle.dir.proofs.find_in.Statement.{statement}
 use Rattle.dir.proofs.find_in.Tie as tie

@@ -5,7 +5,7 @@ use Rattle.lsmfs_pages.proofs.page.Tie as tie
 use Rattle.lsmfs_pages.proofs.page.Reads as reads
 use Rattle.lsmfs_pages.proofs.page.Lts as lts
 use Rattle.lsmfs_pages.proofs.in_text.Reads as in-text-reads
-use Rattle.mfs.proofs.list.Reads as list-reads
+use Rattle.call_read.proofs.list.Reads as list-reads
 
 -- src/lib.rt:57:31
 slice-aggregate-list : tie.Need-slice-aggregate-list

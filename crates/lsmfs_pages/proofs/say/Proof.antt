@@ -7,7 +7,7 @@ use Rattle.lsmfs_pages.proofs.say.Lts as lts
 use Rattle.lsmfs_pages.proofs.page.Reads as page-reads
 use Rattle.lsmfs_pages.proofs.page_said.Reads as page-said-reads
 use Rattle.lsmfs_pages.proofs.refused.Reads as refused-reads
-use Rattle.mfs.proofs.check.Reads as check-reads
+use Rattle.call_volume.proofs.check.Reads as check-reads
 
 -- src/lib.rt:71:9
 refused-requires : tie.Need-refused-requires

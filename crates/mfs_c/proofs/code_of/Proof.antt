@@ -1,4 +1,4 @@
-use Rattle.mfs_c.proofs.Laws.{code-refused}
+use Rattle.mfs_c.proofs.Told.{code-refused}
 use borrow.Author.Needs.{needs}
 use Rattle.mfs_c.proofs.code_of.Statement.{statement}
 use Rattle.mfs_c.proofs.code_of.Tie as tie

@@ -1,4 +1,4 @@
-use Rattle.mfs_c.proofs.Laws.{count-refused, count-given}
+use Rattle.mfs_c.proofs.Told.{count-refused, count-given}
 use borrow.Author.Needs.{needs}
 use Rattle.mfs_c.proofs.give_count.Statement.{statement}
 use Rattle.mfs_c.proofs.give_count.Tie as tie

@@ -1,4 +1,4 @@
-use Rattle.mfs_c.proofs.Laws.{handle-refused, handle-given}
+use Rattle.mfs_c.proofs.Told.{handle-refused, handle-given}
 use borrow.Author.Needs.{needs}
 use Rattle.mfs_c.proofs.give_handle.Statement.{statement}
 use Rattle.mfs_c.proofs.give_handle.Tie as tie

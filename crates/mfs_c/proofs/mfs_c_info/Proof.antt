@@ -1,4 +1,4 @@
-use Rattle.mfs_c.proofs.Laws.{info-refused, info-told}
+use Rattle.mfs_c.proofs.Told.{info-refused, info-told}
 use borrow.Author.Needs.{needs}
 use Rattle.mfs_c.proofs.mfs_c_info.Statement.{statement}
 use Rattle.mfs_c.proofs.mfs_c_info.Tie as tie

@@ -1,4 +1,4 @@
-use Rattle.mfs_c.proofs.Laws.{list-refused, list-told}
+use Rattle.mfs_c.proofs.Told.{list-refused, list-told}
 use borrow.Author.Needs.{needs}
 use Rattle.mfs_c.proofs.mfs_c_list.Statement.{statement}
 use Rattle.mfs_c.proofs.mfs_c_list.Tie as tie

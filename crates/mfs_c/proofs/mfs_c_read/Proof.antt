@@ -1,4 +1,4 @@
-use Rattle.mfs_c.proofs.Laws.{reads-c}
+use Rattle.mfs_c.proofs.Told.{reads-c}
 use borrow.Author.Needs.{needs}
 use Rattle.mfs_c.proofs.mfs_c_read.Statement.{statement}
 use Rattle.mfs_c.proofs.mfs_c_read.Tie as tie

@@ -1,5 +1,5 @@
 use Rattle.file.specs.declared.SeekFrom.the-variants as from
-use Rattle.mfs_c.proofs.Laws.{seek-by}
+use Rattle.mfs_c.proofs.Told.{seek-by}
 use borrow.Author.Needs.{needs}
 use Rattle.mfs_c.proofs.mfs_c_seek_current.Statement.{statement}
 use Rattle.mfs_c.proofs.mfs_c_seek_current.Tie as tie

@@ -1,4 +1,4 @@
-use Rattle.mfs_c.proofs.Laws.{usage-refused, usage-told}
+use Rattle.mfs_c.proofs.Told.{usage-refused, usage-told}
 use borrow.Author.Needs.{needs}
 use Rattle.mfs_c.proofs.mfs_c_usage.Statement.{statement}
 use Rattle.mfs_c.proofs.mfs_c_usage.Tie as tie

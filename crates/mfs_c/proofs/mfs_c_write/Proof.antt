@@ -1,4 +1,4 @@
-use Rattle.mfs_c.proofs.Laws.{writes-c}
+use Rattle.mfs_c.proofs.Told.{writes-c}
 use borrow.Author.Needs.{needs}
 use Rattle.mfs_c.proofs.mfs_c_write.Statement.{statement}
 use Rattle.mfs_c.proofs.mfs_c_write.Tie as tie

@@ -1,4 +1,4 @@
-use Rattle.mfs_c.proofs.Laws.{seek-refused, seek-moved}
+use Rattle.mfs_c.proofs.Told.{seek-refused, seek-moved}
 use borrow.Author.Needs.{needs}
 use Rattle.mfs_c.proofs.seek.Statement.{statement}
 use Rattle.mfs_c.proofs.seek.Tie as tie

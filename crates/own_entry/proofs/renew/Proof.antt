@@ -1,5 +1,5 @@
 use borrow.Author.Needs.{needs}
-use Rattle.own_entry.proofs.Laws.{own-at, renewed-at}
+use Rattle.own_entry.proofs.Renewals.{own-at, renewed-at}
 use Rattle.own_entry.proofs.renew.Statement.{statement}
 use Rattle.own_entry.proofs.renew.Tie as tie
 use Rattle.own_entry.proofs.renew.Reads as reads

@@ -1,4 +1,4 @@
-use Rattle.own_entry.proofs.Laws.{sum-told, sum-damaged}
+use Rattle.own_entry.proofs.Renewals.{sum-told, sum-damaged}
 use borrow.Author.Needs.{needs}
 use Rattle.own_entry.proofs.renew_sum.Statement.{statement}
 use Rattle.own_entry.proofs.renew_sum.Tie as tie

@@ -1,4 +1,4 @@
-use Rattle.super_block.proofs.Laws.{count-over, count-few, count-last}
+use Rattle.super_block.proofs.Tests.{count-over, count-few, count-last}
 use borrow.Author.Needs.{needs}
 use Rattle.super_block.proofs.bad_count.Statement.{statement}
 use Rattle.super_block.proofs.bad_count.Tie as tie

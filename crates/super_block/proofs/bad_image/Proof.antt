@@ -1,4 +1,4 @@
-use Rattle.super_block.proofs.Laws.{image-empty, image-odd, image-over, image-last}
+use Rattle.super_block.proofs.Tests.{image-empty, image-odd, image-over, image-last}
 use borrow.Author.Needs.{needs}
 use Rattle.super_block.proofs.bad_image.Statement.{statement}
 use Rattle.super_block.proofs.bad_image.Tie as tie

@@ -3,7 +3,7 @@ use Rattle.text.proofs.Along.{has-found, has-again, has-none}
 use Rattle.text.specs.Text.{hasByte}
 use lib.ListN.{length, drop}
 use Prim.Native.Nat.{_-_, _≤_}
-use mathlib.Core.Path.{_≡_, refl}
+use mathlib.Core.Path.{_≡_}
 use Rattle.text.proofs.has.Statement.{statement}
 use Rattle.text.proofs.has.Tie as tie
 use Rattle.text.proofs.has.Reads as reads

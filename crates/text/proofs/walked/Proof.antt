@@ -4,7 +4,7 @@ use Rattle.text.specs.Text.{textFrom, isText}
 use Rattle.text.specs.Awaited.{due}
 use lib.ListN.{length, drop}
 use Prim.Native.Nat.{_-_, _≤_}
-use mathlib.Core.Path.{_≡_, refl}
+use mathlib.Core.Path.{_≡_}
 use Rattle.text.proofs.walked.Statement.{statement}
 use Rattle.text.proofs.walked.Tie as tie
 use Rattle.text.proofs.walked.Reads as reads

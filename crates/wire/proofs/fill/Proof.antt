@@ -1,12 +1,11 @@
-use Prim.Native.Nat.{ℕ, suc, _+_, _-_, _*_, _≤_, _<_}
+use Prim.Native.Nat.{_-_, _≤_}
 use mathlib.Core.Path.{_≡_, _∙_, sym, ap}
-use mathlib.Core.List.{List}
 use native.Mathlib.Omega.{arith}
 use borrow.Author.Needs.{needs}
-use lib.ListN.{length, getD, set, take, drop, replicate, length-set, length-drop, length-take, length-replicate, getD-replicate}
-use lib.Seq.{take-all, getD-take, getD-drop}
+use lib.ListN.{length, getD, take, replicate, length-set, length-replicate, getD-replicate}
+use lib.Seq.{take-all}
 use Rattle.wire.specs.Be.{splice}
-use Rattle.wire.proofs.Laws.{splice-nil, splice-more, length-splice}
+use Rattle.wire.proofs.Numbers.{splice-nil, splice-more}
 use Rattle.wire.proofs.fill.Statement.{statement}
 use Rattle.wire.proofs.fill.Tie as tie
 use Rattle.wire.proofs.fill.Reads as reads

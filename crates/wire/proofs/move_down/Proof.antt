@@ -1,15 +1,12 @@
-use Prim.Native.Nat.{ℕ, suc, _+_, _-_, _*_, _^_, _≤_, _<_}
+use Prim.Native.Nat.{ℕ, _+_, _-_, _≤_}
 use mathlib.Core.Path.{_≡_, _∙_, sym, ap}
 use mathlib.Core.List.{List}
-use native.Mathlib.Nat.{pow-suc, pow-le-pow-right}
-use native.Mathlib.Numerals.{add-one}
 use native.Mathlib.Omega.{arith}
 use borrow.Author.Needs.{needs}
-use lib.Dec.{lit<}
-use lib.ListN.{length, getD, set, take, drop, length-set, length-drop, length-take}
+use lib.ListN.{length, getD, take, drop, length-set, length-drop, length-take}
 use lib.Seq.{take-all, getD-take, getD-drop, length-take-le}
-use Rattle.wire.specs.Be.{be, splice}
-use Rattle.wire.proofs.Laws.{be-none, be-more, splice-nil, splice-more, splice-after, length-splice}
+use Rattle.wire.specs.Be.{splice}
+use Rattle.wire.proofs.Numbers.{splice-nil, splice-more, splice-after}
 use Rattle.wire.proofs.move_down.Statement.{statement}
 use Rattle.wire.proofs.move_down.Tie as tie
 use Rattle.wire.proofs.move_down.Reads as reads

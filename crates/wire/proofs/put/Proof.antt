@@ -1,13 +1,12 @@
-use Prim.Native.Nat.{ℕ, suc, _+_, _-_, _*_, _/_, _%_, _^_, _≤_, _<_}
-use mathlib.Core.Path.{_≡_, _∙_, sym, ap, refl}
-use mathlib.Core.List.{List}
+use Prim.Native.Nat.{_+_, _-_, _/_, _^_, _≤_}
+use mathlib.Core.Path.{_≡_, sym}
 use native.Mathlib.Nat.{pow-suc, div-one, div-div-eq-div-mul, add-zero}
 use native.Mathlib.Numerals.{one-add}
 use native.Mathlib.Omega.{arith}
 use borrow.Author.Needs.{needs}
 use lib.ListN.{length, length-set}
 use Rattle.wire.specs.Be.{bytes, splice}
-use Rattle.wire.proofs.Laws.{splice-nil, put-more}
+use Rattle.wire.proofs.Numbers.{splice-nil, put-more}
 use Rattle.wire.proofs.put.Statement.{statement}
 use Rattle.wire.proofs.put.Tie as tie
 use Rattle.wire.proofs.put.Reads as reads

@@ -1,5 +1,5 @@
 use Prim.Native.Nat.{_-_, _≤_}
-use mathlib.Core.Path.{_≡_, refl}
+use mathlib.Core.Path.{refl}
 use borrow.Author.Needs.{needs}
 use Rattle.wire.proofs.Zeros.{Left, left-start, left-more, left-not, left-none}
 use Rattle.wire.proofs.zero_bytes.Statement.{statement}

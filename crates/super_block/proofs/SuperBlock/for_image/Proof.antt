@@ -1,6 +1,6 @@
 use native.Mathlib.Omega.{arith}
-use Rattle.super_block.proofs.Laws.{told, long, counts}
-use Rattle.model.proofs.Opens.{format-1, format-3, format-0, good-image, good-count}
+use Rattle.super_block.proofs.Tests.{told, long, counts}
+use Rattle.model.proofs.Opens.{format-1, format-3, format-0}
 use borrow.Author.Needs.{needs}
 use Rattle.super_block.proofs.SuperBlock.for_image.Statement.{statement}
 use Rattle.super_block.proofs.SuperBlock.for_image.Tie as tie

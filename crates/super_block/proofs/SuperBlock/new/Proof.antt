@@ -1,4 +1,4 @@
-use Rattle.super_block.proofs.Laws.{made, reach-whole, reach-all}
+use Rattle.super_block.proofs.Tests.{made, reach-whole, reach-all}
 use borrow.Author.Needs.{needs}
 use Rattle.super_block.proofs.SuperBlock.new.Statement.{statement}
 use Rattle.super_block.proofs.SuperBlock.new.Tie as tie

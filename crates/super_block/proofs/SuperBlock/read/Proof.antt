@@ -1,6 +1,6 @@
 use native.Mathlib.Omega.{arith}
-use Rattle.super_block.proofs.Laws.{told, long, counts, read-count, read-3, read-0}
-use Rattle.model.proofs.Opens.{open-1, open-2, open-3, open-0, good-image, good-count}
+use Rattle.super_block.proofs.Tests.{told, long, counts, read-count, read-3, read-0}
+use Rattle.model.proofs.Opens.{open-1, open-2}
 use borrow.Author.Needs.{needs}
 use Rattle.super_block.proofs.SuperBlock.read.Statement.{statement}
 use Rattle.super_block.proofs.SuperBlock.read.Tie as tie

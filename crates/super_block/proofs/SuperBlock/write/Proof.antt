@@ -1,6 +1,6 @@
 use Rattle.super_block.proofs.Fits.{placed}
 use native.Mathlib.Omega.{arith}
-use Rattle.super_block.proofs.Laws.{super-stored}
+use Rattle.super_block.proofs.Tests.{super-stored}
 use Rattle.super_block.specs.Super.{superWritten}
 use borrow.Author.Needs.{needs}
 use Rattle.super_block.proofs.SuperBlock.write.Statement.{statement}

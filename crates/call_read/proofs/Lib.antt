@@ -1,0 +1,3 @@
+pub mod Opening
+pub mod Paths
+pub mod Handles

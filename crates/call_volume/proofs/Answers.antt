@@ -1,0 +1,152 @@
+-- What the public functions know where they answer: one law for each answer.
+use mathlib.Core.Path.{_≡_, sym, ap, _∙_, subst}
+use mathlib.Core.List.{List, [], _∷_}
+use mathlib.Core.Logic.{_⊎_, inl}
+use Prim.Native.Nat.{ℕ, _+_, _-_, _*_, _≤_, _<_}
+use native.Mathlib.Omega.{arith}
+use lib.ListN.{length}
+use borrow.Author.Tests.{lt-ltb, le-ltb}
+use Rattle.wire.proofs.Numbers.{length-splice}
+use Rattle.block.specs.Block.{zeroed, Kept}
+use Rattle.block.proofs.Blocks.{zeroed-kept}
+use Rattle.model.specs.Render.{Shows}
+use Rattle.model.proofs.Commit.{shows-stored}
+use Rattle.model.proofs.Demand.{whole-super}
+use Rattle.model.proofs.Entries.{be-shown}
+use Rattle.model.proofs.OneVolume.{top-reads}
+use Rattle.model.proofs.Owns.{shows-kept}
+use Rattle.model.specs.Answers.{accepted, refused, firstOf, reply}
+use Rattle.limits.specs.Refusals.{refusalNumber}
+use Rattle.limits.specs.declared.Refusal.{Refusal}
+use Rattle.limits.specs.declared.Refusal.the-variants.{Damaged}
+use Rattle.model.specs.Geometry.{Geo, superBytes, blockSize, mapAt, dataAt, geoAt, formatGeo, usedCount, openRefusal, formatRefusal}
+use Rattle.model.proofs.Opens.{when-true, when-false, first-of-head, first-of-tail, first-of-one}
+use Rattle.model.proofs.Replies.{reply-none, settle-none}
+use Rattle.limits.proofs.Numbers.{reply-refused, settle-refused, number-some}
+use Rattle.super_block.specs.declared.SuperBlock.{SuperBlock}
+use Rattle.super_block.specs.declared.Opened.{Opened}
+use Rattle.super_block.specs.declared.Opened.the-variants.{At, Refused}
+use Rattle.super_block.specs.Super.{geoOf, superBlock, Fit, OpenedIs, MadeIs, superWritten}
+use Rattle.super_block.proofs.Fits.{placed, opened-fit, made-fit, fit-long}
+use Rattle.bitmap_block.specs.Bitmap.{taken}
+use Rattle.call_volume.specs.declared.Answer.the-variants as answer
+use Rattle.call_volume.specs.declared.Space.{Space}
+use Rattle.call_volume.specs.declared.Space.the-variants as space
+use Rattle.call_volume.specs.Says.{spaceSays}
+use Rattle.call_volume.specs.Format.{formatted, Formats, overused, usageRefusal, sizesOf, Uses}
+
+-- ---- an opened volume
+
+module _ (K : ℕ) (I : List ℕ) (r : Opened) (o : OpenedIs K I r) where
+  module _ (s : SuperBlock) (e : r ≡ At s) where
+    opens : (openRefusal K I ≡ 0) × (s ≡ superBlock (geoAt K I))
+    opens = subst (OpenedIs K I) e o
+
+    pub opened-at : Fit s I
+    opened-at = opened-fit K I s (opens .0) (opens .1)
+
+    -- usage, from the answer that the numbers and the count give
+    pub usage-sized : (u : ℕ) (q : Space) → u ≡ usedCount (geoOf s) I → spaceSays q ≡ reply (overused (geoOf s) u) (sizesOf (geoOf s) u) → Uses K I q
+    unfolding usageRefusal
+    usage-sized u q f h =
+        let g : geoOf s ≡ geoAt K I = ap geoOf (opens .1) in
+        let v : u ≡ usedCount (geoAt K I) I = f ∙ ap (λ (x : Geo). usedCount x I) g in
+        let t : overused (geoOf s) u ≡ overused (geoAt K I) (usedCount (geoAt K I) I) = ap (λ (x : Geo). overused x u) g ∙ ap (overused (geoAt K I)) v in
+        let z : sizesOf (geoOf s) u ≡ sizesOf (geoAt K I) (usedCount (geoAt K I) I) = ap (λ (x : Geo). sizesOf x u) g ∙ ap (sizesOf (geoAt K I)) v in
+        let w : firstOf (openRefusal K I ∷ (overused (geoAt K I) (usedCount (geoAt K I) I) ∷ [])) ≡ overused (geoAt K I) (usedCount (geoAt K I) I)
+        = first-of-tail _ _ (opens .0) ∙ first-of-one (overused (geoAt K I) (usedCount (geoAt K I) I)) in
+        h ∙ ap (λ (k : ℕ). reply k (sizesOf (geoOf s) u)) (t ∙ sym w) ∙ ap (reply _) z
+
+  pub usage-refused : (x : Refusal) → r ≡ Refused x → Uses K I (space.Refused x)
+  unfolding usageRefusal
+  usage-refused x e =
+      let f : openRefusal K I ≡ refusalNumber x = subst (OpenedIs K I) e o in
+      let h : firstOf (openRefusal K I ∷ (overused (geoAt K I) (usedCount (geoAt K I) I) ∷ [])) ≡ refusalNumber x
+      = first-of-head _ _ (omega (arith, f, number-some x)) ∙ f in
+      sym (reply-refused _ x h)
+
+-- ---- usage, by the count
+
+pub sizes-over : (g : Geo) (u : ℕ) → g .n < u → refused 17 ≡ reply (overused g u) (sizesOf g u)
+unfolding overused
+sizes-over g u h = sym (reply-refused (sizesOf g u) Damaged (when-true 17 (lt-ltb (g .n) u h)))
+
+pub sizes-in : (g : Geo) (u : ℕ) → u ≤ g .n
+    → accepted (record { size = g .n * blockSize g; used = u * blockSize g; free = g .n * blockSize g - u * blockSize g }) ≡ reply (overused g u) (sizesOf g u)
+unfolding overused sizesOf
+sizes-in g u h = sym (reply-none _ (when-false 17 (le-ltb (g .n) u h)))
+
+-- ---- format
+
+module _ (K : ℕ) (I : List ℕ) (r : Opened) (o : MadeIs K (length I) r) where
+  pub format-refused : (x : Refusal) → r ≡ Refused x → Formats K I (answer.Refused x) I
+  format-refused x e =
+      let f : formatRefusal K (length I) ≡ refusalNumber x = subst (MadeIs K (length I)) e o in
+      record { answer = sym (reply-refused tt x f); image = sym (settle-refused _ I x f) }
+
+  module _ (s : SuperBlock) (e : r ≡ At s) where
+    makes : (formatRefusal K (length I) ≡ 0) × (s ≡ superBlock (formatGeo K (length I)))
+    makes = subst (MadeIs K (length I)) e o
+
+    pub made-at : Fit s I
+    made-at = made-fit K I s (makes .0) (makes .1)
+
+    pub format-made : (J : List ℕ) → J ≡ formatted (geoOf s) I → Formats K I answer.Success J
+    format-made J h =
+        record {
+          answer = sym (reply-none tt (makes .0));
+          image = h ∙ ap (λ (g : Geo). formatted g I) (ap geoOf (makes .1)) ∙ sym (settle-none _ I (makes .0));
+        }
+
+-- ---- the stores of a format: the superblock, then the bitmap, then block D taken
+
+module _ (s : SuperBlock) (I : List ℕ) (f : Fit s I) where
+  pub maps-le : s .bitmap .0 ≤ s .area .0
+  maps-le = let p = placed f in omega arith
+
+  pub bitmap-in : (J : List ℕ) → length J ≡ length I → 512 * s .bitmap .0 + 512 * (s .area .0 - s .bitmap .0) ≤ length J
+  bitmap-in J e = let p = placed f in omega arith
+
+  pub root-in : s .area .0 + 0 < s .blocks
+  root-in = let p = placed f in omega arith
+
+  written-long : length (superWritten (geoOf s) I (s .area .0)) ≡ length I
+  unfolding superWritten
+  written-long = let p = placed f in length-splice I _ _ (omega (arith, whole-super (geoOf s) (s .area .0)))
+
+  module _ (J L : List ℕ) (p : J ≡ superWritten (geoOf s) I (s .area .0)) (q : L ≡ zeroed 512 J (s .bitmap .0) (s .area .0 - s .bitmap .0)) where
+    pub long-J : length J ≡ length I
+    long-J = ap length p ∙ written-long
+
+    kept-L : Kept 512 (λ b o. (b < s .bitmap .0) ⊎ (s .bitmap .0 + (s .area .0 - s .bitmap .0) ≤ b)) J L
+    kept-L = subst (Kept 512 _ J) (sym q) (zeroed-kept 512 J (s .bitmap .0) (s .area .0 - s .bitmap .0) (bitmap-in J long-J))
+
+    pub laid-fit : Fit s L
+    laid-fit = fit-long (kept-L .size ∙ long-J) f
+
+    -- the superblock stands in both
+    top-J : Shows J (512 * s .addr .0) (superBytes (geoOf s) (s .area .0))
+    unfolding superWritten
+    top-J = let h = placed f in rw p (shows-stored I _ _ (omega (arith, whole-super (geoOf s) (s .area .0))))
+
+    pub top-L : Shows L (512 * s .addr .0) (superBytes (geoOf s) (s .area .0))
+    top-L =
+        let h = placed f in
+        shows-kept 512 _ J L (s .addr .0) (superBytes (geoOf s) (s .area .0)) kept-L (λ o _. inl (omega arith)) (omega (arith, whole-super (geoOf s) (s .area .0))) top-J
+
+    pub used-L : usedCount (geoOf s) L ≡ s .area .0
+    unfolding usedCount
+    used-L = let h = placed f in be-shown L _ 4 (s .area .0) (omega arith) (top-reads L _ (geoOf s) (s .area .0) top-L .used)
+
+    pub laid-used : usedCount (geoOf s) L < s .blocks
+    laid-used = let h = placed f in omega (arith, used-L)
+
+    pub laid-is : (M : List ℕ) → M ≡ taken (geoOf s) L 0 → M ≡ formatted (geoOf s) I
+    unfolding formatted
+    laid-is M e =
+        let a : s .area .0 ≡ dataAt (geoOf s) = f .area in
+        let b : s .bitmap .0 ≡ mapAt (geoOf s) = f .bitmap in
+        let x : J ≡ superWritten (geoOf s) I (dataAt (geoOf s)) = p ∙ ap (superWritten (geoOf s) I) a in
+        let y : L ≡ zeroed 512 (superWritten (geoOf s) I (dataAt (geoOf s))) (mapAt (geoOf s)) (dataAt (geoOf s) - mapAt (geoOf s))
+        = q ∙ ap (λ (K : List ℕ). zeroed 512 K (s .bitmap .0) (s .area .0 - s .bitmap .0)) x ∙ rw (a, b) in
+        e ∙ ap (λ (K : List ℕ). taken (geoOf s) K 0) y

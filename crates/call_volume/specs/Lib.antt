@@ -1,0 +1,3 @@
+pub mod Says
+pub mod Format
+pub mod Checking

@@ -1,0 +1,119 @@
+-- What each export tells on each of its ways out: the call that it made, and the arm that its answer took.
+use mathlib.Core.Path.{_≡_, refl, subst}
+use mathlib.Core.List.{List}
+use Prim.Native.Nat.{ℕ}
+use lib.IntN.{ℤ}
+use mir.Syntax.{w32}
+use mir.Val.{SFits, ofZ, toZ}
+use mir.Facts.{toZ-ofZ}
+use Rattle.limits.specs.Refusals.{refusalNumber}
+use Rattle.limits.specs.declared.Refusal.{Refusal}
+use Rattle.dir_entry.specs.Entry.{kindByte}
+use Rattle.file.specs.declared.Handle.{Handle}
+use Rattle.file.specs.declared.SeekFrom.{SeekFrom}
+use Rattle.file.specs.declared.Outcome.the-variants as outcome
+use Rattle.file.specs.declared.Sought.{Sought}
+use Rattle.file.specs.declared.Counted.{Counted}
+use Rattle.file.specs.declared.Counted.the-variants as counted
+use Rattle.file.specs.declared.ReadOut.{ReadOut}
+use Rattle.file.specs.declared.WriteOut.{WriteOut}
+use Rattle.file.specs.Post.{SoughtIs}
+use Rattle.file.specs.Written.{countedSays}
+use Rattle.call_volume.specs.declared.Answer.{Answer}
+use Rattle.call_volume.specs.declared.Answer.the-variants as answer
+use Rattle.call_volume.specs.declared.Space.{Space}
+use Rattle.call_volume.specs.declared.Space.the-variants as space
+use Rattle.call_read.specs.declared.OpenOut.{OpenOut}
+use Rattle.call_read.specs.declared.InfoOut.{InfoOut}
+use Rattle.call_read.specs.declared.Listing.{Listing}
+use Rattle.call_read.specs.declared.Listing.the-variants as listing
+use Rattle.call_volume.specs.Says.{says}
+use Rattle.call_volume.specs.Format.{Uses}
+use Rattle.call_read.specs.Reading.{openSays, Informs, Lists, Reads}
+use Rattle.call_change.specs.Changing.{Writes}
+use Rattle.mfs_c.specs.Exports.{told, handleOf, numbersOf, UsesC, HandleOut, InformsC, ListsC, CountOut, ReadsC, SeeksC, WritesC}
+
+-- a plain answer that is refused
+pub code-refused : (a : Answer) (r : Refusal) (c : ℕ) → a ≡ answer.Refused r → c ≡ refusalNumber r → c ≡ told (says a)
+code-refused a r c e f = rw e f
+
+-- ---- the values of an answer, each into its out parameter; a refusal leaves them
+
+module _ (K : ℕ) (I : List ℕ) (size used free : ℕ) (a : Space) (call : Uses K I a) where
+  pub usage-refused : (r : Refusal) (c : ℕ) → a ≡ space.Refused r → c ≡ refusalNumber r → UsesC K I size used free c size used free
+  usage-refused r c e f = record { answer = space.Refused r; call = rw e at call; code = f; sizes = refl; useds = refl; frees = refl }
+
+  pub usage-told : (s u f : ℕ) → a ≡ space.Bytes s u f → UsesC K I size used free 0 s u f
+  usage-told s u f e = record { answer = space.Bytes s u f; call = rw e at call; code = refl; sizes = refl; useds = refl; frees = refl }
+
+module _ (o : OpenOut) (ns x : List ℕ) (len : ℕ) where
+  pub handle-refused : (r : Refusal) (c : ℕ) → o .answer ≡ answer.Refused r → c ≡ refusalNumber r → HandleOut (openSays o) ns x len c ns x len
+  handle-refused r c e f = rw e (record { code = f; numbers = refl; name = refl; long = refl })
+
+  pub handle-given : (ms : List ℕ) → o .answer ≡ answer.Success → ms ≡ numbersOf (o .handle) → HandleOut (openSays o) ns x len 0 ms (o .handle .name) (o .handle .len)
+  handle-given ms e f = rw e (record { code = refl; numbers = f; name = refl; long = refl })
+
+module _ (K : ℕ) (I cwd p : List ℕ) (kind size time : ℕ) (x : List ℕ) (len : ℕ) (o : InfoOut) (call : Informs K I cwd p o) where
+  pub info-refused : (r : Refusal) (c : ℕ) → o .answer ≡ answer.Refused r → c ≡ refusalNumber r → InformsC K I cwd p kind size time x len c kind size time x len
+  info-refused r c e f =
+      record {
+        answer = o;
+        call = call;
+        code = rw e f;
+        kinds = rw e refl;
+        sizes = rw e refl;
+        times = rw e refl;
+        name = rw e refl;
+        long = rw e refl;
+      }
+
+  pub info-told : (b : ℕ) → o .answer ≡ answer.Success → b ≡ kindByte (o .kind)
+      → InformsC K I cwd p kind size time x len 0 b (o .size) (o .time) (o .name) (o .len)
+  info-told b e f =
+      record {
+        answer = o;
+        call = call;
+        code = rw e refl;
+        kinds = rw e f;
+        sizes = rw e refl;
+        times = rw e refl;
+        name = rw e refl;
+        long = rw e refl;
+      }
+
+module _ (K : ℕ) (I cwd p : List ℕ) (i : ℕ) (buf : List ℕ) (bytes next : ℕ) (a : Listing) (out : List ℕ) (call : Lists K I cwd p i buf a out) where
+  pub list-refused : (r : Refusal) (c : ℕ) → a ≡ listing.Refused r → c ≡ refusalNumber r → ListsC K I cwd p i buf bytes next c out bytes next
+  list-refused r c e f = record { answer = a; call = call; code = rw e f; counts = rw e refl; nexts = rw e refl }
+
+  pub list-told : (b n : ℕ) → a ≡ listing.Records b n → ListsC K I cwd p i buf bytes next 0 out b n
+  list-told b n e = record { answer = a; call = call; code = rw e refl; counts = rw e refl; nexts = rw e refl }
+
+module _ (a : Counted) (h : Handle) (ns : List ℕ) (bytes : ℕ) where
+  pub count-refused : (r : Refusal) (c : ℕ) → a ≡ counted.Refused r → c ≡ refusalNumber r → CountOut (countedSays a) h ns bytes c ns bytes
+  count-refused r c e f = rw e (record { code = f; numbers = refl; counts = refl })
+
+  pub count-given : (ms : List ℕ) (b : ℕ) → a ≡ counted.Bytes b → ms ≡ numbersOf h → CountOut (countedSays a) h ns bytes 0 ms b
+  count-given ms b e f = rw e (record { code = refl; numbers = f; counts = refl })
+
+-- ---- the calls through a handle, which is made of its numbers and its name
+
+module _ (ns x : List ℕ) (len : ℕ) (h : Handle) (made : h ≡ handleOf ns x len) where
+  pub reads-c : (K : ℕ) (I buf : List ℕ) (bytes : ℕ) (o : ReadOut) (c : ℕ) (ms out : List ℕ) (b : ℕ)
+      → Reads K I h buf out o → CountOut (countedSays (o .answer)) (o .handle) ns bytes c ms b → ReadsC K I ns x len buf bytes c ms out b
+  reads-c K I buf bytes o c ms out b call given = record { answer = o; call = rw made at call; told = given }
+
+  pub writes-c : (K : ℕ) (I W buf : List ℕ) (time bytes : ℕ) (o : WriteOut) (c : ℕ) (J Z ms : List ℕ) (b : ℕ)
+      → Writes K I W h buf time o J Z → CountOut (countedSays (o .answer)) (o .handle) ns bytes c ms b → WritesC K I W ns x len buf time bytes c J Z ms b
+  writes-c K I W buf time bytes o c J Z ms b call given = record { answer = o; call = rw made at call; told = given }
+
+  module _ (from : SeekFrom) (o : Sought) (call : SoughtIs h from o) where
+    pub seek-refused : (r : Refusal) (c : ℕ) → o .answer ≡ outcome.Refused r → c ≡ refusalNumber r → SeeksC ns x len from c ns
+    seek-refused r c e f = record { answer = o; call = rw made at call; code = rw e f; numbers = rw e refl }
+
+    pub seek-moved : (ms : List ℕ) → o .answer ≡ outcome.Success → ms ≡ numbersOf (o .handle) → SeeksC ns x len from 0 ms
+    seek-moved ms e f = record { answer = o; call = rw made at call; code = rw e refl; numbers = rw e f }
+
+-- A signed distance is handed on by its bits, from which the same number is read.
+pub seek-by : (make : ℤ → SeekFrom) (by : ℤ) (ns x : List ℕ) (len c : ℕ) (ms : List ℕ)
+    → SFits w32 by → SeeksC ns x len (make (toZ w32 (ofZ w32 by))) c ms → SeeksC ns x len (make by) c ms
+seek-by make by ns x len c ms fits given = subst (λ (z : ℤ). SeeksC ns x len (make z) c ms) (toZ-ofZ {w = w32} fits) given

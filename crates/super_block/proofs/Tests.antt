@@ -1,0 +1,116 @@
+-- The tests of refusals 1 to 3 as code makes them; the stores of a superblock.
+use mathlib.Core.Path.{_≡_, sym, ap, _∙_, subst}
+use mathlib.Core.Bool.{Bool, true, false}
+use mathlib.Core.List.{List, [], _∷_, _++_, append-assoc}
+use Prim.Native.Nat.{ℕ, _+_, _-_, _*_, _/_, _%_, _≤_, _<_}
+use native.Mathlib.Omega.{arith}
+use lib.Dec.{leb, eqb}
+use lib.ListN.{length, length-append, length-replicate}
+use borrow.Author.Tests.{eq-eqb, ne-eqb, lt-ltb, le-ltb}
+use Rattle.wire.specs.Be.{be, bytes, splice, zeros}
+use Rattle.wire.proofs.Numbers.{splice-append, length-bytes}
+use Rattle.model.specs.Geometry.{geo, geoAt, countAt, openRefusal, rest, dataAt, reach, imageLimit, badImage, badMark, badCount, signature, superBytes}
+use Rattle.model.specs.Render.{padded}
+use Rattle.model.proofs.Opens.{good-image, good-count, open-3, open-0}
+use Rattle.super_block.specs.declared.SuperBlock.{SuperBlock}
+use Rattle.super_block.specs.Super.{superBlock}
+
+module _ (K len : ℕ) where
+  pub image-empty : len ≡ 0 → true ≡ badImage K len
+  unfolding badImage
+  image-empty e = simp (eq-eqb _ _ e)
+
+  pub image-odd : (len ≡ 0 → ⊥) → (len % 512 ≡ 0 → ⊥) → true ≡ badImage K len
+  unfolding badImage
+  image-odd a b = simp (ne-eqb _ _ a, ne-eqb _ _ b)
+
+  pub image-over : (len ≡ 0 → ⊥) → len % 512 ≡ 0 → imageLimit < len → true ≡ badImage K len
+  unfolding badImage
+  image-over a b c = simp (ne-eqb _ _ a, eq-eqb _ _ b, lt-ltb _ _ c)
+
+  pub image-last : (len ≡ 0 → ⊥) → len % 512 ≡ 0 → len ≤ imageLimit → leb (len / 512) (K + 2) ≡ badImage K len
+  unfolding badImage
+  image-last a b c = simp (ne-eqb _ _ a, eq-eqb _ _ b, le-ltb _ _ c)
+
+-- r is N, as code computes it
+module _ (K n len r : ℕ) (e : r ≡ rest (geo K n)) where
+  pub count-few : n ≤ len / 512 → r < 2 → true ≡ badCount (geo K n) len
+  unfolding badCount
+  count-few a b = simp (le-ltb _ _ a, lt-ltb (rest (geo K n)) 2 (omega arith))
+
+  pub count-last : n ≤ len / 512 → 2 ≤ r → eqb (r % 4097) 1 ≡ badCount (geo K n) len
+  unfolding badCount
+  count-last a b = rw e (simp (le-ltb _ _ a, le-ltb (rest (geo K n)) 2 (omega arith)))
+
+pub count-over : (K n len : ℕ) → len / 512 < n → true ≡ badCount (geo K n) len
+unfolding badCount
+count-over K n len a = simp (lt-ltb _ _ a)
+
+-- what a test says, by the bool that code has of it
+pub told : {a b c : Bool} → a ≡ b → a ≡ c → b ≡ c
+told p q = sym p ∙ q
+
+-- what is known where the tests of the length, and of the count, do not hold
+pub record Long (K len : ℕ) : Type 0 where
+  pub blocks : len / 512 ≤ 8388608
+  pub top : 512 * K + 1024 ≤ len
+
+pub long : {b : Bool} (K len : ℕ) → b ≡ badImage K len → b ≡ false → Long K len
+long K len p q = let h = good-image K len (told p q) in record { blocks = omega arith; top = omega arith }
+
+pub counts : {b : Bool} (K n len : ℕ) → b ≡ badCount (geo K n) len → b ≡ false → (n ≤ len / 512) × (2 ≤ n - (K + 2))
+counts K n len p q = let h = good-count (geo K n) len (told p q) in (h .0, h .1)
+
+-- n is read where the superblock has it
+pub read-count : {n : ℕ} (K at : ℕ) (I : List ℕ) → n ≡ be 4 I at → at ≡ 512 * K + 10 → n ≡ countAt K I
+unfolding countAt
+read-count K at I e f = e ∙ ap (be 4 I) f
+
+pub read-3 : (K : ℕ) (I : List ℕ) (n : ℕ) {a b c : Bool} → n ≡ countAt K I → a ≡ badImage K (length I) → a ≡ false → b ≡ badMark K I → b ≡ false
+    → c ≡ badCount (geo K n) (length I) → c ≡ true → openRefusal K I ≡ 3
+read-3 K I n e p q r s t u = open-3 K I (told p q) (told r s) (subst (λ (m : ℕ). badCount (geo K m) (length I) ≡ true) e (told t u))
+
+pub read-0 : (K : ℕ) (I : List ℕ) (n : ℕ) {a b c : Bool} → n ≡ countAt K I → a ≡ badImage K (length I) → a ≡ false → b ≡ badMark K I → b ≡ false
+    → c ≡ badCount (geo K n) (length I) → c ≡ false → (s : SuperBlock) → s ≡ superBlock (geo K n) → (openRefusal K I ≡ 0) × (s ≡ superBlock (geoAt K I))
+read-0 K I n e p q r s t u x y =
+    (open-0 K I (told p q) (told r s) (subst (λ (m : ℕ). badCount (geo K m) (length I) ≡ false) e (told t u)), y ∙ ap (λ (m : ℕ). superBlock (geo K m)) e)
+
+-- the struct, by its reach
+pub made : (K n r : ℕ) → r ≡ reach (geo K n)
+    → _≡_ {A = SuperBlock} (record { addr = record { 0 = K }; blocks = n; bitmap = record { 0 = K + 2 }; area = record { 0 = K + 2 + (n - (K + 2) + 4096) / 4097 }; reach = r }) (superBlock (geo K n))
+unfolding dataAt
+made K n r e = λ i. record { addr = record { 0 = K }; blocks = n; bitmap = record { 0 = K + 2 }; area = record { 0 = K + 2 + (n - (K + 2) + 4096) / 4097 }; reach = e i }
+
+pub reach-whole : (K n : ℕ) → 4096 * (n / 4096) < n - (K + 2 + (n - (K + 2) + 4096) / 4097) → 4096 * (n / 4096) ≡ reach (geo K n)
+unfolding reach dataAt
+reach-whole K n h = omega arith
+
+pub reach-all : (K n : ℕ) → n - (K + 2 + (n - (K + 2) + 4096) / 4097) ≤ 4096 * (n / 4096) → n - (K + 2 + (n - (K + 2) + 4096) / 4097) ≡ reach (geo K n)
+unfolding reach dataAt
+reach-all K n h = omega arith
+
+-- the four stores of a superblock, side by side, are one
+pub super-stored : (I : List ℕ) (K n v : ℕ) → 512 * K + 512 ≤ length I
+    → splice (splice (splice (splice I (512 * K) (signature ++ (2 ∷ (0 ∷ [])))) (512 * K + 10) (bytes 4 n)) (512 * K + 14) (bytes 4 v)) (512 * K + 18) (zeros 494)
+    ≡ splice I (512 * K) (superBytes (geo K n) v)
+unfolding superBytes padded
+super-stored I K n v h =
+    let at : ℕ = 512 * K in
+    let M : List ℕ = signature ++ (2 ∷ (0 ∷ [])) in
+    let N : List ℕ = bytes 4 n in
+    let U : List ℕ = bytes 4 v in
+    let ln : length N ≡ 4 = length-bytes 4 n in
+    let lv : length U ≡ 4 = length-bytes 4 v in
+    let a : splice (splice I at M) (at + 10) N ≡ splice I at (M ++ N) = splice-append M N I at (omega arith) in
+    let lmn : length (M ++ N) ≡ 14 = rw length-append (omega arith) in
+    let b : splice (splice I at (M ++ N)) (at + length (M ++ N)) U ≡ splice I at ((M ++ N) ++ U) = splice-append (M ++ N) U I at (omega arith) in
+    let b′ : splice (splice I at (M ++ N)) (at + 14) U ≡ splice I at ((M ++ N) ++ U) = subst (λ (x : ℕ). splice (splice I at (M ++ N)) (at + x) U ≡ splice I at ((M ++ N) ++ U)) lmn b in
+    let lmv : length ((M ++ N) ++ U) ≡ 18 = rw length-append (omega arith) in
+    let lz : length (zeros 494) ≡ 494 = length-replicate {A = ℕ} 494 0 in
+    let c : splice (splice I at ((M ++ N) ++ U)) (at + length ((M ++ N) ++ U)) (zeros 494) ≡ splice I at (((M ++ N) ++ U) ++ zeros 494) = splice-append ((M ++ N) ++ U) (zeros 494) I at (omega arith) in
+    let c′ : splice (splice I at ((M ++ N) ++ U)) (at + 18) (zeros 494) ≡ splice I at (((M ++ N) ++ U) ++ zeros 494)
+    = subst (λ (x : ℕ). splice (splice I at ((M ++ N) ++ U)) (at + x) (zeros 494) ≡ splice I at (((M ++ N) ++ U) ++ zeros 494)) lmv c in
+    let e : (M ++ N) ++ U ≡ M ++ (N ++ U) = append-assoc M N U in
+    let w : 512 - length (M ++ (N ++ U)) ≡ 494 = omega (arith, ap length e) in
+    ap (λ (L : List ℕ). splice (splice L (at + 14) U) (at + 18) (zeros 494)) a ∙ ap (λ (L : List ℕ). splice L (at + 18) (zeros 494)) b′ ∙ c′
+    ∙ ap (splice I at) (ap (λ (l : List ℕ). l ++ zeros 494) e ∙ ap (λ (k : ℕ). (M ++ (N ++ U)) ++ zeros k) (sym w))

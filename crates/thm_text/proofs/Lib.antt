@@ -1,0 +1,4 @@
+pub mod Decoded
+pub mod Encoded
+pub mod Examples
+pub mod Steps
