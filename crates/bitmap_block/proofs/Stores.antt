@@ -10,13 +10,13 @@ use native.Mathlib.Omega.{arith}
 use lib.ListN.{length, getD, drop, length-append}
 use Rattle.wire.specs.Be.{bytes, splice, zeros}
 use Rattle.wire.proofs.Numbers.{length-bytes, be-put-same, splice-after}
-use Rattle.bits.specs.Bit.{bit, AllSet}
+use Rattle.bits.specs.Bit.{digit, bit, AllSet}
 use Rattle.bits.proofs.Bits.{bit-ext, bit-lt, length-with, byte-with-other, bit-with-same, bit-with-other}
 use Rattle.block.specs.Block.{cell, zeroed, Off, Kept}
 use Rattle.block.proofs.Blocks.{block-below, kept-trans, kept-less, be-kept, splice-kept, zeroed-kept, cell-zeroed}
 use Rattle.model.specs.Tree.{Tree}
 use Rattle.model.specs.Render.{blocks, count, padded, Shows}
-use Rattle.model.specs.Geometry.{Geo, blockSize, mapAt, dataAt, reach, mapBits, signature, superBytes, usedCount, Sound}
+use Rattle.model.specs.Geometry.{Geo, blockSize, mapAt, dataAt, reach, mapBits, signature, superBytes, geo, usedCount, Sound}
 use Rattle.model.specs.Volume.{Volume}
 use Rattle.model.specs.Calls.{freeBlocks}
 use Rattle.model.proofs.Areas.{area, few, size-large, block-inside}
@@ -31,6 +31,14 @@ use Rattle.super_block.specs.Super.{counted}
 use Rattle.bitmap_block.specs.Bitmap.{mark, marked, clears, more, fewer, taken, freed, Room, fresh}
 
 -- ---- places
+
+-- F5, as the rule has it: first the bitmap block of index x, then the byte in that block, then the place in that byte.
+pub mark-place : (K n : ℕ) (I : List ℕ) (x : ℕ) → mark (geo K n) I x ≡ bit I (512 * (K + 2 + x / 4096)) (x % 4096)
+unfolding mark bit
+mark-place K n I x =
+    let e : 512 * (K + 2) + x / 8 ≡ 512 * (K + 2 + x / 4096) + x % 4096 / 8 = omega arith in
+    let f : x % 8 ≡ x % 4096 % 8 = omega arith in
+    λ i. digit (getD I (e i) 0) (f i)
 
 -- The bit that W5 speaks of.
 pub mark-is : (g : Geo) (I : List ℕ) (x : ℕ) → mark g I x ≡ bit I (blockSize g * mapAt g) x

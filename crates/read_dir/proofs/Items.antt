@@ -14,9 +14,10 @@ use Rattle.dir_entry.specs.declared.Slot.the-variants.{Entry}
 use Rattle.dir_entry.specs.Entry.{placeAt, nameAt, slotAt}
 use Rattle.read_dir.specs.Walk.{Walk, item, finished, damaged, shown, entriesFrom, chainFrom, walk}
 use Rattle.read_dir.specs.Cursor.{items}
-use Rattle.read_dir.specs.Finds.{placed, findIn, skip}
+use Rattle.read_dir.specs.Finds.{placed, findIn, skip, listFrom}
 use Rattle.read_dir.specs.declared.Place.{Place}
 use Rattle.read_dir.specs.declared.Found.the-variants as found
+use Rattle.read_dir.specs.declared.Listed.the-variants as listed
 use Rattle.read_dir.proofs.Unroll.{entries-ind, chain-ind}
 
 -- P holds of each entry, with its block, its offset and its name.
@@ -88,3 +89,8 @@ skip-past zero damaged h l = absurd h
 skip-past (suc i) (item e a o x w) h l = skip-past i w h (omega arith)
 skip-past (suc i) finished h l = refl
 skip-past (suc i) damaged h l = absurd h
+
+-- C6: from a number past the last entry, 0 bytes and that number.
+pub list-past : (cap i : ℕ) (w : Walk) → Whole w → items w ≤ i → listFrom cap 0 i (skip i w) ≡ listed.Records 0 i
+unfolding listFrom
+list-past cap i w h l = ap (listFrom cap 0 i) (skip-past i w h l)

@@ -1,6 +1,6 @@
 -- What text is, the other way: text is read as characters, one after the other.
 use mathlib.Core.Path.{_≡_, refl, ap, _∙_}
-use mathlib.Core.Bool.{true}
+use mathlib.Core.Bool.{true, false}
 use mathlib.Core.Logic.{_⊎_, inl, inr}
 use mathlib.Core.List.{List, [], _∷_, _++_}
 use Prim.Native.Nat.{ℕ, zero, suc, _+_, _-_, _*_, _≤_, _<_}
@@ -255,3 +255,7 @@ decoded-in zero = none
     none [] h t = decoded-none
     none (c ∷ l) h t = absurd (omega arith)
 decoded-in (suc n) = decoded-more n (decoded-in n)
+
+-- THE MEANING, the other way: text is the bytes of characters.
+pub text-decoded : (l : List ℕ) → isText l ≡ true → Decoded l
+text-decoded l t = decoded-in (length l) l (omega arith) t

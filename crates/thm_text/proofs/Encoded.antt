@@ -1,7 +1,8 @@
 -- What text is: the bytes of characters, one after the other. Both ways.
-use mathlib.Core.Path.{_≡_, refl}
+use mathlib.Core.Path.{_≡_, refl, _∙_}
+use mathlib.Core.Bool.{true, false}
 use mathlib.Core.Logic.{_⊎_, inl, inr}
-use mathlib.Core.List.{List, [], _++_}
+use mathlib.Core.List.{List, [], _∷_, _++_}
 use Prim.Native.Nat.{ℕ, _+_, _/_, _%_, _≤_, _<_}
 use native.Mathlib.Omega.{arith}
 use lib.Dec.{ltb, eqb}
@@ -10,7 +11,8 @@ use Rattle.wire.proofs.Picks.{either}
 use Rattle.text.specs.Text.{table, begun, isText}
 use Rattle.text.specs.Awaited.{ranges}
 use Rattle.text.proofs.Rows.{one-byte, two-bytes, after-E0, after-ED, three-bytes, after-F0, four-bytes, after-F4}
-use Rattle.thm_text.specs.Characters.{Character, encoded}
+use Rattle.text.proofs.Laws.{text-none}
+use Rattle.thm_text.specs.Characters.{Character, Characters, encoded, encodedAll}
 use Rattle.thm_text.proofs.Steps.{Tested, one-on, two-on, three-on, four-on, encoded-one, encoded-two, encoded-three}
 use Rattle.thm_text.proofs.Steps.{encoded-four}
 
@@ -103,3 +105,9 @@ module _ (x : ℕ) (m : List ℕ) (good : Character x) where
       go (inr a) (inl b) d = go-two (ltb-false x 0x80 a) (ltb-true x 0x800 b)
       go (inr a) (inr b) (inl d) = go-three (ltb-false x 0x800 b) (ltb-true x 0x10000 d)
       go (inr a) (inr b) (inr d) = go-four (ltb-false x 0x10000 d)
+
+-- THE MEANING, one way: the bytes of characters are text.
+pub encoded-text : (xs : List ℕ) → Characters xs → isText (encodedAll xs) ≡ true
+unfolding encodedAll
+encoded-text [] h = text-none
+encoded-text (x ∷ xs) h = character-text x (encodedAll xs) (h .0) ∙ encoded-text xs (h .1)
