@@ -101,7 +101,7 @@ static inline const char *mfs_refusal_text(uint32_t number)
     case MFS_BAD_COUNT:
         return "the volume's block count is above the image's, or leaves no data area";
     case MFS_BAD_PATH:
-        return "the path is over 1024 bytes, has a byte outside 0x20 to 0x7E, or no '/' first";
+        return "the path is over 1024 bytes, is not UTF-8 or has a control byte, or no '/' first";
     case MFS_NOT_FOUND:
         return "nothing has that name, or the name is empty";
     case MFS_WRONG_KIND:

@@ -117,7 +117,7 @@ impl fmt::Display for Refusal {
             Refusal::BadImage => "the image is empty, not whole blocks of 512 bytes, too long, or too short for K",
             Refusal::NotMfs => "block K is no MFS superblock of a known version and block size",
             Refusal::BadCount => "the volume's block count is above the image's, or leaves no data area",
-            Refusal::BadPath => "the path is over 1024 bytes, has a byte outside 0x20 to 0x7E, or no '/' first",
+            Refusal::BadPath => "the path is over 1024 bytes, is not UTF-8 or has a control byte, or no '/' first",
             Refusal::NotFound => "nothing has that name, or the name is empty",
             Refusal::WrongKind => "a part of the path is no directory, or what it leads to is of the wrong kind",
             Refusal::Exists => "the name exists already",

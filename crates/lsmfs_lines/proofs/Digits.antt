@@ -78,6 +78,19 @@ digits-short (suc k) n h = go (decLt n 10) (digits-short k (n / 10))
     go (yes q) i = omega (arith, length-last n q)
     go (no q) i = omega (arith, t, length-more n (omega arith), i (omega (arith, t)))
 
+-- any bound that its digits keep to gives the number, which then can be computed
+pub digits-within : (k n : ℕ) → n < 10 ^ suc k → digitsWithin (suc k) n ≡ digits n
+digits-within zero n h = within-last zero n (omega arith) ∙ sym (digits-last n (omega arith))
+digits-within (suc k) n h = go (decLt n 10) (digits-within k (n / 10))
+  where
+    t : n < 10 ^ suc k * 10
+    t = rw pow-suc at h
+
+    go : Dec (n < 10) → (n / 10 < 10 ^ suc k → digitsWithin (suc k) (n / 10) ≡ digits (n / 10)) → digitsWithin (suc (suc k)) n ≡ digits n
+    go (yes q) i = within-last (suc k) n q ∙ sym (digits-last n q)
+    go (no q) i =
+        within-more (suc k) n (omega arith) ∙ ap (λ (l : List ℕ). l ++ (decimal (n % 10) ∷ [])) (i (omega (arith, t))) ∙ sym (digits-more n (omega arith))
+
 -- the widths that code has
 pub digits-32 : (n : ℕ) → n < 4294967296 → length (digits n) ≤ 10
 digits-32 n h = digits-short 9 n (omega arith)
@@ -130,3 +143,6 @@ decimal-more n h d =
     high-at : (i : ℕ) → i < length (l ++ (c ∷ [])) → Dec (i < length l) → getD (l ++ (c ∷ [])) i 0 ≤ 57
     high-at i p (yes q) = rw (List·getD-append l (c ∷ []) 0 i q) (d .high i q)
     high-at i p (no q) = rw (getD-at l c [] 0 i (omega (arith, length-append l (c ∷ [])))) (omega arith)
+
+pub digits-decimal : (n : ℕ) → Decimal n (digits n)
+digits-decimal = by-tens (λ (n : ℕ). Decimal n (digits n)) decimal-last decimal-more

@@ -105,7 +105,7 @@ split-from rs (c ∷ l) n h = go (either (eqb c slash)) (split-from [] l tt)
     go (inr f) q r = subst (Names rs) (sym (split-other c l (eqb-false c slash f))) (on (split l) f r)
 
 -- every piece of text is a name, but for its length
-split-names : (l : List ℕ) → isText l ≡ true → All IsName (split l)
+pub split-names : (l : List ℕ) → isText l ≡ true → All IsName (split l)
 split-names l h = names-all (split l) (split-from [] l tt h)
 
 length-front : (xs : List ℕ) (s : List ℕ) (ss : List (List ℕ)) → length (front xs (s ∷ ss)) ≡ suc (length ss)
@@ -152,6 +152,15 @@ unled-text (c ∷ l) h = go (either (eqb c slash)) (unled-text l)
         → isText (unled (c ∷ l)) ≡ true
     go (inl t) r = rw (pick-true (unled l) (c ∷ l) t) (r (behind-slash [] c l tt (eqb-true c slash t) h .1))
     go (inr f) r = rw (pick-false (unled l) (c ∷ l) f) h
+
+-- the names on the way along text are names, but for their length
+pub steps-names : (d : List ℕ) → isText d ≡ true → All IsName (steps d)
+unfolding steps
+steps-names d h = go (either (same d (slash ∷ [])))
+  where
+    go : (same d (slash ∷ []) ≡ true) ⊎ (same d (slash ∷ []) ≡ false) → All IsName (steps d)
+    go (inl t) = subst (All IsName) (sym (pick-true _ _ t)) tt
+    go (inr f) = subst (All IsName) (sym (pick-false _ _ f)) (split-names (unled d) (unled-text d h))
 
 -- ---- the last name and the directory part
 

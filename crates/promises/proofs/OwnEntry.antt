@@ -1,10 +1,15 @@
 -- After the check and the walk the own entry of the holding directory is there.
 use mathlib.Core.Path.{_≡_, refl, _∙_}
 use mathlib.Core.List.{List}
-use Prim.Native.Nat.{ℕ}
+use Prim.Native.Nat.{ℕ, _≤_}
+use native.Mathlib.Omega.{arith}
 use Rattle.model.specs.Answers.{accepted}
 use Rattle.model.specs.Geometry.{geoAt, blockSize, dataAt}
+use Rattle.model.specs.Volume.{maxDepth}
 use Rattle.model.specs.Steps.{Bytes}
+use Rattle.limits.specs.Refusals.{refusalNumber}
+use Rattle.limits.specs.declared.Refusal.{Refusal}
+use Rattle.limits.specs.declared.Refusal.the-variants.{BadImage, NotMfs, BadCount, BadPath, NotFound, WrongKind, Exists, BadName, NoRoom, TooLarge, Stale, BadSeek, EmptyWrite, NotEmpty, TooDeep, ShortWork, Damaged}
 use Rattle.super_block.specs.declared.SuperBlock.{SuperBlock}
 use Rattle.super_block.specs.Super.{superBlock, Fit}
 use Rattle.super_block.proofs.Fits.{opened-fit}
@@ -12,8 +17,12 @@ use Rattle.own_entry.specs.Own.{OwnIn}
 use Rattle.path.specs.Path.{realPath, dirPart}
 use Rattle.dir.specs.Hold.{Hold, holdDir}
 use Rattle.dir.proofs.HoldLaws.{hold-inside, hold-numbers}
+use Rattle.thm_path.proofs.Holding.{own-there}
 use Rattle.call_volume.specs.Checking.{checkRefusal}
 use Rattle.call_volume.proofs.Checked.{check-passed}
+use Rattle.thm_calls.specs.Named.{wayOf}
+use Rattle.thm_calls.proofs.Changing.{volume-at}
+use Rattle.promises.specs.OwnEntry.{OwnEntryThere}
 
 own-inside : (K : ℕ) (I : List ℕ) (len : ℕ) → Bytes I → checkRefusal K I len ≡ 0 → (cwd p : List ℕ) (h : Hold)
     → holdDir (blockSize (geoAt K I)) (dataAt (geoAt K I)) (geoAt K I .n) I (dirPart (realPath cwd p)) ≡ accepted h → OwnIn I (h .own)
@@ -21,3 +30,31 @@ own-inside K I len b e cwd p h q =
     let s : SuperBlock = superBlock (geoAt K I) in
     let f : Fit s I = opened-fit K I s (check-passed K I len b e .1) refl in
     hold-inside s I f (dirPart (realPath cwd p)) h (hold-numbers s I f (dirPart (realPath cwd p)) ∙ q)
+
+-- The last is 17: the number 18 is not used.
+number-few : (r : Refusal) → refusalNumber r ≤ 17
+number-few BadImage = omega arith
+number-few NotMfs = omega arith
+number-few BadCount = omega arith
+number-few BadPath = omega arith
+number-few NotFound = omega arith
+number-few WrongKind = omega arith
+number-few Exists = omega arith
+number-few BadName = omega arith
+number-few NoRoom = omega arith
+number-few TooLarge = omega arith
+number-few Stale = omega arith
+number-few BadSeek = omega arith
+number-few EmptyWrite = omega arith
+number-few NotEmpty = omega arith
+number-few TooDeep = omega arith
+number-few ShortWork = omega arith
+number-few Damaged = omega arith
+
+pub own-entry-there : OwnEntryThere
+own-entry-there =
+    record {
+      inside = own-inside;
+      there = λ K I w cwd p h q. own-there (geoAt K I) I maxDepth (w .tree) _ (wayOf cwd p) (volume-at K I w .laid) h q;
+      numbers = number-few;
+    }

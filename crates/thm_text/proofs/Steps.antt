@@ -6,12 +6,11 @@ use mathlib.Core.List.{List, [], _∷_}
 use Prim.Native.Nat.{ℕ, _+_, _-_, _*_, _/_, _%_, _≤_, _<_}
 use native.Mathlib.Omega.{arith}
 use lib.Dec.{leb}
-use borrow.Author.Tests.{lt-ltb, le-ltb, leb-true}
+use borrow.Author.Tests.{lt-ltb, le-ltb, le-leb, leb-true}
 use Rattle.wire.specs.Pick.{pick}
 use Rattle.wire.proofs.Picks.{either, not-both, pick-true, pick-false}
 use Rattle.text.specs.Text.{Range, from-to, inside, tail, table, never, begun, step, textFrom, isText}
 use Rattle.text.specs.Awaited.{ranges}
-use Rattle.text.proofs.Rows.{range-in}
 use Rattle.text.proofs.Laws.{never-text}
 use Rattle.thm_text.specs.Characters.{encoded}
 
@@ -20,6 +19,10 @@ abbrev pub Tested : Bool → Type 0
 Tested b = (b ≡ true) ⊎ (b ≡ false)
 
 -- ---- the walk forward
+
+range-in : (a b c : ℕ) → a ≤ c → c ≤ b → inside (from-to a b) c ≡ true
+unfolding inside
+range-in a b c h k = rw (le-leb a c h, le-leb c b k)
 
 first-on : (c : ℕ) (m : List ℕ) (rs : List Range) → rs ≡ begun table c → isText (c ∷ m) ≡ textFrom rs m
 unfolding textFrom step
