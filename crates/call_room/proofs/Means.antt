@@ -1,15 +1,14 @@
 -- What the answer means, with no code: the bytes are the fewest leading ones, or all; any two answers are equal.
-use mathlib.Core.Path.{_≡_, refl, sym, ap, _∙_, subst}
+use mathlib.Core.Path.{_≡_, sym, ap, _∙_}
 use mathlib.Core.List.{List}
-use mathlib.Core.Bool.{Bool, true, false}
+use mathlib.Core.Bool.{true, false}
 use mathlib.Core.Logic.{_↔_}
-use Prim.Native.Nat.{ℕ, zero, suc, _+_, _-_, _*_, _/_, _≤_, _<_}
+use Prim.Native.Nat.{ℕ, zero, suc, _-_, _*_, _≤_, _<_}
 use native.Mathlib.Decide.{decLt}
 use native.Mathlib.Omega.{arith}
 use lib.Dec.{leb}
 use lib.ListN.{length}
-use borrow.Author.Tests.{leb-true, leb-false, le-leb, lt-leb}
-use Rattle.model.specs.Answers.{accepted, refused, reply}
+use borrow.Author.Tests.{leb-true, leb-false, le-leb}
 use Rattle.model.specs.Geometry.{Geo, geoAt, blockSize, mapAt, dataAt, reach, openRefusal}
 use Rattle.model.proofs.Replies.{accepted-one, reply-none, reply-zero}
 use Rattle.model.proofs.Free.{clear-count}
@@ -20,12 +19,12 @@ use Rattle.call_room.specs.declared.Told.{Told}
 use Rattle.call_room.specs.declared.RoomOut.{RoomOut}
 use Rattle.call_room.specs.declared.RoomOut.the-variants.{Known, Refused}
 use Rattle.call_room.specs.Room.{clearIn, bytesRead, bytesFor, roomIn, roomSays, Asks}
-use Rattle.call_room.proofs.Laws.{clear-mono, clear-all, byte-read, byte-not, read-to}
+use Rattle.call_room.proofs.Clear.{clear-mono, clear-all, byte-read, byte-not, read-to}
 
 -- ---- the bytes read
 
 module _ (l : List ℕ) (from limit k : ℕ) where
-  pub reads-le : (n : ℕ) → bytesRead l from limit k n ≤ n
+  reads-le : (n : ℕ) → bytesRead l from limit k n ≤ n
   unfolding bytesRead
   reads-le zero = omega arith
   reads-le (suc n) = go (reads-le n) (decLt (clearIn l from limit n) k)
@@ -35,17 +34,18 @@ module _ (l : List ℕ) (from limit k : ℕ) where
       go r (no p) = omega (arith, byte-not l from limit k n (omega arith))
 
   -- fewer bytes have fewer clear bits than k,
-  pub reads-short : (n m : ℕ) → m < bytesRead l from limit k n → clearIn l from limit m < k
+  reads-short : (n m : ℕ) → m < bytesRead l from limit k n → clearIn l from limit m < k
   unfolding bytesRead
   reads-short zero m h = absurd (omega arith)
   reads-short (suc n) m h = go (reads-short n m) (decLt (clearIn l from limit n) k)
     where
-      go : (m < bytesRead l from limit k n → clearIn l from limit m < k) → Dec (clearIn l from limit n < k) → clearIn l from limit m < k
+      go : (m < bytesRead l from limit k n → clearIn l from limit m < k) → Dec (clearIn l from limit n < k)
+          → clearIn l from limit m < k
       go r (yes p) = omega (arith, clear-mono l from limit m n (omega (arith, byte-read l from limit k n p, reads-le n)))
       go r (no p) = r (omega (arith, byte-not l from limit k n (omega arith)))
 
   -- and these have k, if all have
-  pub reads-hold : (n : ℕ) → k ≤ clearIn l from limit n → k ≤ clearIn l from limit (bytesRead l from limit k n)
+  reads-hold : (n : ℕ) → k ≤ clearIn l from limit n → k ≤ clearIn l from limit (bytesRead l from limit k n)
   unfolding bytesRead
   reads-hold zero h = h
   reads-hold (suc n) h = go (reads-hold n) (decLt (clearIn l from limit n) k)
@@ -59,27 +59,31 @@ module _ (l : List ℕ) (from limit k : ℕ) where
       go r (no p) = omega (arith, ap (clearIn l from limit) (byte-not l from limit k n (omega arith)), r (omega arith))
 
   -- all are read where they have fewer
-  pub reads-all : (n : ℕ) → clearIn l from limit n < k → bytesRead l from limit k n ≡ n
+  reads-all : (n : ℕ) → clearIn l from limit n < k → bytesRead l from limit k n ≡ n
   reads-all n h = read-to l from limit k n (λ j q. omega (arith, clear-mono l from limit j n (omega arith)))
 
 -- ---- the answer
 
 -- all bytes have all the clear indexes in reach
-pub clear-reach : (g : Geo) (I : List ℕ) → clearIn I (blockSize g * mapAt g) (reach g) (bytesFor (reach g)) ≡ length (clears g I)
+clear-reach : (g : Geo) (I : List ℕ) → clearIn I (blockSize g * mapAt g) (reach g) (bytesFor (reach g)) ≡ length (clears g I)
 unfolding clears mark
 clear-reach g I =
-    omega (arith, clear-all I (blockSize g * mapAt g) (reach g) (bytesFor (reach g)) (omega arith), clear-count I (blockSize g * mapAt g) (dataAt g) (reach g))
+    let from : ℕ = blockSize g * mapAt g in
+    omega (arith, clear-all I from (reach g) (bytesFor (reach g)) (omega arith), clear-count I from (dataAt g) (reach g))
 
 module _ (K : ℕ) (I : List ℕ) (k : ℕ) (t : Told) (a : Asks K I k (Known t)) where
   -- it is that of the bitmap
-  pub room-is : t ≡ roomIn (geoAt K I) I k
-  room-is = accepted-one t (roomIn (geoAt K I) I k) (a ∙ reply-none _ (reply-zero (openRefusal K I) (roomIn (geoAt K I) I k) t (sym a)))
+  room-is : t ≡ roomIn (geoAt K I) I k
+  room-is =
+      let told : Told = roomIn (geoAt K I) I k in
+      accepted-one t told (a ∙ reply-none _ (reply-zero (openRefusal K I) told t (sym a)))
 
   enough-is : t .enough ≡ leb k (length (clears (geoAt K I) I))
   unfolding roomIn
   enough-is = ap (λ (u : Told). u .enough) room-is
 
-  bytes-is : t .bytes ≡ bytesRead I (blockSize (geoAt K I) * mapAt (geoAt K I)) (reach (geoAt K I)) k (bytesFor (reach (geoAt K I)))
+  bytes-is : t .bytes
+      ≡ bytesRead I (blockSize (geoAt K I) * mapAt (geoAt K I)) (reach (geoAt K I)) k (bytesFor (reach (geoAt K I)))
   unfolding roomIn
   bytes-is = ap (λ (u : Told). u .bytes) room-is
 

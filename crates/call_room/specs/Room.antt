@@ -1,7 +1,7 @@
 -- C18: is there room for k blocks? Whether, and how many bytes of the bitmap that takes to tell. Definitions alone.
 use mathlib.Core.Path.{_≡_}
 use mathlib.Core.List.{List}
-use Prim.Native.Nat.{ℕ, zero, suc, _+_, _-_, _*_, _/_, min}
+use Prim.Native.Nat.{ℕ, zero, suc, _+_, _-_, _*_, _/_, _<_, min}
 use lib.Dec.{leb, ltb}
 use lib.ListN.{length}
 use Rattle.wire.specs.Pick.{pick}
@@ -27,6 +27,10 @@ bytesRead l from limit k (suc m) = bytesRead l from limit k m + pick (ltb (clear
 abbrev pub bytesFor : ℕ → ℕ
 bytesFor limit = (limit + 7) / 8
 
+-- of k clear bits to find, the first w words of eight bytes leave some
+abbrev pub Leaves : List ℕ → ℕ → ℕ → ℕ → ℕ → Type 0
+Leaves l from k w left = (0 < left) × (k + ones l from (64 * w) ≡ 64 * w + left)
+
 -- what a search for k clear bits below the limit finds
 unfoldable pub toldOf : List ℕ → ℕ → ℕ → ℕ → Told
 toldOf l from limit k =
@@ -45,6 +49,6 @@ abbrev pub roomSays : RoomOut → Reply Told
 roomSays (Known t) = accepted t
 roomSays (Refused r) = refused (refusalNumber r)
 
--- Is there room for k blocks on image I: the answer r. Refusals 1, 2, 3.
+-- Is there room for k blocks on image I: the answer r. Refusals 1, 2, 3 (O13).
 abbrev pub Asks : ℕ → List ℕ → ℕ → RoomOut → Type 0
 Asks K I k r = roomSays r ≡ reply (openRefusal K I) (roomIn (geoAt K I) I k)

@@ -9,7 +9,7 @@ ghost use Prim.Native.Nat.{_+_, _-_, _*_, _/_, _≤_, _<_};
 ghost use lib.ListN.{length};
 ghost use Rattle.bits.specs.Bit.{ones, BitsFit};
 ghost use Rattle.super_block.specs.Super.{geoOf, Fit};
-ghost use Rattle.call_room.specs.Room.{clearIn, bytesFor, toldOf, roomIn, Asks};
+ghost use Rattle.call_room.specs.Room.{clearIn, bytesFor, Leaves, toldOf, roomIn, Asks};
 
 // Whether there are enough clear bits, and how many bytes were read to tell.
 pub struct Told {
@@ -63,7 +63,7 @@ fn pass_words(s: &[u8], from: usize, words: u32, need: u32) -> Passed
     requires { ⌜ from + 8 * words ≤ length (now s) ⌝ }
     requires { ⌜ words ≤ 67108863 ⌝ }
     requires { ⌜ 0 < need ⌝ }
-    ensures { λ r. ⌜ (r .words ≤ words) × (0 < r .left) × (need + ones (now (s .entry)) from (64 * r .words) ≡ 64 * r .words + r .left) ⌝ }
+    ensures { λ r. ⌜ (r .words ≤ words) × Leaves (now (s .entry)) from need (r .words) (r .left) ⌝ }
 {
     let mut i: u32 = 0;
     let mut left = need;

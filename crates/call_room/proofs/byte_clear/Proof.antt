@@ -13,11 +13,15 @@ shared-slice-read-result c = search needs
 
 -- src/lib.rt:44:5
 sub-result : tie.Need-sub-result
-sub-result c = omega (arith, byte-ones (c .before .args .s .now) (λ i. omega (arith, c .shared-slice-known .given i)) (c .before .args .at), ones-le (c .before .args .s .now) (c .before .args .at) 8)
+sub-result c =
+    let a = c .before .args in
+    omega (arith, byte-ones (a .s .now) (λ i. omega (arith, c .shared-slice-known .given i)) (a .at), ones-le (a .s .now) (a .at) 8)
 
 -- src/lib.rt:40:1
 returns : tie.Need-returns
-returns c = (omega (arith, byte-ones (c .before .args .s .now) (λ i. omega (arith, c .shared-slice-known .given i)) (c .before .args .at), ones-le (c .before .args .s .now) (c .before .args .at) 8), omega arith)
+returns c =
+    let a = c .before .args in
+    (omega (arith, byte-ones (a .s .now) (λ i. omega (arith, c .shared-slice-known .given i)) (a .at), ones-le (a .s .now) (a .at) 8), omega arith)
 
 pub byte-clear-spec : {M : Type 1} → statement M
 byte-clear-spec = tie.close (tie.spec shared-slice-read-result sub-result returns)

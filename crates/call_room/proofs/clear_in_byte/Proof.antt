@@ -1,4 +1,4 @@
-use Rattle.call_room.proofs.Laws.{ones-few, clear-part, clear-byte}
+use Rattle.call_room.proofs.Clear.{ones-few, clear-part, clear-byte}
 use borrow.Author.Needs.{needs}
 use Rattle.call_room.proofs.clear_in_byte.Statement.{statement}
 use Rattle.call_room.proofs.clear_in_byte.Tie as tie

@@ -1,9 +1,8 @@
-use Prim.Native.Nat.{ℕ, suc, _+_, _-_, _*_, _≤_, _<_}
+use Prim.Native.Nat.{_+_, _-_, _≤_, _<_}
 use mathlib.Core.Path.{_≡_}
-use native.Mathlib.Omega.{arith}
 use borrow.Author.Needs.{needs}
 use Rattle.call_room.specs.Room.{clearIn}
-use Rattle.call_room.proofs.Laws.{found, missed}
+use Rattle.call_room.proofs.Clear.{found, missed}
 use Rattle.call_room.proofs.find_byte.Statement.{statement}
 use Rattle.call_room.proofs.find_byte.Tie as tie
 use Rattle.call_room.proofs.find_byte.Reads as reads
@@ -11,7 +10,8 @@ use Rattle.call_room.proofs.find_byte.Lts as lts
 use Rattle.call_room.proofs.clear_in_byte.Reads as clear-in-byte-reads
 
 abbrev Inv-loop : tie.InvT-loop
-Inv-loop s from limit start need all i₀ left₀ i left = (i ≤ all) × (0 < left) × (clearIn s from limit i + left ≡ clearIn s from limit start + need)
+Inv-loop s from limit start need all i₀ left₀ i left =
+    (i ≤ all) × (0 < left) × (clearIn s from limit i + left ≡ clearIn s from limit start + need)
 
 abbrev μ-loop : tie.MeasureT-loop
 μ-loop s from limit start need all i₀ left₀ i left = all - i

@@ -1,8 +1,7 @@
-use Prim.Native.Nat.{ℕ, suc, _+_, _-_, _*_, _≤_, _<_}
-use mathlib.Core.Path.{_≡_}
+use Prim.Native.Nat.{_-_, _≤_}
 use native.Mathlib.Omega.{arith}
 use borrow.Author.Needs.{needs}
-use Rattle.bits.specs.Bit.{ones}
+use Rattle.call_room.specs.Room.{Leaves}
 use Rattle.bits.proofs.Bits.{ones-none}
 use Rattle.bits.proofs.Words.{ones-word}
 use Rattle.call_room.proofs.pass_words.Statement.{statement}
@@ -12,7 +11,7 @@ use Rattle.call_room.proofs.pass_words.Lts as lts
 use Rattle.call_room.proofs.word_clear.Reads as word-clear-reads
 
 abbrev Inv-loop : tie.InvT-loop
-Inv-loop s from words need i₀ left₀ i left = (i ≤ words) × (0 < left) × (need + ones s from (64 * i) ≡ 64 * i + left)
+Inv-loop s from words need i₀ left₀ i left = (i ≤ words) × Leaves s from need i left
 
 abbrev μ-loop : tie.MeasureT-loop
 μ-loop s from words need i₀ left₀ i left = words - i

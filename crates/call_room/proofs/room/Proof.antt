@@ -1,4 +1,4 @@
-use Rattle.call_room.proofs.Laws.{room-opened, room-refused, room-known}
+use Rattle.call_room.proofs.Clear.{room-opened, room-refused, room-known}
 use borrow.Author.Needs.{needs}
 use Rattle.call_room.proofs.room.Statement.{statement}
 use Rattle.call_room.proofs.room.Tie as tie

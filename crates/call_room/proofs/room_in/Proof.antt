@@ -1,5 +1,5 @@
 use Rattle.bitmap_block.proofs.Answers.{reach-place, reach-few}
-use Rattle.call_room.proofs.Laws.{room-of}
+use Rattle.call_room.proofs.Clear.{room-of}
 use borrow.Author.Needs.{needs}
 use Rattle.call_room.proofs.room_in.Statement.{statement}
 use Rattle.call_room.proofs.room_in.Tie as tie

@@ -1,4 +1,4 @@
-use Rattle.call_room.proofs.Laws.{none-asked, words-then}
+use Rattle.call_room.proofs.Clear.{none-asked, words-then}
 use borrow.Author.Needs.{needs}
 use Rattle.call_room.proofs.search.Statement.{statement}
 use Rattle.call_room.proofs.search.Tie as tie

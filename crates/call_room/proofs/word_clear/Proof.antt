@@ -1,5 +1,4 @@
 use mathlib.Core.Path.{_≡_}
-use Prim.Native.Nat.{ℕ}
 use native.Mathlib.Omega.{arith}
 use lib.Count.{ones}
 use Rattle.wire.specs.Be.{be}
@@ -21,14 +20,16 @@ get-requires c κs = search needs
 sub-result : tie.Need-sub-result
 sub-result c =
     let a = c .before .before .args in
-    let e : ones (be 8 (a .s .now) (a .at)) ≡ bits (a .s .now) (a .at) 64 = word-ones (a .s .now) (λ i. omega (arith, c .before .shared-slice-known .given i)) 8 (a .at) in
+    let e : ones (be 8 (a .s .now) (a .at)) ≡ bits (a .s .now) (a .at) 64 =
+    word-ones (a .s .now) (λ i. omega (arith, c .before .shared-slice-known .given i)) 8 (a .at) in
     rw (c .get .ensures .0) (omega (arith, e, ones-le (a .s .now) (a .at) 64))
 
 -- src/lib.rt:32:1
 returns : tie.Need-returns
 returns c =
     let a = c .before .before .args in
-    let e : ones (be 8 (a .s .now) (a .at)) ≡ bits (a .s .now) (a .at) 64 = word-ones (a .s .now) (λ i. omega (arith, c .before .shared-slice-known .given i)) 8 (a .at) in
+    let e : ones (be 8 (a .s .now) (a .at)) ≡ bits (a .s .now) (a .at) 64 =
+    word-ones (a .s .now) (λ i. omega (arith, c .before .shared-slice-known .given i)) 8 (a .at) in
     rw (c .get .ensures .0) (omega (arith, e, ones-le (a .s .now) (a .at) 64), omega arith)
 
 pub word-clear-spec : {M : Type 1} → statement M

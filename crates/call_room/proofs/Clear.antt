@@ -3,13 +3,10 @@ use mathlib.Core.Path.{_≡_, refl, sym, ap, _∙_, subst}
 use mathlib.Core.Bool.{true, false}
 use mathlib.Core.List.{List}
 use Prim.Native.Nat.{ℕ, zero, suc, _+_, _-_, _*_, _/_, _%_, _≤_, _<_, min}
-use native.Mathlib.Numerals.{add-one}
-use native.Mathlib.Decide.{decLt}
 use native.Mathlib.Omega.{arith}
-use lib.Dec.{leb, ltb}
+use lib.Dec.{leb}
 use lib.ListN.{length}
 use borrow.Author.Tests.{lt-ltb, le-ltb, le-leb, lt-leb}
-use Rattle.wire.specs.Pick.{pick}
 use Rattle.wire.proofs.Picks.{pick-true, pick-false}
 use Rattle.bits.specs.Bit.{ones}
 use Rattle.bits.proofs.Bits.{ones-le, ones-none, ones-more, bit-lt}
@@ -101,7 +98,8 @@ module _ (l : List ℕ) (from : ℕ) where
         omega (arith, ones-byte l from i, clear-whole i (omega arith), clear-whole (i + 1) (omega arith))
 
     -- what the words that were passed leave to find
-    pub clear-words : (w left need : ℕ) → 64 * w ≤ limit → need + ones l from (64 * w) ≡ 64 * w + left → clearIn l from limit (8 * w) + left ≡ need
+    clear-words : (w left need : ℕ) → 64 * w ≤ limit → need + ones l from (64 * w) ≡ 64 * w + left
+        → clearIn l from limit (8 * w) + left ≡ need
     clear-words w left need h e =
         let f : 64 * w ≡ 8 * (8 * w) = omega arith in
         let o : ones l from (64 * w) ≡ ones l from (8 * (8 * w)) = ap (ones l from) f in
@@ -112,11 +110,13 @@ module _ (l : List ℕ) (from : ℕ) where
     module _ (k : ℕ) where
       pub byte-read : (m : ℕ) → clearIn l from limit m < k → bytesRead l from limit k (suc m) ≡ suc (bytesRead l from limit k m)
       unfolding bytesRead
-      byte-read m h = ap (λ (x : ℕ). bytesRead l from limit k m + x) (pick-true 1 0 (lt-ltb (clearIn l from limit m) k h)) ∙ omega arith
+      byte-read m h =
+          ap (λ (x : ℕ). bytesRead l from limit k m + x) (pick-true 1 0 (lt-ltb (clearIn l from limit m) k h)) ∙ omega arith
 
       pub byte-not : (m : ℕ) → k ≤ clearIn l from limit m → bytesRead l from limit k (suc m) ≡ bytesRead l from limit k m
       unfolding bytesRead
-      byte-not m h = ap (λ (x : ℕ). bytesRead l from limit k m + x) (pick-false 1 0 (le-ltb (clearIn l from limit m) k h)) ∙ omega arith
+      byte-not m h =
+          ap (λ (x : ℕ). bytesRead l from limit k m + x) (pick-false 1 0 (le-ltb (clearIn l from limit m) k h)) ∙ omega arith
 
       -- all of the first m, where each but the last leaves something to find
       pub read-to : (m : ℕ) → ((j : ℕ) → j < m → clearIn l from limit j < k) → bytesRead l from limit k m ≡ m
@@ -125,14 +125,15 @@ module _ (l : List ℕ) (from : ℕ) where
       read-to (suc m) h = byte-read m (h m (omega arith)) ∙ ap suc (read-to m (λ j p. h j (omega arith)))
 
       -- none after these, where they leave nothing
-      pub read-no-more : (m n : ℕ) → k ≤ clearIn l from limit m → bytesRead l from limit k (m + n) ≡ bytesRead l from limit k m
+      read-no-more : (m n : ℕ) → k ≤ clearIn l from limit m → bytesRead l from limit k (m + n) ≡ bytesRead l from limit k m
       read-no-more m zero h = let e : m + 0 ≡ m = omega arith in ap (bytesRead l from limit k) e
       read-no-more m (suc n) h =
           let e : m + suc n ≡ suc (m + n) = omega arith in
-          ap (bytesRead l from limit k) e ∙ byte-not (m + n) (omega (arith, clear-mono m (m + n) (omega arith))) ∙ read-no-more m n h
+          ap (bytesRead l from limit k) e ∙ byte-not (m + n) (omega (arith, clear-mono m (m + n) (omega arith)))
+          ∙ read-no-more m n h
 
       -- the two answers
-      pub told-yes : (m : ℕ) → m < bytesFor limit → clearIn l from limit m < k → k ≤ clearIn l from limit (m + 1)
+      told-yes : (m : ℕ) → m < bytesFor limit → clearIn l from limit m < k → k ≤ clearIn l from limit (m + 1)
           → _≡_ {A = Told} (record { enough = true; bytes = m + 1 }) (toldOf l from limit k)
       unfolding toldOf
       told-yes m h p q =
@@ -141,10 +142,11 @@ module _ (l : List ℕ) (from : ℕ) where
           let b : bytesRead l from limit k all ≡ m + 1 =
           ap (bytesRead l from limit k) (sym e) ∙ read-no-more (m + 1) (all - (m + 1)) q
           ∙ read-to (m + 1) (λ j o. omega (arith, clear-mono j m (omega arith))) in
-          let y : leb k (clearIn l from limit all) ≡ true = le-leb k (clearIn l from limit all) (omega (arith, clear-mono (m + 1) all (omega arith))) in
+          let y : leb k (clearIn l from limit all) ≡ true =
+          le-leb k (clearIn l from limit all) (omega (arith, clear-mono (m + 1) all (omega arith))) in
           λ i. record { enough = sym y i; bytes = sym b i }
 
-      pub told-no : clearIn l from limit (bytesFor limit) < k
+      told-no : clearIn l from limit (bytesFor limit) < k
           → _≡_ {A = Told} (record { enough = false; bytes = bytesFor limit }) (toldOf l from limit k)
       unfolding toldOf
       told-no h =
@@ -154,7 +156,7 @@ module _ (l : List ℕ) (from : ℕ) where
           λ i. record { enough = sym y i; bytes = sym b i }
 
     -- and of none asked for
-    pub told-none : _≡_ {A = Told} (record { enough = true; bytes = 0 }) (toldOf l from limit 0)
+    told-none : _≡_ {A = Told} (record { enough = true; bytes = 0 }) (toldOf l from limit 0)
     unfolding toldOf
     told-none =
         let all : ℕ = bytesFor limit in
@@ -203,7 +205,8 @@ module _ (s : SuperBlock) (I : List ℕ) (at : ℕ) (f : Fit s I) (e : at ≡ 51
       let g = geoOf s in
       let n : clearIn I at (s .reach) (bytesFor (s .reach)) ≡ length (clears g I) =
       omega (arith, clear-all I at (s .reach) (bytesFor (s .reach)) (omega arith), clear-many f e refl) in
-      let b : bytesRead I at (s .reach) k (bytesFor (s .reach)) ≡ bytesRead I (blockSize g * mapAt g) (reach g) k (bytesFor (reach g)) =
+      let b : bytesRead I at (s .reach) k (bytesFor (s .reach))
+      ≡ bytesRead I (blockSize g * mapAt g) (reach g) k (bytesFor (reach g)) =
       λ i. bytesRead I (from-is i) (f .reach i) k (bytesFor (f .reach i)) in
       q ∙ (λ i. record { enough = leb k (n i); bytes = b i })
 
