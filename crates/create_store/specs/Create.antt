@@ -79,13 +79,13 @@ newHead k a time len = record { kind = k; addr = record { 0 = a }; size = 0; tim
 
 module _ (g : Geo) where
   -- 01, "A new block is the lowest clear index within reach": the image with it taken.
-  unfoldable pub grown : List ℕ → List ℕ
-  grown I = taken g I (fresh g I - dataAt g)
+  unfoldable pub blockTaken : List ℕ → List ℕ
+  blockTaken I = taken g I (fresh g I - dataAt g)
 
   -- "else a new block is linked at the end": the image where the entry has a place, and that place.
   abbrev pub opened : List ℕ → Spot → List ℕ
   opened I (In p) = I
-  opened I (After a) = linked (blockSize g) (grown I) (a .0) (fresh g I)
+  opened I (After a) = linked (blockSize g) (blockTaken I) (a .0) (fresh g I)
   opened I Damaged = I
 
   abbrev pub placeIn : List ℕ → Spot → Place
@@ -96,7 +96,7 @@ module _ (g : Geo) where
   -- "Then one block for the entry": the image with the block taken, and the entry at its place.
   unfoldable pub entered : List ℕ → Place → Kind → Name → ℕ → List ℕ
   entered I p k name time =
-      splice (grown I) (placeAt (blockSize g) (p .block .0) (p .offset)) (headBytes (newHead k (fresh g I) time (length name)) ++ name)
+      splice (blockTaken I) (placeAt (blockSize g) (p .block .0) (p .offset)) (headBytes (newHead k (fresh g I) time (length name)) ++ name)
 
   -- The image after a create in the directory whose first block is dir, whose own entry "gets the new sum and the time", and the block of the entry.
   unfoldable pub inserted : List ℕ → ℕ → Spot → Own → Kind → Name → ℕ → List ℕ
