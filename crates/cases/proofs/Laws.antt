@@ -1,19 +1,16 @@
--- What the loops of the program keep: one law for each turn, and one for each way out.
-use mathlib.Core.Path.{_≡_, refl, sym, ap, subst, _∙_}
+-- The prefixes that the program lends, and its numbers below 0.
+use mathlib.Core.Path.{_≡_, sym, ap, subst, _∙_}
 use mathlib.Core.List.{List}
-use Prim.Native.Nat.{ℕ, zero, suc, _+_, _*_, _%_, _≤_, _<_}
-use native.Mathlib.Decide.{decLt}
-use native.Mathlib.Numerals.{add-one}
+use Prim.Native.Nat.{ℕ, zero, suc, _≤_, _<_}
 use native.Mathlib.Omega.{arith}
 use lib.IntN.{ℤ, pos, negℤ, _-ℤ_, +ℤ-idl}
 use lib.Signed.{mag}
 use mir.Syntax.{w32, w64}
 use mir.Val.{SFits, ofZ, toZ}
 use mir.Facts.{toZ-ofZ, toZ-pos}
-use lib.ListN.{length, getD, set, take}
-use lib.Seq.{getD-set-same, getD-set-other, length-take-le}
+use lib.ListN.{length, take}
+use lib.Seq.{length-take-le}
 use Rattle.io.specs.Counts.{Counts}
-use Rattle.cases.specs.Texts.{digestOf, Sown}
 
 -- the first n bytes of a list are n
 pub part-length : (n : ℕ) (l : List ℕ) → n ≤ length l → n ≡ length (take n l)
@@ -21,25 +18,6 @@ part-length n l h = sym (length-take-le n l h)
 
 pub counted : (n : ℕ) (l : List ℕ) → n ≤ length l → Counts n l
 counted n l h = (h, part-length n l h)
-
--- ---- the digest
-
-pub digest-none : (l : List ℕ) → digestOf 0 l ≡ 0
-unfolding digestOf
-digest-none l = refl
-
-digest-more : (i : ℕ) (l : List ℕ) → digestOf (i + 1) l ≡ (digestOf i l * 257 + getD l i 0) % 4294967291
-unfolding digestOf
-digest-more i l = rw add-one
-
-pub digest-step : (i : ℕ) (l : List ℕ) (d b : ℕ) → d ≡ digestOf i l → b ≡ getD l i 0
-    → (d * 257 + b) % 4294967291 ≡ digestOf (i + 1) l
-digest-step i l d b p q = rw (digest-more, ← p, ← q)
-
-pub digest-done : (i : ℕ) (l : List ℕ) (d : ℕ) → d ≡ digestOf i l → i ≤ length l → length l ≤ i → d ≡ digestOf (length l) l
-digest-done i l d p q r =
-    let e : i ≡ length l = omega arith in
-    rw (← e) p
 
 -- ---- numbers below 0, in 64 bits and in 32
 
@@ -56,24 +34,3 @@ module _ (v : ℕ) (h : v ≤ 2147483648) where
 
   pub minus-short : SFits w32 (toZ w64 (ofZ w64 (pos 0 -ℤ toZ w64 v)))
   minus-short = subst (SFits w32) (sym (toZ-ofZ {w = w64} minus-fits ∙ minus-is)) (record { sfits = minus-mag v h })
-
--- ---- the bytes of a write
-
-abbrev pub SownTo : ℕ → List ℕ → ℕ → Type 0
-SownTo seed l n = (j : ℕ) → j < n → getD l j 0 ≡ (seed + 7 * j) % 251
-
-pub sown-none : (seed : ℕ) (l : List ℕ) → SownTo seed l 0
-sown-none seed l j h = absurd (omega arith)
-
-pub sown-more : (seed b : ℕ) (l : List ℕ) (n : ℕ) → SownTo seed l n → n < length l
-    → b ≡ (seed + 7 * n) % 251 → SownTo seed (set l n b) (n + 1)
-sown-more seed b l n h room e j q = go (decLt j n)
-  where
-    go : Dec (j < n) → getD (set l n b) j 0 ≡ (seed + 7 * j) % 251
-    go (yes r) = getD-set-other l n j b 0 (λ z. omega arith) ∙ h j r
-    go (no r) =
-        let z : j ≡ n = omega arith in
-        rw z (getD-set-same l n b 0 room ∙ e)
-
-pub sown-done : (seed : ℕ) (l : List ℕ) (n : ℕ) → SownTo seed l n → length l ≤ n → Sown seed l
-sown-done seed l n h e j q = h j (omega arith)

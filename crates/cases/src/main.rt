@@ -55,7 +55,6 @@ ghost use mathlib.Core.Path.{_≡_};
 ghost use Prim.Native.Nat.{_≤_, _<_};
 ghost use lib.ListN.{length};
 ghost use Rattle.io.specs.Counts.{Counts};
-ghost use Rattle.cases.specs.Texts.{digestOf, Sown};
 
 const SPACE: u8 = 32;
 
@@ -194,30 +193,10 @@ fn held(h: Handle, count: u64) -> [u64; 5] {
 
 // ---- counting
 
-// A byte as a wider number, with its bound: what a cast in place would leave to the caller.
-fn wide(x: u8) -> u64
-    ensures { λ r. ⌜ (r ≡ x) × (r < 256) ⌝ }
-{
-    x as u64
-}
-
-// A number that changes with any one byte: a polynomial of the bytes modulo a prime.
-fn digest(s: &[u8]) -> u64
-    ensures { λ r. ⌜ r ≡ digestOf (length (now (s .entry))) (now (s .entry)) ⌝ }
-{
-    let mut d: u64 = 0;
-    let mut i: usize = 0;
-    while i < s.len() {
-        d = (d * 257 + wide(s[i])) % 4_294_967_291;
-        i += 1;
-    }
-    d
-}
-
 // The digest of the first n bytes, where there are so many.
 fn digest_first(s: &[u8], n: usize) -> u64 {
     if n <= s.len() {
-        return digest(&s[..n]);
+        return recorded::digest(&s[..n]);
     }
     0
 }
@@ -238,19 +217,6 @@ fn others(s: &[u8], b: u8) -> u64 {
         i += 1;
     }
     n
-}
-
-// The bytes of a recorded write.
-fn sow(buf: &mut [u8], seed: u64)
-    ensures { λ _. ⌜ Sown seed (now (buf .exit)) ⌝ }
-{
-    let mut b = seed % 251;
-    let mut j: usize = 0;
-    while j < buf.len() {
-        buf[j] = b as u8;
-        b = (b + 7) % 251;
-        j += 1;
-    }
 }
 
 // ---- the fields of a line: it is lent with its newline, and a field is ended by one space or by the newline. A place is the
@@ -728,7 +694,7 @@ fn write_sown(
     buf: &mut [u8],
     work: &mut [u8],
 ) -> Handle {
-    sow(buf, v.n[1]);
+    recorded::sow(buf, v.n[1]);
     let n = v.n[0] as usize;
     if n <= buf.len() {
         return written(b'w', mfs::write(img, k, h, &buf[..n], v.n[2], work));
@@ -981,7 +947,7 @@ fn test(img: &[u8], k: u32, v: Row) {
 }
 
 fn effect(img: &[u8], k: u32, before: u64) {
-    if digest(img) == before {
+    if recorded::digest(img) == before {
         put(b" image kept used");
     } else {
         put(b" image changed used");
@@ -1099,7 +1065,7 @@ fn image_call(img: &mut [u8], s: State, letter: u8, a: &[u8], b: &[u8], v: Row, 
     match letter {
         b'f' | b'F' => answer(letter, mfs::format(img, k)),
         b'u' | b'U' => usage(img, k, letter),
-        b'g' => put_number(digest(img)),
+        b'g' => put_number(recorded::digest(img)),
         b'N' => put_number(others(img, 0)),
         b'T' => test(img, k, v),
         b'E' => effect(img, k, s.before),

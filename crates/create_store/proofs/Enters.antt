@@ -25,7 +25,7 @@ use Rattle.dir_entry.specs.Entry.{headBytes}
 use Rattle.dir_entry.proofs.Heads.{length-head}
 use Rattle.read_dir.specs.Finds.{placed}
 use Rattle.create_store.specs.declared.Spot.{Spot}
-use Rattle.create_store.specs.Create.{spotOn, grown, opened, placeIn, newHead, entered, insertedAt}
+use Rattle.create_store.specs.Create.{spotOn, blockTaken, opened, placeIn, newHead, entered, insertedAt}
 use Rattle.create_store.proofs.Gaps.{Gap, Full, gap, block-more, block-linked, new-block}
 use Rattle.create_store.proofs.Stages.{zeroPiece, stored, Stage, stage-taken, stage-stored, stage-move}
 
@@ -51,12 +51,12 @@ module _ (g : Geo) (I : List ℕ) (d : ℕ) (t : Tree d) (us : List Piece) (vol 
   fresh-is J xs x free s = ap (λ (l : List ℕ). getD l 0 0) (s .clear)
 
   -- a block taken, as code takes it
-  stage-grown : (J : List ℕ) (xs : List Piece) (x : ℕ) (free : List ℕ) → Stage g I d t us J xs (x ∷ free) → Stage g I d t us (grown g J) (zeroPiece (blockSize g) x ∷ xs) free
-  unfolding grown
+  stage-grown : (J : List ℕ) (xs : List Piece) (x : ℕ) (free : List ℕ) → Stage g I d t us J xs (x ∷ free) → Stage g I d t us (blockTaken g J) (zeroPiece (blockSize g) x ∷ xs) free
+  unfolding blockTaken
   stage-grown J xs x free s =
       let h : 1 ≤ length (clears g J) = omega (arith, ap length (s .clear)) in
       let e : dataAt g + (fresh g J - dataAt g) ≡ x = fresh-index g J h ∙ fresh-is J xs x free s in
-      subst (λ (z : ℕ). Stage g I d t us (grown g J) (zeroPiece (blockSize g) z ∷ xs) free) e
+      subst (λ (z : ℕ). Stage g I d t us (blockTaken g J) (zeroPiece (blockSize g) z ∷ xs) free) e
       (stage-taken g I d t us vol part J xs (fresh g J - dataAt g) free (subst (λ (z : ℕ). Stage g I d t us J xs (z ∷ free)) (sym e) s))
 
   module _ {X : Type 0} (v : View X) (k : Kind) (n : Name) (now : ℕ) (few : length n ≤ 255) (x : ℕ) (e : Entry X) (new : NewEntry g v k n now x e) where
@@ -68,11 +68,11 @@ module _ (g : Geo) (I : List ℕ) (d : ℕ) (t : Tree d) (us : List Piece) (vol 
     length-text = length-append (headBytes (newHead k x now (length n))) n ∙ ap (λ (z : ℕ). z + length n) (length-head (newHead k x now (length n)))
 
     -- an entry stored at offset o of block a
-    entered-is : (J : List ℕ) (a o : ℕ) → fresh g J ≡ x → splice (grown g J) (blockSize g * a + (4 + o)) text ≡ entered g J (placed a o) k n now
+    entered-is : (J : List ℕ) (a o : ℕ) → fresh g J ≡ x → splice (blockTaken g J) (blockSize g * a + (4 + o)) text ≡ entered g J (placed a o) k n now
     unfolding entered
     entered-is J a o f =
         let p : blockSize g * a + (4 + o) ≡ blockSize g * a + 4 + o = omega arith in
-        λ i. splice (grown g J) (p i) (headBytes (newHead k (sym f i) now (length n)) ++ n)
+        λ i. splice (blockTaken g J) (p i) (headBytes (newHead k (sym f i) now (length n)) ++ n)
 
     -- the bytes of a block with the entry after those of es
     text-bytes : (es : List (Entry X)) → entriesBytes v es ++ text ≡ entriesBytes v (es ++ (e ∷ []))
@@ -123,16 +123,16 @@ module _ (g : Geo) (I : List ℕ) (d : ℕ) (t : Tree d) (us : List Piece) (vol 
 
       gap-stage : (w : ℕ) → Stage g I d t us (entered g J (placed (r .block .at) (used es)) k n now) (dirPieces B v (insert (entryRoom g) w e bs)) free
       gap-stage w =
-          let s₁ : Stage g I d t us (grown g J) (zeroPiece B x ∷ (front ++ (here es ∷ (entryPieces v es ++ dirPieces B v (r .later))))) free
-          = subst (λ (l : List Piece). Stage g I d t us (grown g J) (zeroPiece B x ∷ l) free) before (stage-grown J (dirPieces B v bs) x free s) in
-          let s₂ : Stage g I d t us (splice (grown g J) (B * r .block .at + (4 + used es)) text) (zeroPiece B x ∷ (front ++ (stored (here es) (4 + used es) text ∷ (entryPieces v es ++ dirPieces B v (r .later))))) free
-          = stage-stored g I d t us vol part (grown g J) (zeroPiece B x ∷ front) (here es) (entryPieces v es ++ dirPieces B v (r .later)) free s₁ (4 + used es) text fits in
+          let s₁ : Stage g I d t us (blockTaken g J) (zeroPiece B x ∷ (front ++ (here es ∷ (entryPieces v es ++ dirPieces B v (r .later))))) free
+          = subst (λ (l : List Piece). Stage g I d t us (blockTaken g J) (zeroPiece B x ∷ l) free) before (stage-grown J (dirPieces B v bs) x free s) in
+          let s₂ : Stage g I d t us (splice (blockTaken g J) (B * r .block .at + (4 + used es)) text) (zeroPiece B x ∷ (front ++ (stored (here es) (4 + used es) text ∷ (entryPieces v es ++ dirPieces B v (r .later))))) free
+          = stage-stored g I d t us vol part (blockTaken g J) (zeroPiece B x ∷ front) (here es) (entryPieces v es ++ dirPieces B v (r .later)) free s₁ (4 + used es) text fits in
           let p : stored (here es) (4 + used es) text ≡ here (es ++ (e ∷ [])) = λ i. record { at = r .block .at; full = block-entered (blocksAt (r .later)) es i } in
           let q : front ++ (stored (here es) (4 + used es) text ∷ (entryPieces v es ++ dirPieces B v (r .later)))
           ≡ (front ++ (here (es ++ (e ∷ [])) ∷ entryPieces v es)) ++ dirPieces B v (r .later)
           = ap (λ (y : Piece). front ++ (y ∷ (entryPieces v es ++ dirPieces B v (r .later)))) p ∙ sym (append-assoc front (here (es ++ (e ∷ [])) ∷ entryPieces v es) (dirPieces B v (r .later))) in
           let s₃ = stage-move g I d t us vol part _ (zeroPiece B x) (front ++ (here (es ++ (e ∷ [])) ∷ entryPieces v es)) (dirPieces B v (r .later)) free
-          (subst (λ (l : List Piece). Stage g I d t us (splice (grown g J) (B * r .block .at + (4 + used es)) text) (zeroPiece B x ∷ l) free) q s₂) in
+          (subst (λ (l : List Piece). Stage g I d t us (splice (blockTaken g J) (B * r .block .at + (4 + used es)) text) (zeroPiece B x ∷ l) free) q s₂) in
           subst (λ (l : List Piece). Stage g I d t us (entered g J (placed (r .block .at) (used es)) k n now) l free) (after w)
           (subst (λ (L : List ℕ). Stage g I d t us L ((front ++ (here (es ++ (e ∷ [])) ∷ entryPieces v es)) ++ (zeroPiece B x ∷ dirPieces B v (r .later))) free) (entered-is J (r .block .at) (used es) (fresh-is J (dirPieces B v bs) x free s)) s₃)
 
@@ -157,7 +157,7 @@ module _ (g : Geo) (I : List ℕ) (d : ℕ) (t : Tree d) (us : List Piece) (vol 
 
       -- the image where the new block is linked
       abbrev link : List ℕ
-      link = linked C (grown g J) (r .last .at) (fresh g J)
+      link = linked C (blockTaken g J) (r .last .at) (fresh g J)
 
       rest-is : dirPieces C v bs ≡ head ++ (tail 0 ∷ entryPieces v old)
       unfolding dirPieces blocksAt
@@ -176,15 +176,15 @@ module _ (g : Geo) (I : List ℕ) (d : ℕ) (t : Tree d) (us : List Piece) (vol 
       link-stage : Stage g I d t us link (zeroPiece C w ∷ (head ++ (tail w ∷ entryPieces v old))) (x ∷ free)
       unfolding linked
       link-stage =
-          let s₁ : Stage g I d t us (grown g J) (zeroPiece C w ∷ (head ++ (tail 0 ∷ entryPieces v old))) (x ∷ free)
-          = subst (λ (l : List Piece). Stage g I d t us (grown g J) (zeroPiece C w ∷ l) (x ∷ free)) rest-is (stage-grown J (dirPieces C v bs) w (x ∷ free) s) in
-          let s₂ : Stage g I d t us (splice (grown g J) (C * r .last .at + 0) (bytes 4 w)) (zeroPiece C w ∷ (head ++ (stored (tail 0) 0 (bytes 4 w) ∷ entryPieces v old))) (x ∷ free)
-          = stage-stored g I d t us vol part (grown g J) (zeroPiece C w ∷ head) (tail 0) (entryPieces v old) (x ∷ free) s₁ 0 (bytes 4 w) (omega (arith, length-bytes 4 w, size-large g)) in
+          let s₁ : Stage g I d t us (blockTaken g J) (zeroPiece C w ∷ (head ++ (tail 0 ∷ entryPieces v old))) (x ∷ free)
+          = subst (λ (l : List Piece). Stage g I d t us (blockTaken g J) (zeroPiece C w ∷ l) (x ∷ free)) rest-is (stage-grown J (dirPieces C v bs) w (x ∷ free) s) in
+          let s₂ : Stage g I d t us (splice (blockTaken g J) (C * r .last .at + 0) (bytes 4 w)) (zeroPiece C w ∷ (head ++ (stored (tail 0) 0 (bytes 4 w) ∷ entryPieces v old))) (x ∷ free)
+          = stage-stored g I d t us vol part (blockTaken g J) (zeroPiece C w ∷ head) (tail 0) (entryPieces v old) (x ∷ free) s₁ 0 (bytes 4 w) (omega (arith, length-bytes 4 w, size-large g)) in
           let p : stored (tail 0) 0 (bytes 4 w) ≡ tail w = λ i. record { at = r .last .at; full = block-linked 0 w (padded (C - 4) (entriesBytes v old)) i } in
-          let q : splice (grown g J) (C * r .last .at + 0) (bytes 4 w) ≡ link
-          = λ i. splice (grown g J) (add-zero (C * r .last .at) i) (bytes 4 (sym (fresh-is J (dirPieces C v bs) w (x ∷ free) s) i)) in
+          let q : splice (blockTaken g J) (C * r .last .at + 0) (bytes 4 w) ≡ link
+          = λ i. splice (blockTaken g J) (add-zero (C * r .last .at) i) (bytes 4 (sym (fresh-is J (dirPieces C v bs) w (x ∷ free) s) i)) in
           subst (λ (L : List ℕ). Stage g I d t us L (zeroPiece C w ∷ (head ++ (tail w ∷ entryPieces v old))) (x ∷ free)) q
-          (subst (λ (y : Piece). Stage g I d t us (splice (grown g J) (C * r .last .at + 0) (bytes 4 w)) (zeroPiece C w ∷ (head ++ (y ∷ entryPieces v old))) (x ∷ free)) p s₂)
+          (subst (λ (y : Piece). Stage g I d t us (splice (blockTaken g J) (C * r .last .at + 0) (bytes 4 w)) (zeroPiece C w ∷ (head ++ (y ∷ entryPieces v old))) (x ∷ free)) p s₂)
 
       one-is : stored (zeroPiece C w) (4 + 0) text ≡ one
       unfolding entriesBytes
@@ -198,11 +198,11 @@ module _ (g : Geo) (I : List ℕ) (d : ℕ) (t : Tree d) (us : List Piece) (vol 
       full-stage : Stage g I d t us (entered g link (placed w 0) k n now) (dirPieces C v (insert (entryRoom g) w e bs)) free
       full-stage =
           let Q : List Piece = head ++ (tail w ∷ entryPieces v old) in
-          let s₁ : Stage g I d t us (grown g link) (zeroPiece C x ∷ (zeroPiece C w ∷ Q)) free = stage-grown link (zeroPiece C w ∷ Q) x free link-stage in
-          let s₂ : Stage g I d t us (splice (grown g link) (C * w + (4 + 0)) text) (zeroPiece C x ∷ (stored (zeroPiece C w) (4 + 0) text ∷ Q)) free
-          = stage-stored g I d t us vol part (grown g link) (zeroPiece C x ∷ []) (zeroPiece C w) Q free s₁ (4 + 0) text (omega (arith, length-text, size-large g)) in
-          let s₃ : Stage g I d t us (splice (grown g link) (C * w + (4 + 0)) text) (zeroPiece C x ∷ ((one ∷ Q) ++ [])) free
-          = subst (λ (l : List Piece). Stage g I d t us (splice (grown g link) (C * w + (4 + 0)) text) (zeroPiece C x ∷ l) free) (ap (λ (y : Piece). y ∷ Q) one-is ∙ sym (append-nil (one ∷ Q))) s₂ in
+          let s₁ : Stage g I d t us (blockTaken g link) (zeroPiece C x ∷ (zeroPiece C w ∷ Q)) free = stage-grown link (zeroPiece C w ∷ Q) x free link-stage in
+          let s₂ : Stage g I d t us (splice (blockTaken g link) (C * w + (4 + 0)) text) (zeroPiece C x ∷ (stored (zeroPiece C w) (4 + 0) text ∷ Q)) free
+          = stage-stored g I d t us vol part (blockTaken g link) (zeroPiece C x ∷ []) (zeroPiece C w) Q free s₁ (4 + 0) text (omega (arith, length-text, size-large g)) in
+          let s₃ : Stage g I d t us (splice (blockTaken g link) (C * w + (4 + 0)) text) (zeroPiece C x ∷ ((one ∷ Q) ++ [])) free
+          = subst (λ (l : List Piece). Stage g I d t us (splice (blockTaken g link) (C * w + (4 + 0)) text) (zeroPiece C x ∷ l) free) (ap (λ (y : Piece). y ∷ Q) one-is ∙ sym (append-nil (one ∷ Q))) s₂ in
           let s₄ = stage-move g I d t us vol part _ one Q (zeroPiece C x ∷ []) free (stage-move g I d t us vol part _ (zeroPiece C x) (one ∷ Q) [] free s₃) in
           subst (λ (l : List Piece). Stage g I d t us (entered g link (placed w 0) k n now) l free) all-is
           (subst (λ (L : List ℕ). Stage g I d t us L (Q ++ (one ∷ (zeroPiece C x ∷ []))) free) (entered-is link w 0 (fresh-is link (zeroPiece C w ∷ Q) x free link-stage)) s₄)
@@ -246,8 +246,8 @@ module _ (g : Geo) (I : List ℕ) (d : ℕ) (t : Tree d) (us : List Piece) (vol 
           let f : free ≡ w ∷ (x ∷ drop 2 free) = first-two free (omega arith) ∙ ap (λ (z : ℕ). w ∷ (z ∷ drop 2 free)) (sym q) in
           let s′ : Stage g I d t us J (dirPieces (blockSize g) v bs) (w ∷ (x ∷ drop 2 free)) = subst (Stage g I d t us J (dirPieces (blockSize g) v bs)) f s in
           let h : fresh g J ≡ w = fresh-is J (dirPieces (blockSize g) v bs) w (x ∷ drop 2 free) s′ in
-          let at-fresh : Stage g I d t us (entered g (linked (blockSize g) (grown g J) (r .last .at) (fresh g J)) (placed (fresh g J) 0) k n now) (dirPieces (blockSize g) v (insert (entryRoom g) w e bs)) (drop 2 free)
-          = subst (λ (z : ℕ). Stage g I d t us (entered g (linked (blockSize g) (grown g J) (r .last .at) (fresh g J)) (placed z 0) k n now) (dirPieces (blockSize g) v (insert (entryRoom g) w e bs)) (drop 2 free)) (sym h)
+          let at-fresh : Stage g I d t us (entered g (linked (blockSize g) (blockTaken g J) (r .last .at) (fresh g J)) (placed (fresh g J) 0) k n now) (dirPieces (blockSize g) v (insert (entryRoom g) w e bs)) (drop 2 free)
+          = subst (λ (z : ℕ). Stage g I d t us (entered g (linked (blockSize g) (blockTaken g J) (r .last .at) (fresh g J)) (placed z 0) k n now) (dirPieces (blockSize g) v (insert (entryRoom g) w e bs)) (drop 2 free)) (sym h)
           (full-stage bs J w (drop 2 free) s′ r) in
           record {
             left = drop 2 free;

@@ -31,26 +31,26 @@ use Rattle.own_entry.specs.declared.Own.the-variants.{Root, At}
 use Rattle.own_entry.specs.Own.{OwnIn, sumRenewed}
 use Rattle.create_store.specs.declared.Spot.{Spot}
 use Rattle.create_store.specs.declared.Spot.the-variants.{In, After, Damaged}
-use Rattle.create_store.specs.Create.{needed, SpotIn, grown, opened, placeIn, newHead, entered, inserted, insertedAt}
+use Rattle.create_store.specs.Create.{needed, SpotIn, blockTaken, opened, placeIn, newHead, entered, inserted, insertedAt}
 
 -- ---- a block taken
 
 module _ (g : Geo) (I : List ℕ) (h : 1 ≤ length (clears g I)) (s : Sound g (length I)) where
   -- every byte but the used count, the bitmap and the new block's is as it was
-  grown-kept : Kept (blockSize g) (λ b o. Aside g b o × (b ≡ fresh g I → ⊥)) I (grown g I)
-  unfolding grown
+  grown-kept : Kept (blockSize g) (λ b o. Aside g b o × (b ≡ fresh g I → ⊥)) I (blockTaken g I)
+  unfolding blockTaken
   grown-kept =
       let k = taken-kept g I s (fresh g I - dataAt g) (fresh-data g I h s) in
       record { size = k .size; at = λ b o p q. k .at b o (p .0, λ e. p .1 (e ∙ fresh-index g I h)) q }
 
-  length-grown : length (grown g I) ≡ length I
+  length-grown : length (blockTaken g I) ≡ length I
   length-grown = grown-kept .size
 
-  sound-grown : Sound g (length (grown g I))
-  sound-grown = sound-kept g I s _ (grown g I) grown-kept
+  sound-grown : Sound g (length (blockTaken g I))
+  sound-grown = sound-kept g I s _ (blockTaken g I) grown-kept
 
-  room-grown : (k : ℕ) → Room g I (k + 1) → Room g (grown g I) k
-  unfolding grown
+  room-grown : (k : ℕ) → Room g I (k + 1) → Room g (blockTaken g I) k
+  unfolding blockTaken
   room-grown k r = room-taken g I s (fresh g I - dataAt g) (drop 1 (clears g I)) (fresh-first g I h) k r
 
 -- a store in a data block leaves the room
@@ -66,10 +66,10 @@ room-kept g I s P J c f k r =
 
 module _ (g : Geo) (I : List ℕ) (s : Sound g (length I)) (len : ℕ) where
   -- where a new block is linked, the image has its length, and room for one less
-  linked-in : (a : ℕ) → dataAt g ≤ a → a < g .n → Room g I 2 → Kept (blockSize g) (Off a 0 4) (grown g I) (linked (blockSize g) (grown g I) a (fresh g I))
+  linked-in : (a : ℕ) → dataAt g ≤ a → a < g .n → Room g I 2 → Kept (blockSize g) (Off a 0 4) (blockTaken g I) (linked (blockSize g) (blockTaken g I) a (fresh g I))
   linked-in a l h r =
-      linked-kept (blockSize g) (grown g I) a (omega (arith, size-large g))
-      (block-inside g (length (grown g I)) (sound-grown g I (omega (arith, r .clear)) s) a h) (fresh g I)
+      linked-kept (blockSize g) (blockTaken g I) a (omega (arith, size-large g))
+      (block-inside g (length (blockTaken g I)) (sound-grown g I (omega (arith, r .clear)) s) a h) (fresh g I)
 
   opened-long : (t : Spot) → SpotIn (blockSize g) (dataAt g) (g .n) len t → Room g I (needed t) → length (opened g I t) ≡ length I
   opened-long (In p) q r = refl
@@ -80,7 +80,7 @@ module _ (g : Geo) (I : List ℕ) (s : Sound g (length I)) (len : ℕ) where
   opened-room (In p) q r = r
   opened-room (After a) q r =
       let h : 1 ≤ length (clears g I) = omega (arith, r .clear) in
-      room-kept g (grown g I) (sound-grown g I h s) (Off (a .0) 0 4) _ (linked-in (a .0) (q .0) (q .1) r) (λ b o k e _ _. omega (arith, q .0)) 1 (room-grown g I h s 1 r)
+      room-kept g (blockTaken g I) (sound-grown g I h s) (Off (a .0) 0 4) _ (linked-in (a .0) (q .0) (q .1) r) (λ b o k e _ _. omega (arith, q .0)) 1 (room-grown g I h s 1 r)
   opened-room Damaged q r = absurd q
 
   place-data : (t : Spot) → SpotIn (blockSize g) (dataAt g) (g .n) len t → Room g I (needed t) → (dataAt g ≤ placeIn g I t .block .0) × (placeIn g I t .block .0 < g .n)
@@ -100,24 +100,24 @@ length-entered : (g : Geo) (I : List ℕ) → Sound g (length I) → Room g I 1 
 unfolding entered
 length-entered g I s r p k name time h q =
     let E : List ℕ = headBytes (newHead k (fresh g I) time (length name)) ++ name in
-    let l : length (grown g I) ≡ length I = length-grown g I (omega (arith, r .clear)) s in
+    let l : length (blockTaken g I) ≡ length I = length-grown g I (omega (arith, r .clear)) s in
     let m : length E ≡ length (headBytes (newHead k (fresh g I) time (length name))) + length name = length-append (headBytes (newHead k (fresh g I) time (length name))) name in
-    length-splice (grown g I) (placeAt (blockSize g) (p .block .0) (p .offset)) E (omega (arith, length-head (newHead k (fresh g I) time (length name)), size-large g)) ∙ l
+    length-splice (blockTaken g I) (placeAt (blockSize g) (p .block .0) (p .offset)) E (omega (arith, length-head (newHead k (fresh g I) time (length name)), size-large g)) ∙ l
 
 -- ==== what the code needs and gives
 
 module _ {s : SuperBlock} {I : List ℕ} (f : Fit s I) where
-  -- grow
-  pub grow-small : (x : ℕ) → Room (geoOf s) I 1 → dataAt (geoOf s) + x ≡ getD (clears (geoOf s) I) 0 0 → s .area .0 + x < 2 ^ 32
-  grow-small x r e = omega (arith, found-in x f (r .clear) e, placed f .few)
+  -- take_block
+  pub take-small : (x : ℕ) → Room (geoOf s) I 1 → dataAt (geoOf s) + x ≡ getD (clears (geoOf s) I) 0 0 → s .area .0 + x < 2 ^ 32
+  take-small x r e = omega (arith, found-in x f (r .clear) e, placed f .few)
 
-  pub grow-image : (x : ℕ) {J : List ℕ} → dataAt (geoOf s) + x ≡ getD (clears (geoOf s) I) 0 0 → J ≡ taken (geoOf s) I x → J ≡ grown (geoOf s) I
-  unfolding grown fresh
-  grow-image x e j = let k : x ≡ getD (clears (geoOf s) I) 0 0 - dataAt (geoOf s) = omega arith in j ∙ ap (taken (geoOf s) I) k
+  pub take-image : (x : ℕ) {J : List ℕ} → dataAt (geoOf s) + x ≡ getD (clears (geoOf s) I) 0 0 → J ≡ taken (geoOf s) I x → J ≡ blockTaken (geoOf s) I
+  unfolding blockTaken fresh
+  take-image x e j = let k : x ≡ getD (clears (geoOf s) I) 0 0 - dataAt (geoOf s) = omega arith in j ∙ ap (taken (geoOf s) I) k
 
-  pub grow-block : (x : ℕ) {a : ℕ} → dataAt (geoOf s) + x ≡ getD (clears (geoOf s) I) 0 0 → a ≡ s .area .0 + x → a ≡ fresh (geoOf s) I
+  pub take-block : (x : ℕ) {a : ℕ} → dataAt (geoOf s) + x ≡ getD (clears (geoOf s) I) 0 0 → a ≡ s .area .0 + x → a ≡ fresh (geoOf s) I
   unfolding fresh
-  grow-block x e j = j ∙ ap (λ (z : ℕ). z + x) (f .area) ∙ e
+  take-block x e j = j ∙ ap (λ (z : ℕ). z + x) (f .area) ∙ e
 
   -- the spot, by the struct's own numbers
   in-data : (t : Spot) (len : ℕ) → SpotIn 512 (s .area .0) (s .blocks) len t → SpotIn 512 (dataAt (geoOf s)) (s .blocks) len t
@@ -165,9 +165,9 @@ module _ {s : SuperBlock} {I : List ℕ} (f : Fit s I) where
         enter-own Root x = tt
         enter-own (At y) x = (omega (arith, x .0, enter-long), x .1)
 
--- extend
-pub extend-image : (g : Geo) (I J L : List ℕ) (a b c last : ℕ) → J ≡ grown g I → a ≡ fresh g I → c ≡ a → b ≡ last → L ≡ linked 512 J b c → L ≡ linked 512 (grown g I) last (fresh g I)
-extend-image g I J L a b c last j e d f l = l ∙ (λ i. linked 512 (j i) (f i) ((d ∙ e) i))
+-- grow
+pub grow-image : (g : Geo) (I J L : List ℕ) (a b c last : ℕ) → J ≡ blockTaken g I → a ≡ fresh g I → c ≡ a → b ≡ last → L ≡ linked 512 J b c → L ≡ linked 512 (blockTaken g I) last (fresh g I)
+grow-image g I J L a b c last j e d f l = l ∙ (λ i. linked 512 (j i) (f i) ((d ∙ e) i))
 
 -- open_place
 module _ (g : Geo) (I : List ℕ) (t : Spot) where
@@ -182,7 +182,7 @@ module _ (g : Geo) (I : List ℕ) (t : Spot) where
   pub never : (B D n len : ℕ) → t ≡ Damaged → SpotIn B D n len t → ⊥
   never B D n len e q = subst (SpotIn B D n len) e q
 
-pub after-image : (s : SuperBlock) (I J : List ℕ) (t : Spot) (a : Addr) → t ≡ After a → J ≡ linked 512 (grown (geoOf s) I) (a .0) (fresh (geoOf s) I) → J ≡ opened (geoOf s) I t
+pub after-image : (s : SuperBlock) (I J : List ℕ) (t : Spot) (a : Addr) → t ≡ After a → J ≡ linked 512 (blockTaken (geoOf s) I) (a .0) (fresh (geoOf s) I) → J ≡ opened (geoOf s) I t
 after-image s I J t a e j = j ∙ ap (opened (geoOf s) I) (sym e)
 
 -- store_entry
@@ -196,13 +196,13 @@ entry-stored I J L at p e name h w f j l =
     ∙ splice-then I J q (q + 18) (headBytes e) name (j ∙ ap (λ (z : ℕ). splice I z (headBytes e)) f) k (omega (arith, length-head e))
 
 -- enter
-pub enter-image : (s : SuperBlock) (I J L : List ℕ) (p : Place) (k : Kind) (a : Addr) (name : Name) (time : ℕ) (e : DirEntry) → J ≡ grown (geoOf s) I → a .0 ≡ fresh (geoOf s) I
+pub enter-image : (s : SuperBlock) (I J L : List ℕ) (p : Place) (k : Kind) (a : Addr) (name : Name) (time : ℕ) (e : DirEntry) → J ≡ blockTaken (geoOf s) I → a .0 ≡ fresh (geoOf s) I
     → e ≡ record { kind = k; addr = a; size = 0; time = time; len = length name }
     → L ≡ splice J (placeAt 512 (p .block .0) (p .offset)) (headBytes e ++ name) → L ≡ entered (geoOf s) I p k name time
 unfolding entered
 enter-image s I J L p k a name time e j f d l =
     l ∙ (λ i. splice (j i) (placeAt 512 (p .block .0) (p .offset)) (headBytes (d i) ++ name))
-    ∙ (λ i. splice (grown (geoOf s) I) (placeAt 512 (p .block .0) (p .offset)) (headBytes (newHead k (f i) time (length name)) ++ name))
+    ∙ (λ i. splice (blockTaken (geoOf s) I) (placeAt 512 (p .block .0) (p .offset)) (headBytes (newHead k (f i) time (length name)) ++ name))
 
 -- insert
 pub insert-image : (s : SuperBlock) (I J L M : List ℕ) (dir : ℕ) (t : Spot) (own : Own) (k : Kind) (name : Name) (time : ℕ) (p : Place)

@@ -78,13 +78,13 @@ newHead k a time len = record { kind = k; addr = record { 0 = a }; size = 0; tim
 
 module _ (g : Geo) where
   -- F6: the image with the next free block taken.
-  unfoldable pub grown : List ℕ → List ℕ
-  grown I = taken g I (fresh g I - dataAt g)
+  unfoldable pub blockTaken : List ℕ → List ℕ
+  blockTaken I = taken g I (fresh g I - dataAt g)
 
   -- C9: the image where the entry has a place, and that place.
   abbrev pub opened : List ℕ → Spot → List ℕ
   opened I (In p) = I
-  opened I (After a) = linked (blockSize g) (grown I) (a .0) (fresh g I)
+  opened I (After a) = linked (blockSize g) (blockTaken I) (a .0) (fresh g I)
   opened I Damaged = I
 
   abbrev pub placeIn : List ℕ → Spot → Place
@@ -95,7 +95,7 @@ module _ (g : Geo) where
   -- C9: the image with the entry's block taken, and the entry at its place.
   unfoldable pub entered : List ℕ → Place → Kind → Name → ℕ → List ℕ
   entered I p k name time =
-      splice (grown I) (placeAt (blockSize g) (p .block .0) (p .offset)) (headBytes (newHead k (fresh g I) time (length name)) ++ name)
+      splice (blockTaken I) (placeAt (blockSize g) (p .block .0) (p .offset)) (headBytes (newHead k (fresh g I) time (length name)) ++ name)
 
   -- C9, C13: the image after a create in the directory whose first block is dir, its own entry renewed; and the entry's block.
   unfoldable pub inserted : List ℕ → ℕ → Spot → Own → Kind → Name → ℕ → List ℕ

@@ -19,7 +19,7 @@ ghost use Rattle.super_block.specs.Super.{geoOf, Fit};
 ghost use Rattle.bitmap_block.specs.Bitmap.{fresh, Room};
 ghost use Rattle.dir_entry.specs.Entry.{header, headBytes, placeAt};
 ghost use Rattle.own_entry.specs.Own.{OwnIn};
-ghost use Rattle.create_store.specs.Create.{usedAt, spotFor, needed, SpotIn, grown, opened, placeIn, entered, inserted, insertedAt};
+ghost use Rattle.create_store.specs.Create.{usedAt, spotFor, needed, SpotIn, blockTaken, opened, placeIn, entered, inserted, insertedAt};
 
 // Where a new entry goes: at a place of the directory, or into a new block after its last one.
 pub enum Spot {
@@ -89,10 +89,10 @@ pub fn blocks_needed(spot: Spot) -> u32
 }
 
 // Takes the lowest clear block.
-fn grow(img: &mut [u8], s: SuperBlock) -> Addr
+fn take_block(img: &mut [u8], s: SuperBlock) -> Addr
     requires { ⌜ Fit s (now img) ⌝ }
     requires { ⌜ Room (geoOf s) (now img) 1 ⌝ }
-    ensures { λ r. ⌜ (now (img .exit) ≡ grown (geoOf s) (now (img .entry))) × (r .0 ≡ fresh (geoOf s) (now (img .entry))) ⌝ }
+    ensures { λ r. ⌜ (now (img .exit) ≡ blockTaken (geoOf s) (now (img .entry))) × (r .0 ≡ fresh (geoOf s) (now (img .entry))) ⌝ }
 {
     let d = s.area;
     let x = bitmap_block::alloc(img, s, Index(0));
@@ -100,13 +100,13 @@ fn grow(img: &mut [u8], s: SuperBlock) -> Addr
 }
 
 // Takes a block and links it after the last one of a chain.
-fn extend(img: &mut [u8], s: SuperBlock, last: Addr) -> Addr
+fn grow(img: &mut [u8], s: SuperBlock, last: Addr) -> Addr
     requires { ⌜ Fit s (now img) ⌝ }
     requires { ⌜ Room (geoOf s) (now img) 1 ⌝ }
     requires { ⌜ blockBytes * last .0 + blockBytes ≤ length (now img) ⌝ }
-    ensures { λ r. ⌜ (now (img .exit) ≡ linked blockBytes (grown (geoOf s) (now (img .entry))) (last .0) (fresh (geoOf s) (now (img .entry)))) × (r .0 ≡ fresh (geoOf s) (now (img .entry))) ⌝ }
+    ensures { λ r. ⌜ (now (img .exit) ≡ linked blockBytes (blockTaken (geoOf s) (now (img .entry))) (last .0) (fresh (geoOf s) (now (img .entry)))) × (r .0 ≡ fresh (geoOf s) (now (img .entry))) ⌝ }
 {
-    let a = grow(img, s);
+    let a = take_block(img, s);
     LinkedBlock::new(last).set_next_addr(img, a);
     a
 }
@@ -121,7 +121,7 @@ fn open_place(img: &mut [u8], s: SuperBlock, spot: Spot, len: usize) -> Place
     match spot {
         Spot::In(p) => p,
         Spot::After(a) => {
-            let b = extend(img, s, a);
+            let b = grow(img, s, a);
             Place {
                 block: b,
                 offset: 0,
@@ -155,7 +155,7 @@ fn enter(img: &mut [u8], s: SuperBlock, p: Place, kind: Kind, name: &[u8], time:
     requires { ⌜ length (now name) ≤ 255 ⌝ }
     ensures { λ r. ⌜ (now (img .exit) ≡ entered (geoOf s) (now (img .entry)) p kind (now (name .entry)) time) × (r .0 ≡ fresh (geoOf s) (now (img .entry))) ⌝ }
 {
-    let a = grow(img, s);
+    let a = take_block(img, s);
     let e = DirEntry {
         kind,
         addr: a,

@@ -38,9 +38,9 @@ use Rattle.dir.specs.Post.{holdOf, holdsSays}
 use Rattle.dir.proofs.Answers.{name-empty, name-some}
 use Rattle.dir.proofs.HoldLaws.{hold-inside, hold-numbers}
 use Rattle.delete.specs.Deleting.{Doomed, hasEntries, doomedAt, doomedIn, doomedOf, deletedOn, imageAt, deletedImage}
-use Rattle.delete.specs.Post.{markedSays}
-use Rattle.delete.specs.declared.Marked.{Marked}
-use Rattle.delete.specs.declared.Marked.the-variants as marked
+use Rattle.delete.specs.Post.{doomsSays}
+use Rattle.delete.specs.declared.Dooms.{Dooms}
+use Rattle.delete.specs.declared.Dooms.the-variants as dooms
 use Rattle.delete.proofs.Accepted.{Ready, doomed-by, doomed-ready}
 
 -- ---- an entry that has entries
@@ -118,10 +118,10 @@ module _ (s : SuperBlock) (I full : List ℕ) (len : ℕ) (f : Fit s I) (ps : Pa
 -- ---- the whole
 
 -- what the stores ask of the entry to delete
-module _ (s : SuperBlock) (I l : List ℕ) (f : Fit s I) (m : Marked) (q : markedSays m ≡ doomedOf (geoOf s) I l) where
-  module _ (d : Addr) (e : DirEntry) (p : Place) (o : Own) (k : m ≡ marked.At d e p o) where
+module _ (s : SuperBlock) (I l : List ℕ) (f : Fit s I) (m : Dooms) (q : doomsSays m ≡ doomedOf (geoOf s) I l) where
+  module _ (d : Addr) (e : DirEntry) (p : Place) (o : Own) (k : m ≡ dooms.At d e p o) where
     accepts : doomedOf (geoOf s) I l ≡ accepted (record { dir = d .0; entry = e; place = p; own = o })
-    accepts = sym q ∙ ap markedSays k
+    accepts = sym q ∙ ap doomsSays k
 
     ready : Ready (geoOf s) I (record { dir = d .0; entry = e; place = p; own = o })
     ready = doomed-ready (geoOf s) I l _ (doomed-by (geoOf s) I l _ accepts)
@@ -151,11 +151,11 @@ module _ (s : SuperBlock) (I l : List ℕ) (f : Fit s I) (m : Marked) (q : marke
     unfolding deletedImage
     image-done J time z = z ∙ sym (ap (imageAt (geoOf s) I time) accepts)
 
-  module _ (r : Refusal) (k : m ≡ marked.Refused r) where
+  module _ (r : Refusal) (k : m ≡ dooms.Refused r) where
     pub deleted-refused : refused (refusalNumber r) ≡ deletedOn (geoOf s) I l
     unfolding deletedOn
-    deleted-refused = sym (and-then-no (refusalNumber r) (λ d. accepted tt) (sym q ∙ ap markedSays k))
+    deleted-refused = sym (and-then-no (refusalNumber r) (λ d. accepted tt) (sym q ∙ ap doomsSays k))
 
     pub image-refused : (time : ℕ) → I ≡ deletedImage (geoOf s) I l time
     unfolding deletedImage
-    image-refused time = sym (ap (imageAt (geoOf s) I time) (sym q ∙ ap markedSays k))
+    image-refused time = sym (ap (imageAt (geoOf s) I time) (sym q ∙ ap doomsSays k))

@@ -2,14 +2,14 @@
 use Rattle.model.specs.Answers.{Reply, accepted, refused}
 use Rattle.limits.specs.Refusals.{refusalNumber}
 use Rattle.delete.specs.Deleting.{Doomed}
-use Rattle.delete.specs.declared.Marked.{Marked}
-use Rattle.delete.specs.declared.Marked.the-variants as marked
+use Rattle.delete.specs.declared.Dooms.{Dooms}
+use Rattle.delete.specs.declared.Dooms.the-variants as dooms
 use Rattle.delete.specs.declared.Deleted.{Deleted}
 use Rattle.delete.specs.declared.Deleted.the-variants as deleted
 
-abbrev pub markedSays : Marked → Reply Doomed
-markedSays (marked.At d e p o) = accepted (record { dir = d .0; entry = e; place = p; own = o })
-markedSays (marked.Refused r) = refused (refusalNumber r)
+abbrev pub doomsSays : Dooms → Reply Doomed
+doomsSays (dooms.At d e p o) = accepted (record { dir = d .0; entry = e; place = p; own = o })
+doomsSays (dooms.Refused r) = refused (refusalNumber r)
 
 -- C11: plain success, or the refusal
 abbrev pub deletedSays : Deleted → Reply (Unit {0})

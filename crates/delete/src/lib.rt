@@ -18,10 +18,10 @@ ghost use Rattle.super_block.specs.Super.{geoOf, Fit};
 ghost use Rattle.path.specs.Path.{pathLimit};
 ghost use Rattle.dir.specs.Post.{holdOf};
 ghost use Rattle.delete.specs.Deleting.{hasEntries, doomedAt, doomedIn, doomedOf, deletedOn, deletedImage};
-ghost use Rattle.delete.specs.Post.{markedSays, deletedSays};
+ghost use Rattle.delete.specs.Post.{doomsSays, deletedSays};
 
 // The entry to delete: the first address of its directory, its fixed part, its place there, and that directory's own entry.
-enum Marked {
+enum Dooms {
     At(Addr, DirEntry, Place, Own),
     Refused(Refusal),
 }
@@ -44,48 +44,48 @@ fn has_entries(e: DirEntry) -> bool
 }
 
 // The entry e at p of the directory h, unless it has entries.
-fn mark_at(h: Holding, e: DirEntry, p: Place) -> Marked
-    ensures { λ r. ⌜ markedSays r ≡ doomedAt (holdOf h) e p ⌝ }
+fn doomed_at(h: Holding, e: DirEntry, p: Place) -> Dooms
+    ensures { λ r. ⌜ doomsSays r ≡ doomedAt (holdOf h) e p ⌝ }
 {
     if has_entries(e) {
-        return Marked::Refused(Refusal::NotEmpty);
+        return Dooms::Refused(Refusal::NotEmpty);
     }
     let d = h.dir;
     let own = h.own;
-    Marked::At(d, e, p, own)
+    Dooms::At(d, e, p, own)
 }
 
 // The entry of that name in the directory h.
-fn mark_in(img: &[u8], s: SuperBlock, h: Holding, name: &[u8]) -> Marked
+fn doomed_in(img: &[u8], s: SuperBlock, h: Holding, name: &[u8]) -> Dooms
     requires { ⌜ Fit s (now img) ⌝ }
-    ensures { λ r. ⌜ markedSays r ≡ doomedIn (geoOf s) (now (img .entry)) (now (name .entry)) (holdOf h) ⌝ }
+    ensures { λ r. ⌜ doomsSays r ≡ doomedIn (geoOf s) (now (img .entry)) (now (name .entry)) (holdOf h) ⌝ }
 {
     let d = h.dir;
     let found = read_dir::lookup(img, s, d, name);
     match found {
-        Found::At(e, p) => mark_at(h, e, p),
-        Found::Missing => Marked::Refused(Refusal::NotFound),
-        Found::Damaged => Marked::Refused(Refusal::Damaged),
+        Found::At(e, p) => doomed_at(h, e, p),
+        Found::Missing => Dooms::Refused(Refusal::NotFound),
+        Found::Damaged => Dooms::Refused(Refusal::Damaged),
     }
 }
 
 // The entry to delete at the full path full[..len]. An empty last name is not found, and nothing is walked for it.
-fn mark(img: &[u8], s: SuperBlock, full: &[u8], len: usize) -> Marked
+fn doomed_of(img: &[u8], s: SuperBlock, full: &[u8], len: usize) -> Dooms
     requires { ⌜ Fit s (now img) ⌝ }
     requires { ⌜ len ≤ length (now full) ⌝ }
     requires { ⌜ length (now full) ≤ pathLimit ⌝ }
-    ensures { λ r. ⌜ markedSays r ≡ doomedOf (geoOf s) (now (img .entry)) (take len (now (full .entry))) ⌝ }
+    ensures { λ r. ⌜ doomsSays r ≡ doomedOf (geoOf s) (now (img .entry)) (take len (now (full .entry))) ⌝ }
 {
     let parts = path::parts_of(full, len);
     let from = parts.from;
     let to = parts.to;
     if from == to {
-        return Marked::Refused(Refusal::NotFound);
+        return Dooms::Refused(Refusal::NotFound);
     }
     let holds = dir::hold(img, s, full, parts.dir);
     match holds {
-        Holds::At(h) => mark_in(img, s, h, &full[from..to]),
-        Holds::Refused(r) => Marked::Refused(r),
+        Holds::At(h) => doomed_in(img, s, h, &full[from..to]),
+        Holds::Refused(r) => Dooms::Refused(r),
     }
 }
 
@@ -97,12 +97,12 @@ pub fn delete(img: &mut [u8], s: SuperBlock, full: &[u8], len: usize, time: u64)
     ensures { λ r. ⌜ deletedSays r ≡ deletedOn (geoOf s) (now (img .entry)) (take len (now (full .entry))) ⌝ }
     ensures { λ _. ⌜ now (img .exit) ≡ deletedImage (geoOf s) (now (img .entry)) (take len (now (full .entry))) time ⌝ }
 {
-    let marked = mark(img, s, full, len);
-    match marked {
-        Marked::At(d, e, p, own) => {
+    let dooms = doomed_of(img, s, full, len);
+    match dooms {
+        Dooms::At(d, e, p, own) => {
             delete_store::remove(img, s, d, e, p, own, time);
             Deleted::Done
         }
-        Marked::Refused(r) => Deleted::Refused(r),
+        Dooms::Refused(r) => Deleted::Refused(r),
     }
 }

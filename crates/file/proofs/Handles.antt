@@ -8,22 +8,20 @@ use lib.Dec.{eqb}
 use lib.ListN.{length, take, drop}
 use lib.Seq.{length-take-le}
 use borrow.Author.Tests.{eq-eqb, ne-eqb, not-true, not-false}
-use Rattle.wire.specs.Pick.{same}
-use Rattle.wire.proofs.Picks.{pick-true, pick-false}
+use Rattle.wire.specs.Pick.{pick, same}
 use Rattle.model.proofs.Opens.{refuses, passes, first-of-one}
 use Rattle.dir_entry.specs.declared.DirEntry.{DirEntry}
-use Rattle.dir_entry.specs.Entry.{isFile, placeAt, nameAt}
-use Rattle.read_dir.specs.Walk.{walk}
-use Rattle.read_dir.specs.Cursor.{start, cursorWalk, onStep, Stepped}
-use Rattle.read_dir.specs.declared.ReadDir.{ReadDir}
+use Rattle.dir_entry.specs.Entry.{isFile}
+use Rattle.read_dir.specs.Walk.{Walk, item, finished, damaged, walk}
+use Rattle.read_dir.specs.Finds.{placed}
+use Rattle.read_dir.specs.declared.Found.{Found}
+use Rattle.read_dir.specs.declared.Found.the-variants as found
 use Rattle.read_dir.specs.declared.Place.{Place}
-use Rattle.read_dir.specs.declared.Step.{Step}
-use Rattle.read_dir.specs.declared.Step.the-variants as step
 use Rattle.read_dir.proofs.Names.{name-longer, name-compared}
-use Rattle.read_dir.proofs.Along.{start-walk}
 use Rattle.file.specs.declared.Handle.{Handle}
 use Rattle.file.specs.declared.Outcome.{Outcome}
 use Rattle.file.specs.File.{nameOf, staleFields, current, heldIn}
+use Rattle.file.specs.Writing.{currentIn}
 use Rattle.file.specs.Post.{outcomeNumber, handleRefusal}
 
 -- ---- the name
@@ -80,34 +78,37 @@ module _ (h : Handle) (e : DirEntry) (x : List ℕ) (f : Bool) (k : f ≡ isFile
         go true = rw (file, eq-eqb _ _ o, eq-eqb _ _ p)
         go false = rw file
 
--- ---- along the directory: c is the cursor, m what its step gave, and what is held from c on is what is held from c₀ on
+-- ---- the handle's entry in its directory
 
-module _ (D n : ℕ) (I : List ℕ) (h : Handle) (c₀ c : ReadDir) (m : Step) (w : Stepped 512 D n I c m)
-    (inv : heldIn h (cursorWalk 512 D n I c) ≡ heldIn h (cursorWalk 512 D n I c₀)) where
-  holds : (x : Step) → m ≡ x → heldIn h (cursorWalk 512 D n I c₀) ≡ heldIn h (onStep 512 D n I x)
-  holds x g = sym inv ∙ ap (heldIn h) (w .walked ∙ ap (onStep 512 D n I) g)
+-- 0 where it is there, 11 where it is not, 17 for damage
+abbrev foundNumber : Found → ℕ
+foundNumber (found.At e p) = 0
+foundNumber found.Missing = 11
+foundNumber found.Damaged = 17
 
-  pub held-again : (e : DirEntry) (p : Place) (d : ReadDir) (t : Bool) → m ≡ step.Entry e p d
-      → t ≡ current h e (nameAt I (placeAt 512 (p .block .0) (p .offset)) (e .len)) → t ≡ false → heldIn h (cursorWalk 512 D n I d) ≡ heldIn h (cursorWalk 512 D n I c₀)
-  unfolding heldIn
-  held-again e p d t g q k = sym (holds (step.Entry e p d) g ∙ pick-false _ _ (sym q ∙ k))
+held-number : (h : Handle) (w : Walk) → foundNumber (currentIn h w) ≡ heldIn h w
+unfolding heldIn currentIn pick
+held-number h (item e a o x w) = go (current h e x) (held-number h w)
+  where
+    go : (b : Bool) → foundNumber (currentIn h w) ≡ heldIn h w
+        → foundNumber (pick b (found.At e (placed a o)) (currentIn h w)) ≡ pick b 0 (heldIn h w)
+    go true r = refl
+    go false r = r
+held-number h finished = refl
+held-number h damaged = refl
 
-  module _ (b : c₀ ≡ start D n (h .dir)) where
-    whole : heldIn h (cursorWalk 512 D n I c₀) ≡ heldIn h (walk 512 D n I (h .dir .0))
-    whole = ap (heldIn h) (start-walk 512 D n I c₀ (h .dir) b)
+module _ (D n : ℕ) (I : List ℕ) (h : Handle) (f : Found) (q : f ≡ currentIn h (walk 512 D n I (h .dir .0))) where
+  held-as : (x : Found) → f ≡ x → foundNumber x ≡ heldIn h (walk 512 D n I (h .dir .0))
+  held-as x g = ap foundNumber (sym g ∙ q) ∙ held-number h (walk 512 D n I (h .dir .0))
 
-    pub held-hit : (e : DirEntry) (p : Place) (d : ReadDir) (t : Bool) → m ≡ step.Entry e p d
-        → t ≡ current h e (nameAt I (placeAt 512 (p .block .0) (p .offset)) (e .len)) → t ≡ true → 0 ≡ heldIn h (walk 512 D n I (h .dir .0))
-    unfolding heldIn
-    held-hit e p d t g q k = sym (pick-true _ _ (sym q ∙ k)) ∙ sym (holds (step.Entry e p d) g) ∙ whole
+  pub held-at : (e : DirEntry) (p : Place) → f ≡ found.At e p → 0 ≡ heldIn h (walk 512 D n I (h .dir .0))
+  held-at e p g = held-as (found.At e p) g
 
-    pub held-none : m ≡ step.End → 11 ≡ heldIn h (walk 512 D n I (h .dir .0))
-    unfolding heldIn
-    held-none g = sym (holds step.End g) ∙ whole
+  pub held-missing : f ≡ found.Missing → 11 ≡ heldIn h (walk 512 D n I (h .dir .0))
+  held-missing g = held-as found.Missing g
 
-    pub held-bad : m ≡ step.Damaged → 17 ≡ heldIn h (walk 512 D n I (h .dir .0))
-    unfolding heldIn
-    held-bad g = sym (holds step.Damaged g) ∙ whole
+  pub held-damaged : f ≡ found.Damaged → 17 ≡ heldIn h (walk 512 D n I (h .dir .0))
+  held-damaged g = held-as found.Damaged g
 
 -- ---- what refuses a handle: b is what its fields say, and r what its directory does
 

@@ -17,18 +17,18 @@ use Rattle.read_dir.specs.declared.Place.{Place}
 use Rattle.write_store.specs.Write.{wrote, CanWrite}
 use Rattle.file.specs.declared.Handle.{Handle}
 use Rattle.file.specs.declared.Counted.the-variants as counted
-use Rattle.file.specs.declared.Aimed.{Aimed}
-use Rattle.file.specs.declared.Aimed.the-variants as aimed
+use Rattle.file.specs.declared.Targeted.{Targeted}
+use Rattle.file.specs.declared.Targeted.the-variants as targeted
 use Rattle.file.specs.Writing.{targetOf, imageAt, writtenImage, grownHandle, handleAfter, countOf}
-use Rattle.file.specs.Written.{aimedSays, WriteIs}
+use Rattle.file.specs.Written.{targetedSays, WriteIs}
 use Rattle.file.proofs.Targets.{accepted-can}
 
-module _ (s : SuperBlock) (I : List ℕ) (h : Handle) (buf : List ℕ) (r : Aimed) (er : aimedSays r ≡ targetOf (geoOf s) I h (length buf)) where
+module _ (s : SuperBlock) (I : List ℕ) (h : Handle) (buf : List ℕ) (r : Targeted) (er : targetedSays r ≡ targetOf (geoOf s) I h (length buf)) where
   -- ---- before the stores
 
-  module _ (w : WellFormed (s .addr .0) I) (b : s .blocks ≡ countAt (s .addr .0) I) (e : DirEntry) (p : Place) (q : r ≡ aimed.At e p) where
+  module _ (w : WellFormed (s .addr .0) I) (b : s .blocks ≡ countAt (s .addr .0) I) (e : DirEntry) (p : Place) (q : r ≡ targeted.At e p) where
     pub store-can : CanWrite (geoOf s) I e p (h .position) (length buf)
-    store-can = accepted-can (geoOf s) I (w .tree) (well-volume s I w b) h buf (record { entry = e; place = p }) (sym er ∙ ap aimedSays q)
+    store-can = accepted-can (geoOf s) I (w .tree) (well-volume s I w b) h buf (record { entry = e; place = p }) (sym er ∙ ap targetedSays q)
 
     pub store-end : h .position + length buf ≤ 2147483647
     store-end = store-can .limit
@@ -39,21 +39,21 @@ module _ (s : SuperBlock) (I : List ℕ) (h : Handle) (buf : List ℕ) (r : Aime
   -- ---- the end
 
   module _ (time : ℕ) where
-    pub write-refused : (k : Refusal) → r ≡ aimed.Refused k → WriteIs (geoOf s) h buf time I I (record { answer = counted.Refused k; handle = h })
+    pub write-refused : (k : Refusal) → r ≡ targeted.Refused k → WriteIs (geoOf s) h buf time I I (record { answer = counted.Refused k; handle = h })
     unfolding countOf andThen writtenImage
     write-refused k q =
-        let t : refused (refusalNumber k) ≡ targetOf (geoOf s) I h (length buf) = sym (ap aimedSays q) ∙ er in
+        let t : refused (refusalNumber k) ≡ targetOf (geoOf s) I h (length buf) = sym (ap targetedSays q) ∙ er in
         record {
           answer = ap (countOf (length buf)) t;
           handle = ap (handleAfter h (length buf)) t;
           image = ap (imageAt (geoOf s) I h buf time) t;
         }
 
-    pub write-done : (e : DirEntry) (p : Place) (J : List ℕ) (after : Handle) → r ≡ aimed.At e p → J ≡ wrote (geoOf s) I e p (h .position) buf time → after ≡ grownHandle h (length buf)
+    pub write-done : (e : DirEntry) (p : Place) (J : List ℕ) (after : Handle) → r ≡ targeted.At e p → J ≡ wrote (geoOf s) I e p (h .position) buf time → after ≡ grownHandle h (length buf)
         → WriteIs (geoOf s) h buf time I J (record { answer = counted.Bytes (length buf); handle = after })
     unfolding countOf andThen writtenImage
     write-done e p J after q j g =
-        let t : accepted (record { entry = e; place = p }) ≡ targetOf (geoOf s) I h (length buf) = sym (ap aimedSays q) ∙ er in
+        let t : accepted (record { entry = e; place = p }) ≡ targetOf (geoOf s) I h (length buf) = sym (ap targetedSays q) ∙ er in
         record {
           answer = ap (countOf (length buf)) t;
           handle = g ∙ ap (handleAfter h (length buf)) t;

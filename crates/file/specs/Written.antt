@@ -11,8 +11,8 @@ use Rattle.read_dir.specs.declared.Place.{Place}
 use Rattle.file.specs.declared.Handle.{Handle}
 use Rattle.file.specs.declared.Counted.{Counted}
 use Rattle.file.specs.declared.Counted.the-variants as counted
-use Rattle.file.specs.declared.Aimed.{Aimed}
-use Rattle.file.specs.declared.Aimed.the-variants as aimed
+use Rattle.file.specs.declared.Targeted.{Targeted}
+use Rattle.file.specs.declared.Targeted.the-variants as targeted
 use Rattle.file.specs.declared.WriteOut.{WriteOut}
 use Rattle.file.specs.Writing.{Target, tooLong, noRoom, targetOf, writtenImage, handleAfter, countOf}
 
@@ -21,9 +21,9 @@ abbrev pub countedSays : Counted → Reply ℕ
 countedSays (counted.Bytes k) = accepted k
 countedSays (counted.Refused r) = refused (refusalNumber r)
 
-abbrev pub aimedSays : Aimed → Reply Target
-aimedSays (aimed.At e p) = accepted (record { entry = e; place = p })
-aimedSays (aimed.Refused r) = refused (refusalNumber r)
+abbrev pub targetedSays : Targeted → Reply Target
+targetedSays (targeted.At e p) = accepted (record { entry = e; place = p })
+targetedSays (targeted.Refused r) = refused (refusalNumber r)
 
 -- O11: the last two refusals, 10 and 9, or the target
 abbrev pub fitsAt : Geo → List ℕ → Handle → ℕ → DirEntry → Place → Reply Target

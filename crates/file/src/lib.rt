@@ -12,7 +12,7 @@ use read_dir::Step;
 use super_block::SuperBlock;
 ghost use mathlib.Core.Path.{_≡_};
 ghost use mathlib.Core.Bool.{true, false};
-ghost use Prim.Native.Nat.{_+_, _-_, _*_, _≤_, _<_, min};
+ghost use Prim.Native.Nat.{_+_, _-_, _*_, _≤_, _<_};
 ghost use lib.ListN.{length};
 ghost use Rattle.wire.specs.Be.{splice};
 ghost use Rattle.wire.specs.Pick.{same};
@@ -25,7 +25,7 @@ ghost use Rattle.read_dir.specs.Walk.{walk};
 ghost use Rattle.file.specs.File.{nameOf, staleFields, moved, target, within, placeIn, current, heldIn, toRead};
 ghost use Rattle.file.specs.Post.{outcomeNumber, SoughtIs, ReadIs, handleRefusal, FetchIs, after, partAt, Whole, BeginsIs, WalkedIs};
 ghost use Rattle.file.specs.Writing.{currentIn, tooLong, unreached, noRoom, targetOf, grownHandle};
-ghost use Rattle.file.specs.Written.{aimedSays, fitsAt, WriteIs};
+ghost use Rattle.file.specs.Written.{targetedSays, fitsAt, WriteIs};
 
 // The bytes of the largest file.
 pub const FILE_LIMIT: u32 = limits::FILE_LIMIT;
@@ -83,7 +83,7 @@ pub struct WriteOut {
 }
 
 // Where a write goes: the entry of the handle's file, and its place.
-enum Aimed {
+enum Targeted {
     At(DirEntry, Place),
     Refused(Refusal),
 }
@@ -169,15 +169,6 @@ fn begin(img: &[u8], s: SuperBlock, a: Addr, p: u32, k: u32) -> Walked
     }
 }
 
-// How many of k bytes stand in a block from data byte o on.
-fn run_of(o: usize, k: usize) -> usize
-    requires { ⌜ o < 508 ⌝ }
-    ensures { λ r. ⌜ r ≡ min k (508 - o) ⌝ }
-{
-    let room = LinkedBlock::CAPACITY - o;
-    if k < room { k } else { room }
-}
-
 // k bytes from data byte o of block a on, along the chain, to the start of the buffer: a run of each block at a time.
 // Its blocks were looked at before; s says which they may be, and only the contract names it.
 fn pour(img: &[u8], s: SuperBlock, a: Addr, o: usize, buf: &mut [u8], k: usize)
@@ -191,7 +182,7 @@ fn pour(img: &[u8], s: SuperBlock, a: Addr, o: usize, buf: &mut [u8], k: usize)
     let mut at = o;
     let mut i: usize = 0;
     while i < k {
-        let run = run_of(at, k - i);
+        let run = write_store::run_of(at, k - i);
         wire::copy(buf, i, img, dir_entry::place(b, at), run);
         b = LinkedBlock::new(b).next_addr(img);
         at = 0;
@@ -300,19 +291,10 @@ impl Handle {
         requires { ⌜ self .len ≤ 255 ⌝ }
         ensures { λ r. ⌜ outcomeNumber r ≡ heldIn self (walk blockBytes (s .area .0) (s .blocks) (now (img .entry)) (self .dir .0)) ⌝ }
     {
-        let dir = self.dir;
-        let mut c = ReadDir::new(s, dir);
-        loop {
-            match c.next(img, s) {
-                Step::Entry(e, p, d) => {
-                    if self.current(img, e, p) {
-                        return Outcome::Success;
-                    }
-                    c = d;
-                }
-                Step::End => return Outcome::Refused(Refusal::Stale),
-                Step::Damaged => return Outcome::Refused(Refusal::Damaged),
-            }
+        match self.entry(img, s) {
+            Found::At(_, _) => Outcome::Success,
+            Found::Missing => Outcome::Refused(Refusal::Stale),
+            Found::Damaged => Outcome::Refused(Refusal::Damaged),
         }
     }
 
@@ -436,37 +418,37 @@ impl Handle {
     }
 
     // Refusals 10 and 9 of a write of len bytes to the file of entry e, which stands at p.
-    fn fits(self, img: &[u8], s: SuperBlock, len: usize, e: DirEntry, p: Place) -> Aimed
+    fn fits(self, img: &[u8], s: SuperBlock, len: usize, e: DirEntry, p: Place) -> Targeted
         requires { ⌜ Fit s (now img) ⌝ }
-        ensures { λ r. ⌜ aimedSays r ≡ fitsAt (geoOf s) (now (img .entry)) self len e p ⌝ }
+        ensures { λ r. ⌜ targetedSays r ≡ fitsAt (geoOf s) (now (img .entry)) self len e p ⌝ }
     {
         if self.too_long(len) {
-            return Aimed::Refused(Refusal::TooLarge);
+            return Targeted::Refused(Refusal::TooLarge);
         }
         if self.no_room(img, s, len as u32) {
-            return Aimed::Refused(Refusal::NoRoom);
+            return Targeted::Refused(Refusal::NoRoom);
         }
-        Aimed::At(e, p)
+        Targeted::At(e, p)
     }
 
     // Where a write of len bytes goes, or the first of 13, 11, 10, 9 that refuses it.
-    fn aim(self, img: &[u8], s: SuperBlock, len: usize) -> Aimed
+    fn target_of(self, img: &[u8], s: SuperBlock, len: usize) -> Targeted
         requires { ⌜ Fit s (now img) ⌝ }
-        ensures { λ r. ⌜ aimedSays r ≡ targetOf (geoOf s) (now (img .entry)) self len ⌝ }
+        ensures { λ r. ⌜ targetedSays r ≡ targetOf (geoOf s) (now (img .entry)) self len ⌝ }
     {
         if len == 0 {
-            return Aimed::Refused(Refusal::EmptyWrite);
+            return Targeted::Refused(Refusal::EmptyWrite);
         }
         if self.stale() {
-            return Aimed::Refused(Refusal::Stale);
+            return Targeted::Refused(Refusal::Stale);
         }
         if self.unreached(img, s) {
-            return Aimed::Refused(Refusal::Stale);
+            return Targeted::Refused(Refusal::Stale);
         }
         match self.entry(img, s) {
             Found::At(e, p) => self.fits(img, s, len, e, p),
-            Found::Missing => Aimed::Refused(Refusal::Stale),
-            Found::Damaged => Aimed::Refused(Refusal::Damaged),
+            Found::Missing => Targeted::Refused(Refusal::Stale),
+            Found::Damaged => Targeted::Refused(Refusal::Damaged),
         }
     }
 
@@ -489,13 +471,13 @@ impl Handle {
         requires { ⌜ s .blocks ≡ countAt (s .addr .0) (now img) ⌝ }
         ensures { λ r. ⌜ WriteIs (geoOf s) self (now (buf .entry)) time (now (img .entry)) (now (img .exit)) r ⌝ }
     {
-        let aimed = self.aim(img, s, buf.len());
-        match aimed {
-            Aimed::Refused(r) => WriteOut {
+        let targeted = self.target_of(img, s, buf.len());
+        match targeted {
+            Targeted::Refused(r) => WriteOut {
                 answer: Counted::Refused(r),
                 handle: self,
             },
-            Aimed::At(e, p) => {
+            Targeted::At(e, p) => {
                 let c = self.position;
                 write_store::write(img, s, e, p, c, buf, time);
                 WriteOut {

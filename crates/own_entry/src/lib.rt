@@ -16,8 +16,8 @@ pub enum Own {
     At(Place),
 }
 
-// Stores the size and the time of the entry at a place.
-fn renew_at(img: &mut [u8], p: Place, size: u32, time: u64)
+// Stores the size and the time of the entry at a place: of a directory, or of a file that was written.
+pub fn renew_at(img: &mut [u8], p: Place, size: u32, time: u64)
     requires { ⌜ OwnIn (now img) (At p) ⌝ }
     ensures { λ _. ⌜ now (img .exit) ≡ ownRenewed blockBytes (now (img .entry)) (At p) size time ⌝ }
 {

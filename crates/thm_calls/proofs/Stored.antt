@@ -31,9 +31,9 @@ use Rattle.own_entry.specs.Own.{ownSummed, sumRenewed}
 use Rattle.create_store.specs.declared.Spot.{Spot}
 use Rattle.create_store.specs.declared.Spot.the-variants as spot
 use Rattle.create_store.specs.Create.{newHead, opened, placeIn, entered, inserted}
-use Rattle.create_store.specs.Create.{grown as withFresh}
+use Rattle.create_store.specs.Create.{blockTaken as withFresh}
 use Rattle.delete_store.specs.Delete.{after, cutOut, released, chainFreed, beforeFrom, unlinked, lessBare, entryGone, removed}
-use Rattle.write_store.specs.Write.{hop, grown, extended, dropped, cutAfter, resized, poured, spread, filed, wrote}
+use Rattle.write_store.specs.Write.{hop, grown, extended, dropped, cutAfter, resized, poured, spread, wrote}
 
 -- ---- lists
 
@@ -272,7 +272,7 @@ module _ (g : Geo) where
 
   pub bytes-wrote : (I : List ℕ) → Bytes I → (e : DirEntry) (p : Place) (c : ℕ) (vs : List ℕ) → Bytes vs → (time : ℕ)
       → Bytes (wrote g I e p c vs time)
-  unfolding wrote filed spread
+  unfolding wrote spread
   bytes-wrote I b e p c vs d time =
       let B : ℕ = blockSize g in
       let m : ℕ = blocksFor B (c + length vs) in

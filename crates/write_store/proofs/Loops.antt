@@ -24,7 +24,9 @@ use Rattle.bitmap_block.proofs.Stores.{Aside, aside-data, freed-kept, used-free
 use Rattle.dir_entry.specs.declared.DirEntry.{DirEntry}
 use Rattle.read_dir.specs.declared.Place.{Place}
 use Rattle.model.proofs.Contents.{blocks-enough}
-use Rattle.write_store.specs.Write.{hop, Along, grown, extended, dropped, cutAfter, resized, poured, spread, filed, wrote, Chained, Resizable, CanWrite}
+use Rattle.own_entry.specs.declared.Own.the-variants as own
+use Rattle.own_entry.specs.Own.{OwnIn, ownRenewed}
+use Rattle.write_store.specs.Write.{hop, Along, grown, extended, dropped, cutAfter, resized, poured, spread, wrote, Chained, Resizable, CanWrite}
 use Rattle.write_store.proofs.Hops.{hop-none, hop-more, hop-last, along-here, along-next, along-less, along-drop, along-kept, along-cells, SameNext}
 use Rattle.write_store.proofs.Resizes.{Outcome, resized-is}
 use Rattle.write_store.proofs.Grows.{grown-kept, grown-room, grown-set}
@@ -349,12 +351,16 @@ module _ (s : SuperBlock) (I : List ℕ) (e : DirEntry) (p : Place) (c len : ℕ
   pub write-first : c / 508 ≤ new
   write-first = omega (arith, blocks-enough 512 (omega arith) size)
 
+-- the entry lies in the image, which keeps its length
+pub entry-in : (s : SuperBlock) (I L : List ℕ) (e : DirEntry) (p : Place) (c len : ℕ) → Fit s I → CanWrite (geoOf s) I e p c len → length L ≡ length I → OwnIn L (own.At p)
+entry-in s I L e p c len f w k = (omega (arith, placed f .inside, w .entry .block, k), omega (arith, w .entry .fits))
+
 -- the stores, one after the other
 pub write-is : (s : SuperBlock) (I J L M : List ℕ) (e : DirEntry) (p : Place) (c : ℕ) (vs : List ℕ) (time size old new : ℕ) → size ≡ c + length vs
-    → old ≡ blocksFor 512 (e .size) → new ≡ blocksFor 512 size → J ≡ resized (geoOf s) I (e .addr .0) old new → L ≡ spread 512 J (e .addr .0) c vs new → M ≡ filed 512 L p size time
+    → old ≡ blocksFor 512 (e .size) → new ≡ blocksFor 512 size → J ≡ resized (geoOf s) I (e .addr .0) old new → L ≡ spread 512 J (e .addr .0) c vs new → M ≡ ownRenewed 512 L (own.At p) size time
     → M ≡ wrote (geoOf s) I e p c vs time
 unfolding wrote
 write-is s I J L M e p c vs time size old new z o n j l m =
     let y : new ≡ blocksFor 512 (c + length vs) = n ∙ ap (blocksFor 512) z in
-    m ∙ (λ i. filed 512 (l i) p (z i) time) ∙ ap (λ (J : List ℕ). filed 512 J p (c + length vs) time) (λ i. spread 512 (j i) (e .addr .0) c vs (y i))
-    ∙ ap (λ (J : List ℕ). filed 512 (spread 512 J (e .addr .0) c vs (blocksFor 512 (c + length vs))) p (c + length vs) time) (λ i. resized (geoOf s) I (e .addr .0) (o i) (y i))
+    m ∙ (λ i. ownRenewed 512 (l i) (own.At p) (z i) time) ∙ ap (λ (J : List ℕ). ownRenewed 512 J (own.At p) (c + length vs) time) (λ i. spread 512 (j i) (e .addr .0) c vs (y i))
+    ∙ ap (λ (J : List ℕ). ownRenewed 512 (spread 512 J (e .addr .0) c vs (blocksFor 512 (c + length vs))) (own.At p) (c + length vs) time) (λ i. resized (geoOf s) I (e .addr .0) (o i) (y i))

@@ -38,7 +38,7 @@ use Rattle.read_dir.specs.declared.Place.{Place}
 use Rattle.thm_walk.specs.Shown.{spotOf}
 use Rattle.thm_walk.proofs.Parts.{Stored, Part, laid-part, part-find, stored-lookup}
 use Rattle.thm_walk.proofs.Walks.{spot-place}
-use Rattle.write_store.specs.Write.{resized, spread, filed, wrote, HeldCells, CanWrite}
+use Rattle.write_store.specs.Write.{resized, spread, wrote, HeldCells, CanWrite}
 use Rattle.write_store.proofs.Chops.{chop-splice}
 use Rattle.write_store.proofs.Files.{newEntry, file-cut, spot-fits, spot-block}
 use Rattle.write_store.proofs.Filing.{filing-kept, filing-shown}
@@ -227,7 +227,7 @@ module _ (g : Geo) (I : List ℕ) (d : ℕ) (t : Tree d) (v : Volume g I d t) (p
 
     -- that is what the code stores
     stores-are : wrote g I (headOf (view (blockSize g) (s .0)) (fileEntry n k z cs)) (spotOf n (s .1)) c buf now ≡ J₃
-    unfolding wrote filed headOf addressOf sizeOf fileEntry J₁ J₂ J₃
+    unfolding wrote headOf addressOf sizeOf fileEntry J₁ J₂ J₃
     stores-are =
         let old : blocksFor B z ≡ length cs = sym (good-file .long) in
         λ i. renewedAt (spread B (resized g I (cellsAt cs) (old i) new) (cellsAt cs) c buf new) (spot-place B n (s .1) (fileEntry n k z cs) l i) (c + length buf) now

@@ -4,7 +4,7 @@ use mathlib.Core.List.{List}
 use Prim.Native.Nat.{ℕ, zero, suc, _+_, _-_, _/_, _%_, _≤_, _<_}
 use lib.Dec.{ltb}
 use lib.ListN.{length, take, drop}
-use Rattle.wire.specs.Be.{bytes, splice}
+use Rattle.wire.specs.Be.{splice}
 use Rattle.wire.specs.Pick.{pick}
 use Rattle.block.specs.Block.{next, linked}
 use Rattle.model.specs.Tree.{Cell}
@@ -16,6 +16,8 @@ use Rattle.bitmap_block.specs.Bitmap.{mark, taken, freed, Room, fresh}
 use Rattle.dir_entry.specs.Entry.{header, placeAt}
 use Rattle.dir_entry.specs.declared.DirEntry.{DirEntry}
 use Rattle.read_dir.specs.declared.Place.{Place}
+use Rattle.own_entry.specs.declared.Own.the-variants as own
+use Rattle.own_entry.specs.Own.{ownRenewed}
 
 -- ---- along a chain
 
@@ -66,20 +68,14 @@ poured B I a o vs (suc k) = poured B (splice I (placeAt B a o) (take (B - 4 - o)
 unfoldable pub spread : ℕ → List ℕ → ℕ → ℕ → List ℕ → ℕ → List ℕ
 spread B I a c vs m = poured B I (hop B I (c / (B - 4)) a) (c % (B - 4)) vs (m - c / (B - 4))
 
--- ---- the entry
-
--- C12: the entry with size z in its bytes 5 to 8 and time k in 9 to 16.
-unfoldable pub filed : ℕ → List ℕ → Place → ℕ → ℕ → List ℕ
-filed B I p z k = splice (splice I (placeAt B (p .block .0) (p .offset) + 5) (bytes 4 z)) (placeAt B (p .block .0) (p .offset) + 9) (bytes 8 k)
-
 -- ---- a write
 
 -- C12: the bytes vs are written at position c of the file of entry e, which stands at p.
 unfoldable pub wrote : Geo → List ℕ → DirEntry → Place → ℕ → List ℕ → ℕ → List ℕ
 wrote g I e p c vs time =
-    filed (blockSize g)
+    ownRenewed (blockSize g)
     (spread (blockSize g) (resized g I (e .addr .0) (blocksFor (blockSize g) (e .size)) (blocksFor (blockSize g) (c + length vs))) (e .addr .0) c vs (blocksFor (blockSize g) (c + length vs)))
-    p (c + length vs) time
+    (own.At p) (c + length vs) time
 
 -- ---- what it asks
 

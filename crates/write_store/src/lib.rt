@@ -16,7 +16,7 @@ ghost use Rattle.model.specs.Geometry.{blockSize, mapAt, dataAt, usedCount};
 ghost use Rattle.super_block.specs.Super.{geoOf, Fit};
 ghost use Rattle.dir_entry.specs.Entry.{placeAt};
 ghost use Rattle.bitmap_block.specs.Bitmap.{fresh, Room};
-ghost use Rattle.write_store.specs.Write.{hop, Along, grown, extended, dropped, cutAfter, resized, poured, spread, filed, wrote, Resizable, Stands, CanWrite};
+ghost use Rattle.write_store.specs.Write.{hop, Along, grown, extended, dropped, cutAfter, resized, poured, spread, wrote, Resizable, CanWrite};
 
 // A block's data bytes, as positions are counted.
 const CAPACITY: u32 = LinkedBlock::CAPACITY as u32;
@@ -116,7 +116,7 @@ fn resize(img: &mut [u8], s: SuperBlock, a: Addr, old: u32, new: u32)
 }
 
 // How many of k bytes stand in a block from data byte o on.
-fn run_of(o: usize, k: usize) -> usize
+pub fn run_of(o: usize, k: usize) -> usize
     requires { ⌜ o < 508 ⌝ }
     ensures { λ r. ⌜ r ≡ min k (508 - o) ⌝ }
 {
@@ -168,18 +168,6 @@ fn put_bytes(img: &mut [u8], s: SuperBlock, a: Addr, c: u32, buf: &[u8], m: u32)
     pour(img, s, b, (c % CAPACITY) as usize, buf, m - first);
 }
 
-// Size and time into the file's entry.
-fn renew_entry(img: &mut [u8], s: SuperBlock, p: Place, size: u32, time: u64)
-    requires { ⌜ Fit s (now img) ⌝ }
-    requires { ⌜ Stands (geoOf s) p ⌝ }
-    ensures { λ _. ⌜ now (img .exit) ≡ filed blockBytes (now (img .entry)) p size time ⌝ }
-{
-    let b = p.block;
-    let at = dir_entry::place(b, p.offset);
-    wire::put(img, at + 5, 4, size as u64);
-    wire::put(img, at + 9, 8, time);
-}
-
 // C12: the buffer is written at position c of the file of entry e, which stands at `place`.
 pub fn write(
     img: &mut [u8],
@@ -200,5 +188,5 @@ pub fn write(
     let new = limits::blocks_for(size);
     resize(img, s, a, old, new);
     put_bytes(img, s, a, c, buf, new);
-    renew_entry(img, s, place, size, time);
+    own_entry::renew_at(img, place, size, time);
 }

@@ -5,7 +5,7 @@ use Rattle.cases.proofs.write_sown.Tie as tie
 use Rattle.cases.proofs.write_sown.Reads as reads
 use Rattle.cases.proofs.write_sown.Lts as lts
 use Rattle.cases.proofs.put.Reads as put-reads
-use Rattle.cases.proofs.sow.Reads as sow-reads
+use Rattle.recorded.proofs.sow.Reads as sow-reads
 use Rattle.cases.proofs.written.Reads as written-reads
 use Rattle.call_change.proofs.write.Reads as write-reads
 

@@ -1,27 +1,33 @@
-use Rattle.create_store.proofs.Steps.{grow-small, grow-image, grow-block}
+use Rattle.create_store.proofs.Steps.{grow-image}
 use borrow.Author.Needs.{needs}
 use Rattle.create_store.proofs.grow.Statement.{statement}
 use Rattle.create_store.proofs.grow.Tie as tie
 use Rattle.create_store.proofs.grow.Reads as reads
 use Rattle.create_store.proofs.grow.Lts as lts
-use Rattle.bitmap_block.proofs.alloc.Reads as alloc-reads
-use Rattle.block.proofs.Index.addr.Reads as addr-reads
+use Rattle.block.proofs.LinkedBlock.new.Reads as new-reads
+use Rattle.block.proofs.LinkedBlock.set_next_addr.Reads as set-next-addr-reads
+use Rattle.create_store.proofs.take_block.Reads as take-block-reads
 
--- src/lib.rt:89:9
-alloc-requires : tie.Need-alloc-requires
-alloc-requires c κs = search needs
+-- src/lib.rt:100:9
+take-block-requires : tie.Need-take-block-requires
+take-block-requires c κs = search needs
 
--- src/lib.rt:90:5
-addr-requires : tie.Need-addr-requires
-addr-requires c κs = search (grow-small, needs)
+-- src/lib.rt:101:5
+new-requires : tie.Need-new-requires
+new-requires c κs = search needs
 
--- src/lib.rt:83:1
+-- src/lib.rt:101:5
+set-next-addr-requires : tie.Need-set-next-addr-requires
+set-next-addr-requires c κs = search needs
+
+-- src/lib.rt:94:1
 same-length : tie.Need-same-length
 same-length c = search needs
 
--- src/lib.rt:83:1
+-- src/lib.rt:94:1
 returns : tie.Need-returns
-returns c = (search (grow-image, needs), search (grow-block, needs))
+returns c = (search (grow-image, needs), search needs)
 
 pub grow-spec : {M : Type 1} → statement M
-grow-spec = tie.close (tie.spec alloc-requires addr-requires same-length returns)
+grow-spec =
+    tie.close (tie.spec take-block-requires new-requires set-next-addr-requires same-length returns)

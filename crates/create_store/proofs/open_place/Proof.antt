@@ -4,7 +4,7 @@ use Rattle.create_store.proofs.open_place.Statement.{statement}
 use Rattle.create_store.proofs.open_place.Tie as tie
 use Rattle.create_store.proofs.open_place.Reads as reads
 use Rattle.create_store.proofs.open_place.Lts as lts
-use Rattle.create_store.proofs.extend.Reads as extend-reads
+use Rattle.create_store.proofs.grow.Reads as grow-reads
 
 -- src/lib.rt:113:18
 enum-known-spot : tie.Need-enum-known-spot
@@ -15,8 +15,8 @@ enum-known-spot-2 : tie.Need-enum-known-spot-2
 enum-known-spot-2 c = search needs
 
 -- src/lib.rt:115:17
-extend-requires : tie.Need-extend-requires
-extend-requires c κs = search (after-room, after-inside, needs)
+grow-requires : tie.Need-grow-requires
+grow-requires c κs = search (after-room, after-inside, needs)
 
 -- src/lib.rt:122:20
 enum-told : tie.Need-enum-told
@@ -44,7 +44,7 @@ open-place-spec =
     (tie.spec
     enum-known-spot
     enum-known-spot-2
-    extend-requires
+    grow-requires
     enum-told
     returns
     same-length

@@ -4,24 +4,24 @@ use Rattle.delete.proofs.delete.Statement.{statement}
 use Rattle.delete.proofs.delete.Tie as tie
 use Rattle.delete.proofs.delete.Reads as reads
 use Rattle.delete.proofs.delete.Lts as lts
-use Rattle.delete.proofs.mark.Reads as mark-reads
+use Rattle.delete.proofs.doomed_of.Reads as doomed-of-reads
 use Rattle.delete_store.proofs.remove.Reads as remove-reads
 
 -- src/lib.rt:117:9
-mark-requires : tie.Need-mark-requires
-mark-requires c κs = search needs
+doomed-of-requires : tie.Need-doomed-of-requires
+doomed-of-requires c κs = search needs
 
 -- src/lib.rt:119:20
-enum-known-marked : tie.Need-enum-known-marked
-enum-known-marked c = search needs
+enum-known-dooms : tie.Need-enum-known-dooms
+enum-known-dooms c = search needs
 
 -- src/lib.rt:120:13
 remove-requires : tie.Need-remove-requires
 remove-requires c κs = (search needs, (search begins-in, (search lies-from, (search lies-below, (search lies-ends, search own-inside)))))
 
 -- src/lib.rt:123:25
-enum-known-marked-2 : tie.Need-enum-known-marked-2
-enum-known-marked-2 c = search needs
+enum-known-dooms-2 : tie.Need-enum-known-dooms-2
+enum-known-dooms-2 c = search needs
 
 -- src/lib.rt:110:1
 same-length : tie.Need-same-length
@@ -43,10 +43,10 @@ pub delete-spec : {M : Type 1} → statement M
 delete-spec =
     tie.close
     (tie.spec
-    mark-requires
-    enum-known-marked
+    doomed-of-requires
+    enum-known-dooms
     remove-requires
-    enum-known-marked-2
+    enum-known-dooms-2
     same-length
     returns
     same-length-2

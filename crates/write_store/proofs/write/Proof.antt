@@ -1,5 +1,5 @@
 use mathlib.Core.Path.{refl}
-use Rattle.write_store.proofs.Loops.{write-resizable, write-first, resized-fit, resized-along, write-is}
+use Rattle.write_store.proofs.Loops.{write-resizable, write-first, resized-fit, resized-along, entry-in, write-is}
 use borrow.Author.Needs.{needs}
 use Rattle.write_store.proofs.write.Statement.{statement}
 use Rattle.write_store.proofs.write.Tie as tie
@@ -37,8 +37,8 @@ put-bytes-requires c κs =
     (resized-fit _ _ f _ _ _ r _ j, (write-first s _ _ _ _ _ w _ _ refl n, resized-along _ _ f _ _ _ r _ j))
 
 -- src/lib.rt:207:5
-renew-entry-requires : tie.Need-renew-entry-requires
-renew-entry-requires c κs = search needs
+renew-at-requires : tie.Need-renew-at-requires
+renew-at-requires c κs = search (entry-in, needs)
 
 -- src/lib.rt:196:1
 same-length : tie.Need-same-length
@@ -49,7 +49,7 @@ returns : tie.Need-returns
 returns c =
     let o = c .before .before .before .before .before .before .before .before .before .before .before .before .before .blocks-for .ensures in
     let n = c .before .before .before .before .before .before .before .before .before .before .before .before .blocks-for2 .ensures in
-    write-is (c .before .before .before .before .before .before .before .before .before .before .before .before .before .before .before .before .before .args .s) _ _ _ _ _ _ _ _ _ _ _ _ refl o n (c .before .before .before .before .before .before .before .before .before .before .resize .ensures) (c .before .before .before .before .before .before .put-bytes .ensures) (c .before .before .renew-entry .ensures)
+    write-is (c .before .before .before .before .before .before .before .before .before .before .before .before .before .before .before .before .before .args .s) _ _ _ _ _ _ _ _ _ _ _ _ refl o n (c .before .before .before .before .before .before .before .before .before .before .resize .ensures) (c .before .before .before .before .before .before .put-bytes .ensures) (c .before .before .renew-at .ensures)
 
 pub write-spec : {M : Type 1} → statement M
 write-spec =
@@ -61,6 +61,6 @@ write-spec =
     blocks-for-requires-2
     resize-requires
     put-bytes-requires
-    renew-entry-requires
+    renew-at-requires
     same-length
     returns)

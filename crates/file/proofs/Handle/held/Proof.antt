@@ -1,70 +1,40 @@
-use mathlib.Core.Path.{_≡_, refl}
+use Rattle.file.proofs.Handles.{held-at, held-missing, held-damaged}
 use borrow.Author.Needs.{needs}
-use Rattle.super_block.proofs.Fits.{area-inside}
-use Rattle.read_dir.specs.Cursor.{cursorWalk, items}
-use Rattle.read_dir.proofs.Along.{entry-inside, entry-ends, step-less}
-use Rattle.file.specs.File.{heldIn}
-use Rattle.file.proofs.Handles.{held-again, held-hit, held-none, held-bad}
 use Rattle.file.proofs.Handle.held.Statement.{statement}
 use Rattle.file.proofs.Handle.held.Tie as tie
+use Rattle.file.proofs.Handle.held.Reads as reads
+use Rattle.file.proofs.Handle.held.Lts as lts
+use Rattle.file.proofs.Handle.entry.Reads as entry-reads
 
-abbrev Inv-loop : tie.InvT-loop
-Inv-loop self img s c₀ c = heldIn self (cursorWalk 512 (s .area .0) (s .blocks) img c) ≡ heldIn self (cursorWalk 512 (s .area .0) (s .blocks) img c₀)
+-- src/lib.rt:294:15
+entry-requires : tie.Need-entry-requires
+entry-requires c κs = search needs
 
-abbrev μ-loop : tie.MeasureT-loop
-μ-loop self img s c₀ c = items (cursorWalk 512 (s .area .0) (s .blocks) img c)
-
-new-requires : tie.Need-new-requires Inv-loop μ-loop
-new-requires c κs = search area-inside
-
-loop-holds : tie.Need-loop-holds Inv-loop μ-loop
-loop-holds c = refl
-
-next-requires : tie.Need-next-requires Inv-loop μ-loop
-next-requires c κs = search needs
-
-enum-known-e : tie.Need-enum-known-e Inv-loop μ-loop
-enum-known-e c = search needs
-
-current-requires : tie.Need-current-requires Inv-loop μ-loop
-current-requires c κs = (search needs, (search entry-inside, search entry-ends))
-
-returns : tie.Need-returns Inv-loop μ-loop
-returns c = search held-hit
-
-loop-less : tie.Need-loop-less Inv-loop μ-loop
-loop-less c = search step-less
-
-loop-again : tie.Need-loop-again Inv-loop μ-loop
-loop-again c = search held-again
-
-enum-told : tie.Need-enum-told Inv-loop μ-loop
+-- src/lib.rt:295:32
+enum-told : tie.Need-enum-told
 enum-told c = search needs
 
-returns-2 : tie.Need-returns-2 Inv-loop μ-loop
-returns-2 c = search held-none
-
-enum-told-2 : tie.Need-enum-told-2 Inv-loop μ-loop
+-- src/lib.rt:296:48
+enum-told-2 : tie.Need-enum-told-2
 enum-told-2 c = search needs
 
-returns-3 : tie.Need-returns-3 Inv-loop μ-loop
-returns-3 c = search held-bad
+-- src/lib.rt:297:48
+enum-told-3 : tie.Need-enum-told-3
+enum-told-3 c = search needs
+
+-- src/lib.rt:289:5
+returns : tie.Need-returns
+returns c = search held-at
+
+-- src/lib.rt:289:5
+returns-2 : tie.Need-returns-2
+returns-2 c = search held-missing
+
+-- src/lib.rt:289:5
+returns-3 : tie.Need-returns-3
+returns-3 c = search held-damaged
 
 pub held-spec : {M : Type 1} → statement M
 held-spec =
     tie.close
-    (tie.spec
-    Inv-loop
-    μ-loop
-    new-requires
-    loop-holds
-    next-requires
-    enum-known-e
-    current-requires
-    returns
-    loop-less
-    loop-again
-    enum-told
-    returns-2
-    enum-told-2
-    returns-3)
+    (tie.spec entry-requires enum-told enum-told-2 enum-told-3 returns returns-2 returns-3)

@@ -3,14 +3,14 @@ use borrow.Author.Needs.{needs}
 use Rattle.file.proofs.Handle.write.Statement.{statement}
 use Rattle.file.proofs.Handle.write.Tie as tie
 
-aim-requires : tie.Need-aim-requires
-aim-requires c κs = search needs
+target-of-requires : tie.Need-target-of-requires
+target-of-requires c κs = search needs
 
-enum-known-aimed : tie.Need-enum-known-aimed
-enum-known-aimed c = search needs
+enum-known-targeted : tie.Need-enum-known-targeted
+enum-known-targeted c = search needs
 
-enum-known-aimed-2 : tie.Need-enum-known-aimed-2
-enum-known-aimed-2 c = search needs
+enum-known-targeted-2 : tie.Need-enum-known-targeted-2
+enum-known-targeted-2 c = search needs
 
 write-requires : tie.Need-write-requires
 write-requires c κs = (search needs, search store-can)
@@ -37,9 +37,9 @@ pub write-spec : {M : Type 1} → statement M
 write-spec =
     tie.close
     (tie.spec
-    aim-requires
-    enum-known-aimed
-    enum-known-aimed-2
+    target-of-requires
+    enum-known-targeted
+    enum-known-targeted-2
     write-requires
     cast-grown
     grown-requires

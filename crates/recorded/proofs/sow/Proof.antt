@@ -3,11 +3,11 @@ use mathlib.Core.Path.{_≡_}
 use lib.ListN.{length, length-set}
 use native.Mathlib.Omega.{arith}
 use borrow.Author.Needs.{needs}
-use Rattle.cases.proofs.Laws.{SownTo, sown-none, sown-more, sown-done}
-use Rattle.cases.proofs.sow.Statement.{statement}
-use Rattle.cases.proofs.sow.Tie as tie
-use Rattle.cases.proofs.sow.Reads as reads
-use Rattle.cases.proofs.sow.Lts as lts
+use Rattle.recorded.proofs.Laws.{SownTo, sown-none, sown-more, sown-done}
+use Rattle.recorded.proofs.sow.Statement.{statement}
+use Rattle.recorded.proofs.sow.Tie as tie
+use Rattle.recorded.proofs.sow.Reads as reads
+use Rattle.recorded.proofs.sow.Lts as lts
 
 abbrev Inv-loop : tie.InvT-loop
 Inv-loop buf₀ seed b₀ j₀ buf b j = (j ≤ length buf) × (length buf ≡ length buf₀) × (b ≡ (seed + 7 * j) % 251) × SownTo seed buf j
@@ -15,39 +15,39 @@ Inv-loop buf₀ seed b₀ j₀ buf b j = (j ≤ length buf) × (length buf ≡ l
 abbrev μ-loop : tie.MeasureT-loop
 μ-loop buf₀ seed b₀ j₀ buf b j = length buf₀ - j
 
--- src/calls.rt:458:5
+-- src/lib.rt:458:5
 loop-holds : tie.Need-loop-holds Inv-loop μ-loop
 loop-holds c = (search needs, search needs, search needs, sown-none (c .args .seed) (c .args .buf .now))
 
--- src/calls.rt:459:18
+-- src/lib.rt:459:18
 cast-buf : tie.Need-cast-buf Inv-loop μ-loop
 cast-buf c = search needs
 
--- src/calls.rt:459:9
+-- src/lib.rt:459:9
 slice-write-buf : tie.Need-slice-write-buf Inv-loop μ-loop
 slice-write-buf c = search needs
 
--- src/calls.rt:460:14
+-- src/lib.rt:460:14
 add-b : tie.Need-add-b Inv-loop μ-loop
 add-b c = search needs
 
--- src/calls.rt:461:9
+-- src/lib.rt:461:9
 add-j : tie.Need-add-j Inv-loop μ-loop
 add-j c = search needs
 
--- src/calls.rt:458:5
+-- src/lib.rt:458:5
 loop-less : tie.Need-loop-less Inv-loop μ-loop
 loop-less c = search needs
 
--- src/calls.rt:458:5
+-- src/lib.rt:458:5
 loop-again : tie.Need-loop-again Inv-loop μ-loop
 loop-again c = (simp length-set (omega arith), simp length-set (omega arith), search needs, search (sown-more, needs))
 
--- src/calls.rt:453:1
+-- src/lib.rt:453:1
 same-length : tie.Need-same-length Inv-loop μ-loop
 same-length c = search needs
 
--- src/calls.rt:453:1
+-- src/lib.rt:453:1
 returns : tie.Need-returns Inv-loop μ-loop
 returns c = search (sown-done, needs)
 

@@ -1,9 +1,9 @@
 use Rattle.delete.proofs.Answers.{at-full, at-bare}
 use borrow.Author.Needs.{needs}
-use Rattle.delete.proofs.mark_at.Statement.{statement}
-use Rattle.delete.proofs.mark_at.Tie as tie
-use Rattle.delete.proofs.mark_at.Reads as reads
-use Rattle.delete.proofs.mark_at.Lts as lts
+use Rattle.delete.proofs.doomed_at.Statement.{statement}
+use Rattle.delete.proofs.doomed_at.Tie as tie
+use Rattle.delete.proofs.doomed_at.Reads as reads
+use Rattle.delete.proofs.doomed_at.Lts as lts
 use Rattle.delete.proofs.has_entries.Reads as has-entries-reads
 
 -- src/lib.rt:56:8
@@ -17,8 +17,8 @@ returns c = search at-full
 returns-2 : tie.Need-returns-2
 returns-2 c = search at-bare
 
-pub mark-at-spec : {M : Type 1} → statement M
-mark-at-spec =
+pub doomed-at-spec : {M : Type 1} → statement M
+doomed-at-spec =
     tie.close
     (tie.spec
     has-entries-requires

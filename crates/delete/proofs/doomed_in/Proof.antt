@@ -1,10 +1,10 @@
 use Rattle.delete.proofs.Answers.{in-at, in-missing, in-damaged}
 use borrow.Author.Needs.{needs}
-use Rattle.delete.proofs.mark_in.Statement.{statement}
-use Rattle.delete.proofs.mark_in.Tie as tie
-use Rattle.delete.proofs.mark_in.Reads as reads
-use Rattle.delete.proofs.mark_in.Lts as lts
-use Rattle.delete.proofs.mark_at.Reads as mark-at-reads
+use Rattle.delete.proofs.doomed_in.Statement.{statement}
+use Rattle.delete.proofs.doomed_in.Tie as tie
+use Rattle.delete.proofs.doomed_in.Reads as reads
+use Rattle.delete.proofs.doomed_in.Lts as lts
+use Rattle.delete.proofs.doomed_at.Reads as doomed-at-reads
 use Rattle.read_dir.proofs.lookup.Reads as lookup-reads
 
 -- src/lib.rt:80:9
@@ -16,8 +16,8 @@ enum-known-found : tie.Need-enum-known-found
 enum-known-found c = search needs
 
 -- src/lib.rt:82:28
-mark-at-requires : tie.Need-mark-at-requires
-mark-at-requires c κs = search needs
+doomed-at-requires : tie.Need-doomed-at-requires
+doomed-at-requires c κs = search needs
 
 -- src/lib.rt:83:43
 enum-told : tie.Need-enum-told
@@ -39,13 +39,13 @@ returns-2 c = search in-missing
 returns-3 : tie.Need-returns-3
 returns-3 c = search in-damaged
 
-pub mark-in-spec : {M : Type 1} → statement M
-mark-in-spec =
+pub doomed-in-spec : {M : Type 1} → statement M
+doomed-in-spec =
     tie.close
     (tie.spec
     lookup-requires
     enum-known-found
-    mark-at-requires
+    doomed-at-requires
     enum-told
     enum-told-2
     returns

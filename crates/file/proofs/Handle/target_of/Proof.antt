@@ -1,8 +1,8 @@
 use Rattle.file.proofs.Aims.{aim-empty, aim-stale, aim-unreached, aim-at, aim-missing, aim-damaged}
 use Rattle.file.proofs.Seeks.{short-name}
 use borrow.Author.Needs.{needs}
-use Rattle.file.proofs.Handle.aim.Statement.{statement}
-use Rattle.file.proofs.Handle.aim.Tie as tie
+use Rattle.file.proofs.Handle.target_of.Statement.{statement}
+use Rattle.file.proofs.Handle.target_of.Tie as tie
 
 returns : tie.Need-returns
 returns c = search aim-empty
@@ -43,8 +43,8 @@ returns-5 c = search aim-missing
 returns-6 : tie.Need-returns-6
 returns-6 c = search aim-damaged
 
-pub aim-spec : {M : Type 1} → statement M
-aim-spec =
+pub target-of-spec : {M : Type 1} → statement M
+target-of-spec =
     tie.close
     (tie.spec
     returns
