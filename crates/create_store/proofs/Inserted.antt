@@ -21,8 +21,6 @@ use Rattle.model.proofs.Full.{good-find, whole-tree, zero-block}
 use Rattle.model.proofs.Good.{good-insert}
 use Rattle.model.proofs.Levels.{good-dir-added}
 use Rattle.model.proofs.Inserts.{insert-at}
-use Rattle.super_block.specs.declared.SuperBlock.{SuperBlock}
-use Rattle.super_block.specs.Super.{Fit}
 use Rattle.bitmap_block.proofs.Stores.{aside-data, aside-other}
 use Rattle.dir_entry.specs.declared.Kind.{Kind}
 use Rattle.dir_entry.specs.declared.Kind.the-variants.{Dir, File}
@@ -253,7 +251,3 @@ module _ (g : Geo) (I : List ℕ) (d : ℕ) (t : Tree d) (n : Name) where
       -- the blocks that it needs are those that a create adds,
       pub spot-adds : needed at ≡ toCreate (entryRoom g) n (s .1)
       spot-adds = both .1
-
--- ---- as code has it, by the struct's own numbers
-
-module _ (b : SuperBlock) (I : List ℕ) (f : Fit b I) (at : Spot) (len : ℕ) where
