@@ -25,8 +25,9 @@ use Rattle.model.proofs.Opens.{image-good, mark-good, open-3}
 use Rattle.dir_entry.specs.Entry.{headBytes, slotAt, entryAt, kindAt}
 use Rattle.read_dir.specs.Walk.{onSlot, shown, entriesFrom, chainFrom}
 use Rattle.read_dir.specs.Finds.{findIn, skip, listFrom}
+use Rattle.text.specs.Text.{inside, begun, step, textFrom}
 use Rattle.path.specs.Path.{dirPart, lastName, trimmed, untrailed, beforeName, steps, split, unled}
-use Rattle.path.specs.Path.{realPath, badPath, pathBytes, startsSlash, endsSlash}
+use Rattle.path.specs.Path.{realPath, badPath, startsSlash, endsSlash}
 use Rattle.dir.specs.Resolve.{resolve, entryOf}
 use Rattle.file.specs.File.{seekRefusal, staleFields, target}
 use Rattle.call_read.specs.Reading.{pathCall, openOn, openEntry, openReply, listOn, listReply}
@@ -86,13 +87,13 @@ bad-4108 = refl
 
 lists-a : refusalIn (listReply 8 volumeA [] pathA 0 0) ≡ 0
 unfolding listReply listOn pathCall openRefusal firstOf when pick badImage badMark badCount countAt be dataAt superBytes
-    padded bytes headBytes same realPath badPath pathBytes startsSlash endsSlash given andThen steps split unled resolve
+    padded bytes headBytes same realPath badPath textFrom step begun inside startsSlash endsSlash given andThen steps split unled resolve
     findIn chainFrom entriesFrom onSlot shown slotAt entryAt kindAt next skip listFrom
 lists-a = refl
 
 opens-b : refusalIn (openReply 8 volumeA [] pathB) ≡ 5
 unfolding openReply openOn openEntry entryOf pathCall openRefusal firstOf when pick badImage badMark badCount countAt be
-    dataAt superBytes padded bytes headBytes same realPath badPath pathBytes startsSlash endsSlash given andThen dirPart
+    dataAt superBytes padded bytes headBytes same realPath badPath textFrom step begun inside startsSlash endsSlash given andThen dirPart
     lastName trimmed untrailed beforeName steps split unled resolve findIn chainFrom entriesFrom onSlot shown slotAt entryAt
     kindAt next
 opens-b = refl

@@ -1,5 +1,6 @@
 -- The stores keep an image a list of bytes: each of them stores bytes.
-use mathlib.Core.Bool.{Bool, true, false}
+use mathlib.Core.Path.{_≡_}
+use mathlib.Core.Bool.{Bool, true, false, not}
 use mathlib.Core.List.{List, [], _∷_, _++_}
 use Prim.Native.Nat.{ℕ, zero, suc, _+_, _-_, _*_, _/_, _%_, _<_}
 use native.Mathlib.Omega.{arith}
@@ -12,7 +13,10 @@ use Rattle.bits.specs.Bit.{digit, withDigit, withBit}
 use Rattle.block.specs.Block.{linked, zeroed, next}
 use Rattle.model.specs.Tree.{Name}
 use Rattle.model.specs.Geometry.{Geo, blockSize, mapAt, dataAt, usedCount}
-use Rattle.model.specs.Volume.{All, NameByte, GoodName, blocksFor}
+use Rattle.wire.proofs.Picks.{and-both}
+use Rattle.text.specs.Text.{isText, isName, hasByte, slash}
+use Rattle.thm_text.proofs.Small.{text-bytes}
+use Rattle.model.specs.Volume.{GoodName, blocksFor}
 use Rattle.model.specs.Steps.{Bytes}
 use Rattle.super_block.specs.Super.{counted}
 use Rattle.bitmap_block.specs.Bitmap.{marked, more, fewer, taken, freed, fresh}
@@ -160,9 +164,9 @@ module _ (g : Geo) where
   bytes-opened I b (spot.After a) = bytes-linked (withFresh g I) (bytes-fresh I b) (a .0) (fresh g I)
   bytes-opened I b spot.Damaged = b
 
-  bytes-name : (n : Name) → All NameByte n → Bytes n
-  bytes-name [] a = bytes-nil
-  bytes-name (c ∷ n) a = bytes-more c n (omega (arith, a .0 .1)) (bytes-name n (a .1))
+  bytes-name : (n : Name) → isName n ≡ true → Bytes n
+  unfolding isName
+  bytes-name n h = text-bytes n (and-both (isText n) (not (hasByte slash n)) h .0)
 
   bytes-head : (e : DirEntry) → e .len < 256 → Bytes (headBytes e)
   unfolding headBytes

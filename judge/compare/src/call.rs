@@ -26,19 +26,53 @@ pub enum Seek {
 pub enum Call {
     Format,
     Usage,
-    Open { slot: usize, place: Place },
-    Info { place: Place },
+    Open {
+        slot: usize,
+        place: Place,
+    },
+    Info {
+        place: Place,
+    },
     /// Begins a listing at an entry's number, and keeps its place in the page.
-    List { page: usize, place: Place, from: u32, len: usize },
+    List {
+        page: usize,
+        place: Place,
+        from: u32,
+        len: usize,
+    },
     /// Goes on with a listing.
-    ListOn { page: usize, len: usize },
-    Read { slot: usize, len: usize },
-    Seek { slot: usize, to: Seek },
-    CreateFile { slot: usize, place: Place, time: u64 },
-    CreateDir { place: Place, time: u64 },
-    Delete { place: Place, time: u64 },
+    ListOn {
+        page: usize,
+        len: usize,
+    },
+    Read {
+        slot: usize,
+        len: usize,
+    },
+    Seek {
+        slot: usize,
+        to: Seek,
+    },
+    CreateFile {
+        slot: usize,
+        place: Place,
+        time: u64,
+    },
+    CreateDir {
+        place: Place,
+        time: u64,
+    },
+    Delete {
+        place: Place,
+        time: u64,
+    },
     /// Writes the bytes of [`written_bytes`].
-    Write { slot: usize, len: usize, seed: u8, time: u64 },
+    Write {
+        slot: usize,
+        len: usize,
+        seed: u8,
+        time: u64,
+    },
 }
 
 /// What can be seen of a file's handle.
@@ -89,10 +123,7 @@ impl Call {
 
     /// Whether the call may change the image.
     pub fn changes(&self) -> bool {
-        matches!(
-            self,
-            Call::Format | Call::CreateFile { .. } | Call::CreateDir { .. } | Call::Delete { .. } | Call::Write { .. }
-        )
+        matches!(self, Call::Format | Call::CreateFile { .. } | Call::CreateDir { .. } | Call::Delete { .. } | Call::Write { .. })
     }
 
     /// The working directory and path that the call names.

@@ -8,8 +8,8 @@ use volumes::{draw_accented, draw_name, fill_of, names_by_block, Entry, Kind, Rn
 const LENS: [usize; 12] = [0, 1, 2, 506, 507, 508, 509, 1015, 1016, 1017, 1524, 2540];
 /// Paths that name nothing as they should.
 const ODD_PATHS: [&[u8]; 20] = [
-    b"", b"/", b"//", b"///", b".", b"..", b"/.", b"/..", b"//a", b"a//b", b"/a//b", b"a/", b"/a/", b"a/b/", b" ", b"/ /", b"/\x1f",
-    b"/a\x7f", b"/\xff", b"a\n",
+    b"", b"/", b"//", b"///", b".", b"..", b"/.", b"/..", b"//a", b"a//b", b"/a//b", b"a/", b"/a/", b"a/b/", b" ", b"/ /",
+    b"/\x1f", b"/a\x7f", b"/\xff", b"a\n",
 ];
 const ODD_DIRS: [&[u8]; 8] = [b"/", b"//", b"/a", b"/a/", b"", b"x", b"/none", b"/\x01"];
 

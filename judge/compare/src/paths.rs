@@ -17,7 +17,12 @@ pub fn compare_paths(tally: &mut Tally) -> Result<(), Box<Found>> {
     compare_each(small_volume(4107), &all_paths(4), &changes, tally)
 }
 
-fn compare_each(volume: Volume, paths: &[Vec<u8>], calls: &dyn Fn(Place) -> Vec<Call>, tally: &mut Tally) -> Result<(), Box<Found>> {
+fn compare_each(
+    volume: Volume,
+    paths: &[Vec<u8>],
+    calls: &dyn Fn(Place) -> Vec<Call>,
+    tally: &mut Tally,
+) -> Result<(), Box<Found>> {
     let mut original = original(K);
     let start = Start { k: K, image: volume.image, what: "the volume of short names".to_string(), raw: false };
     let mut sides = Sides::new(original.as_mut(), start.image.clone(), K);

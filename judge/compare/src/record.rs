@@ -22,7 +22,9 @@ pub fn record(out: &mut impl Write) -> io::Result<()> {
     list.formatted(4109, 8, 11, 500)?;
     list.comment("A volume of 4300 blocks with its superblock in block 1.")?;
     list.formatted(4300, 1, 12, 300)?;
-    list.comment("A volume of 4195 blocks in an image of 4200: devices, directories to depth 16, stale bytes, scattered chains.")?;
+    list.comment(
+        "A volume of 4195 blocks in an image of 4200: devices, directories to depth 16, stale bytes, scattered chains.",
+    )?;
     list.made()?;
     list.comment("The smallest volume with blocks in reach, filled to its last blocks.")?;
     list.filled()

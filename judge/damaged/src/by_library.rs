@@ -93,8 +93,12 @@ impl Library {
             Call::Usage => raw::mfs_c_usage(img, img_len, k, a.ptr(), b.ptr(), c.ptr()),
             Call::Check => raw::mfs_c_check(img, img_len, k, work, work_len),
             Call::Open => raw::mfs_c_open(img, img_len, k, cwd, cwd_len, path, path_len, number, name, self.len.ptr()),
-            Call::Info => raw::mfs_c_info(img, img_len, k, cwd, cwd_len, path, path_len, a.ptr(), b.ptr(), c.ptr(), name, self.len.ptr()),
-            Call::List => raw::mfs_c_list(img, img_len, k, cwd, cwd_len, path, path_len, case.from, buf, buf_len, a.ptr(), b.ptr()),
+            Call::Info => {
+                raw::mfs_c_info(img, img_len, k, cwd, cwd_len, path, path_len, a.ptr(), b.ptr(), c.ptr(), name, self.len.ptr())
+            }
+            Call::List => {
+                raw::mfs_c_list(img, img_len, k, cwd, cwd_len, path, path_len, case.from, buf, buf_len, a.ptr(), b.ptr())
+            }
             Call::Read => raw::mfs_c_read(img, img_len, k, number, name, len, buf, buf_len, a.ptr()),
             Call::Seek(SeekFrom::Start(to)) => raw::mfs_c_seek_start(number, name, len, to),
             Call::Seek(SeekFrom::Current(by)) => raw::mfs_c_seek_current(number, name, len, by),

@@ -68,8 +68,17 @@ fn draw_k(scene: &Scene, rng: &mut Rng) -> u32 {
     }
     let blocks = (scene.image.len() / BLOCK_SIZE) as u32;
     let any = rng.next_u64() as u32;
-    let odd =
-        [0, scene.k + 1, scene.k.wrapping_sub(1), blocks, blocks.wrapping_sub(2), blocks.wrapping_sub(3), u32::MAX - 1, u32::MAX, any];
+    let odd = [
+        0,
+        scene.k + 1,
+        scene.k.wrapping_sub(1),
+        blocks,
+        blocks.wrapping_sub(2),
+        blocks.wrapping_sub(3),
+        u32::MAX - 1,
+        u32::MAX,
+        any,
+    ];
     *rng.pick(&odd)
 }
 

@@ -21,8 +21,17 @@ pub fn compare(library: &mut Library, tally: &mut Tally) {
 
 fn largest_images(library: &mut Library, tally: &mut Tally) {
     let mut case = Case { path: b"/m1".to_vec(), work: vec![0xff; MAX_BLOCKS / 8], ..empty_case(Call::Usage) };
-    let calls =
-        [Call::Usage, Call::Format, Call::Check, Call::CreateFile, Call::Write, Call::Open, Call::CreateDir, Call::Delete, Call::Usage];
+    let calls = [
+        Call::Usage,
+        Call::Format,
+        Call::Check,
+        Call::CreateFile,
+        Call::Write,
+        Call::Open,
+        Call::CreateDir,
+        Call::Delete,
+        Call::Usage,
+    ];
     for blocks in [MAX_BLOCKS + 1, MAX_BLOCKS] {
         let mut pair = Pair::new(library, blocks * BLOCK_SIZE, 509);
         for call in calls {

@@ -79,7 +79,8 @@ impl Default for Tree {
 impl Tree {
     /// The tree of an empty root.
     pub fn new() -> Tree {
-        let root = Node { parent: ROOT, name: Vec::new(), kind: Kind::Dir, size: 0, time: 0, blocks: 0, children: Vec::new(), depth: 0 };
+        let root =
+            Node { parent: ROOT, name: Vec::new(), kind: Kind::Dir, size: 0, time: 0, blocks: 0, children: Vec::new(), depth: 0 };
         Tree { nodes: vec![root], names: HashSet::new() }
     }
 
