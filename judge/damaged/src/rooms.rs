@@ -53,7 +53,10 @@ fn ask(image: &[u8], count: u32, library: &mut Library, tally: &mut Tally) {
         Ok(outcome) => tally.add(case.call, &outcome.answer),
         Err(why) => {
             let blocks = image.len() / BLOCK_SIZE;
-            println!("room for {count} on {blocks} blocks, where the model answers {}", show(&crate::by_model::run(&case).answer));
+            println!(
+                "room for {count} on {blocks} blocks, where the model answers {}",
+                show(&crate::by_model::run(&case).answer)
+            );
             fail(&why)
         }
     }
