@@ -4,6 +4,7 @@ pub mod Counter
 pub mod Honest
 pub mod Refusals
 pub mod Work
+pub mod EitherOrder
 pub mod Exact
 pub mod Promises
 pub mod OwnEntry
