@@ -42,6 +42,14 @@ pub struct Info {
     pub name: Vec<u8>,
 }
 
+impl Info {
+    /// The name as text; none where it is not UTF-8, which a volume that passes the check never has.
+    #[must_use]
+    pub fn name_str(&self) -> Option<&str> {
+        core::str::from_utf8(&self.name).ok()
+    }
+}
+
 impl From<Record<'_>> for Info {
     fn from(record: Record<'_>) -> Info {
         Info { kind: record.kind, size: record.size, time: record.time, name: record.name.to_vec() }

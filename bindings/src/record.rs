@@ -33,11 +33,18 @@ pub struct Record<'a> {
     pub size: u32,
     /// The time of the last change, as the caller gave it.
     pub time: u64,
-    /// 1 to 255 bytes; on a well-formed volume those of a path, and no `/`.
+    /// 1 to 255 bytes; on a well-formed volume UTF-8 without `/` and control bytes, so that [`name_str`](Record::name_str)
+    /// has it.
     pub name: &'a [u8],
 }
 
 impl<'a> Record<'a> {
+    /// The name as text; none where it is not UTF-8, which a volume that passes the check never has.
+    #[must_use]
+    pub fn name_str(&self) -> Option<&'a str> {
+        core::str::from_utf8(self.name).ok()
+    }
+
     /// The record at the start of the bytes, and the bytes after it.
     fn split_from(bytes: &'a [u8]) -> Option<(Record<'a>, &'a [u8])> {
         let (&[kind], rest) = bytes.split_first_chunk()?;

@@ -192,3 +192,15 @@ fn a_volume_lists_all_pages() {
     }
     assert_eq!(volume.list("/none"), Err(Refusal::NotFound));
 }
+
+#[test]
+fn a_name_with_accents_is_text() {
+    let mut image = formatted(ROOMY);
+    let mut volume = Volume::new(&mut image, K);
+    volume.create_file("/Kérity-ø", 1).unwrap();
+    let listed = volume.list("/").unwrap();
+    assert_eq!(listed[0].name_str(), Some("Kérity-ø"));
+    assert_eq!(volume.info("/Kérity-ø").unwrap().name_str(), Some("Kérity-ø"));
+    assert_eq!(volume.create_file("/Kérity-ø", 2).unwrap_err(), Refusal::Exists);
+    assert_eq!(volume.check(), Ok(()));
+}

@@ -29,7 +29,7 @@ use Rattle.promises.proofs.Answered.{count-said}
 use Rattle.promises.proofs.Files.{file-at}
 
 -- the file that a write is on
-file-of : (g : Geo) (p : List Name) (n : Name) (now c : ℕ) (buf : List ℕ) (t : Tree maxDepth) (I J : List ℕ)
+pub file-of : (g : Geo) (p : List Name) (n : Name) (now c : ℕ) (buf : List ℕ) (t : Tree maxDepth) (I J : List ℕ)
     (m : TreeWrites g maxDepth p n now c buf t I J)
     → fileAt maxDepth p n t ≡ some (m .size, m .time, m .cells)
 unfolding fileEntry fileOf

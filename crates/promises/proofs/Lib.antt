@@ -22,5 +22,8 @@ pub mod CreateLeaves
 pub mod Gone
 pub mod Kept
 pub mod Work
+pub mod Starts
+pub mod UsedMoves
+pub mod EitherOrder
 pub mod Promises
 pub mod OwnEntry

@@ -13,7 +13,7 @@ use Rattle.model.proofs.Others.{lookup-other, name-or}
 use Rattle.model.proofs.Reached.{lookup-entries}
 
 -- What is read of the entry a, where h keeps what is read of the entry n.
-lookup-kept : {X R : Type 0} (n a : Name) (h : Entry X → Entry X) → Keeps h → (o : Entry X → Option R) (bs : List (Block X))
+pub lookup-kept : {X R : Type 0} (n a : Name) (h : Entry X → Entry X) → Keeps h → (o : Entry X → Option R) (bs : List (Block X))
     → ((e : Entry X) → lookup n bs ≡ some e → n ≡ a → o (h e) ≡ o e) → then (lookup a (change n h bs)) o ≡ then (lookup a bs) o
 unfolding then
 lookup-kept {X} n a h k o bs s = go (name-or n a) (lookup n bs) refl
@@ -26,6 +26,14 @@ lookup-kept {X} n a h k o bs s = go (name-or n a) (lookup n bs) refl
     go (inl e) none l =
         subst (λ (z : Name). then (lookup z (change n h bs)) o ≡ then (lookup z bs) o) e
         (ap (λ (z : List (Block X)). then (lookup n z) o) (change-same n h bs (λ x f. absurd (not-some l f))))
+
+-- What is read of a directory's entry, where f keeps what is read of that directory.
+pub renew-inside : {X R : Type 0} (o : X → Option R) (f : X → X) (g : ℕ → ℕ) (n : Name) (k : ℕ) (x : Node X)
+    → ((y : X) → x ≡ sub y → o (f y) ≡ o y) → inside o (renew f g n k x .node) ≡ inside o x
+unfolding renew inside
+renew-inside o f g n k (file z cs) s = refl
+renew-inside o f g n k (device z cs) s = refl
+renew-inside o f g n k (sub y) s = s y refl
 
 -- a directory with no entry gives nothing by any name
 no-entries : {X : Type 0} (bs : List (Block X)) → NoEntries bs → entriesOf bs ≡ []
@@ -126,13 +134,6 @@ module _ {R : Type 0} (r : (X : Type 0) → ℕ → Node X → Option R) (m : Na
   renew-read leaf X f g n k (device z cs) = refl
   renew-read leaf X f g n k (sub x) = leaf X (g k) (f x) ∙ sym (leaf X k x)
 
-  renew-inside : (X : Type 0) (o : X → Option R) (f : X → X) (g : ℕ → ℕ) (n : Name) (k : ℕ) (x : Node X)
-      → ((y : X) → x ≡ sub y → o (f y) ≡ o y) → inside o (renew f g n k x .node) ≡ inside o x
-  unfolding renew inside
-  renew-inside X o f g n k (file z cs) s = refl
-  renew-inside X o f g n k (device z cs) s = refl
-  renew-inside X o f g n k (sub y) s = s y refl
-
   -- An edit of the directory at p changes nothing at q, if it changes nothing there by the names that follow p in q.
   pub read-edit : ((X : Type 0) (k : ℕ) (x : X) → r X k (sub x) ≡ none) → (d : ℕ) (p q : List Name) (g : ℕ → ℕ) (f : Edit) (t : Tree d)
       → ((s : Some) (u : List Name) → find d p t ≡ some s → q ≡ p ++ u → readAt (s .0) u (f (s .0) (s .1)) ≡ readAt (s .0) u (s .1))
@@ -149,7 +150,7 @@ module _ {R : Type 0} (r : (X : Type 0) → ℕ → Node X → Option R) (m : Na
   read-edit leaf (suc d) (b ∷ p) (a ∷ q) g f t h =
       read-cons d a q _
       ∙ lookup-kept b a (renewed (edit d p g f) (atEnd p g)) (renewed-name _ _) (λ e. inside (readAt d q) (e .node)) t
-      (λ e l k. renew-inside (Tree d) (readAt d q) (edit d p g f) (atEnd p g) (e .name) (e .time) (e .node)
+      (λ e l k. renew-inside (readAt d q) (edit d p g f) (atEnd p g) (e .name) (e .time) (e .node)
       (λ y i. read-edit leaf d p q g f y
       (λ s u c j. h s u (then-some (λ x. inside (find d p) (x .node)) l ∙ ap (inside (find d p)) i ∙ c) (λ z. sym k z ∷ j z))))
       ∙ sym (read-cons d a q t)

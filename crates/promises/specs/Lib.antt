@@ -5,6 +5,7 @@ pub mod Honest
 pub mod Refusals
 pub mod Room
 pub mod Work
+pub mod EitherOrder
 pub mod Exact
 pub mod Promises
 pub mod OwnEntry
