@@ -5,12 +5,13 @@ use mathlib.Core.List.{List}
 use Prim.Native.Nat.{ℕ, zero, suc, _+_, _-_, _*_, _/_, _%_, _≤_, _<_, min}
 use native.Mathlib.Omega.{arith}
 use lib.Dec.{leb}
-use lib.ListN.{length}
+use lib.Count as word
+use lib.ListN.{length, getD}
 use borrow.Author.Tests.{lt-ltb, le-ltb, le-leb, lt-leb}
 use Rattle.wire.proofs.Picks.{pick-true, pick-false}
 use Rattle.bits.specs.Bit.{ones}
 use Rattle.bits.proofs.Bits.{ones-le, ones-none, ones-more, bit-lt}
-use Rattle.bits.proofs.Words.{ones-byte, ones-parts}
+use Rattle.bits.proofs.Words.{byte-ones, ones-byte, ones-parts}
 use Rattle.model.specs.Answers.{accepted}
 use Rattle.model.specs.Geometry.{Geo, blockSize, mapAt, reach, geoAt, openRefusal}
 use Rattle.model.proofs.Replies.{reply-none}
@@ -28,6 +29,14 @@ use Rattle.bitmap_block.proofs.Answers.{clear-many}
 use Rattle.call_room.specs.Room.{clearIn, bytesRead, bytesFor, toldOf, roomIn, Asks}
 use Rattle.call_room.specs.declared.Told.{Told}
 use Rattle.call_room.specs.declared.RoomOut.the-variants.{Known, Refused}
+
+-- ---- a full byte
+
+pub byte-full : (l : List ℕ) → ((i : ℕ) → getD l i 0 < 256) → (at : ℕ) → getD l at 0 ≡ 255 → 0 + ones l at 8 ≡ 8
+unfolding word.ones
+byte-full l bytes at e =
+    let c : word.ones 255 ≡ 8 = refl in
+    omega (arith, byte-ones l bytes at, ap word.ones e)
 
 -- ---- the clear bits of the first n
 

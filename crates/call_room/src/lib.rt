@@ -36,12 +36,16 @@ fn word_clear(s: &[u8], at: usize) -> u32
     64 - u64::count_ones(wire::get(s, at, 8))
 }
 
-// Those of the byte at `at`.
+// Those of the byte at `at`; a full one is passed at once.
 fn byte_clear(s: &[u8], at: usize) -> u32
     requires { ⌜ at < length (now s) ⌝ }
     ensures { λ r. ⌜ (r + ones (now (s .entry)) at 8 ≡ 8) × (r ≤ 8) ⌝ }
 {
-    8 - u8::count_ones(s[at])
+    let b = s[at];
+    if b == 255 {
+        return 0;
+    }
+    8 - u8::count_ones(b)
 }
 
 // Those of byte i that are below the limit.
