@@ -113,7 +113,7 @@ static void a_const_volume_answers_the_same(void)
     uint8_t buf[300], listed[300];
     char text[2], again[2];
     size_t bytes, count;
-    uint32_t next, number;
+    uint32_t next, number, enough[2], read[2];
     EXPECT(made.image == image && made.image_len == sizeof image && made.k == 8);
     EXPECT(same_text(made.cwd, by_hand.cwd));
     EXPECT(mfs_const_check(&made, work, sizeof work) == MFS_OK);
@@ -121,6 +121,11 @@ static void a_const_volume_answers_the_same(void)
     EXPECT(mfs_usage(&volume, totals, totals + 1, totals + 2) == MFS_OK);
     EXPECT(mfs_const_usage(&by_hand, totals + 3, totals + 4, totals + 5) == MFS_OK);
     EXPECT(memcmp(totals, totals + 3, 3 * sizeof *totals) == 0);
+    EXPECT(mfs_room(&volume, 1, enough, read) == MFS_OK);
+    EXPECT(mfs_const_room(&by_hand, 1, enough + 1, read + 1) == MFS_OK);
+    EXPECT(enough[0] == 1 && enough[1] == 1 && read[0] == 1 && read[1] == 1);
+    EXPECT(mfs_room(&volume, UINT32_MAX, enough, read) == MFS_OK);
+    EXPECT(enough[0] == 0 && read[0] > 1);
     EXPECT(mfs_list(&volume, "/", 0, buf, sizeof buf, &bytes, &next) == MFS_OK);
     EXPECT(mfs_const_list(&by_hand, "/", 0, listed, sizeof listed, &count, &number) == MFS_OK);
     EXPECT(count == bytes && number == next && memcmp(listed, buf, bytes) == 0);

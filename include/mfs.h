@@ -141,7 +141,7 @@ static inline const char *mfs_refusal_text(uint32_t number)
 
 /*
  * A volume: where its image and its work buffer are, and the working directory. The caller fills it
- * in, and no call changes it. Check, usage, open, info, list and read leave the image as it is, and
+ * in, and no call changes it. Check, usage, room, open, info, list and read leave the image as it is, and
  * only check, create, delete and write use the work buffer.
  */
 typedef struct mfs_volume {
@@ -229,6 +229,14 @@ static inline mfs_refusal mfs_const_usage(const mfs_const_volume *volume,
     return mfs_answer(mfs_c_usage(volume->image, volume->image_len, volume->k, size, used, free));
 }
 
+/* Whether count blocks are free: enough is 1 or 0, and bytes those of the bitmap that were read. */
+MFS_NONNULL MFS_MUST_USE
+static inline mfs_refusal mfs_const_room(const mfs_const_volume *volume, uint32_t count,
+                                         uint32_t *enough, uint32_t *bytes)
+{
+    return mfs_answer(mfs_c_room(volume->image, volume->image_len, volume->k, count, enough, bytes));
+}
+
 /* Opens a file, at position 0. */
 MFS_NONNULL MFS_MUST_USE
 static inline mfs_refusal mfs_const_open(const mfs_const_volume *volume, const char *path,
@@ -299,6 +307,14 @@ static inline mfs_refusal mfs_usage(const mfs_volume *volume,
 {
     const mfs_const_volume view = mfs_const_of(volume);
     return mfs_const_usage(&view, size, used, free);
+}
+
+MFS_NONNULL MFS_MUST_USE
+static inline mfs_refusal mfs_room(const mfs_volume *volume, uint32_t count,
+                                   uint32_t *enough, uint32_t *bytes)
+{
+    const mfs_const_volume view = mfs_const_of(volume);
+    return mfs_const_room(&view, count, enough, bytes);
 }
 
 MFS_NONNULL MFS_MUST_USE

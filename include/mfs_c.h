@@ -117,6 +117,17 @@ uint32_t mfs_c_usage(const uint8_t *img, size_t img_len, uint32_t k,
                      uint64_t *size, uint64_t *used, uint64_t *free);
 
 /*
+ * Whether count blocks are free within reach: enough becomes 1 for yes, 0 for no. The bitmap is read
+ * from its start up to the byte that has the last one asked for, or to the last byte in reach, and
+ * bytes becomes the number of its bytes that were read. No block is looked at: an image that is
+ * damaged elsewhere gets its answer.
+ * Refusals: 1, 2, 3.
+ */
+MFS_NONNULL MFS_MUST_USE
+uint32_t mfs_c_room(const uint8_t *img, size_t img_len, uint32_t k, uint32_t count,
+                    uint32_t *enough, uint32_t *bytes);
+
+/*
  * Accepts exactly the images that are well-formed volumes.
  * Refusals: 1, 2, 3, 16, 17.
  */

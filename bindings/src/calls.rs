@@ -20,6 +20,15 @@ pub struct Usage {
     pub free: u64,
 }
 
+/// Whether there is room for so many blocks, and what it took to tell.
+#[derive(Clone, Copy, Debug, PartialEq, Eq)]
+pub struct Room {
+    /// Whether as many blocks are free within reach of allocation.
+    pub enough: bool,
+    /// Bytes of the bitmap that were read: up to the one that has the last block asked for, or all in reach.
+    pub bytes: u32,
+}
+
 /// What is known of an entry.
 #[derive(Clone, Debug, PartialEq, Eq)]
 pub struct Info {
@@ -89,6 +98,17 @@ pub fn usage(image: &[u8], k: u32) -> Result<Usage, Refusal> {
     // SAFETY: as the top of this file says.
     let number = unsafe { raw::mfs_c_usage(image.as_ptr(), image.len(), k, &mut u.size, &mut u.used, &mut u.free) };
     answer(number, u)
+}
+
+/// Whether so many blocks are free within reach of allocation. The bitmap is read no further than it takes to tell.
+///
+#[doc = errors!(room)]
+pub fn room(image: &[u8], k: u32, count: u32) -> Result<Room, Refusal> {
+    same_version()?;
+    let (mut enough, mut bytes) = (0, 0);
+    // SAFETY: as the top of this file says.
+    let number = unsafe { raw::mfs_c_room(image.as_ptr(), image.len(), k, count, &mut enough, &mut bytes) };
+    answer(number, Room { enough: enough == 1, bytes })
 }
 
 /// Whether the image is a well-formed volume.

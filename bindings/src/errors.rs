@@ -26,6 +26,9 @@ macro_rules! errors {
     (usage) => {
         in_order!(refusals!(BadImage, NotMfs, BadCount, Damaged), " (a used count above the block count)")
     };
+    (room) => {
+        in_order!(refusals!(BadImage, NotMfs, BadCount))
+    };
     (check) => {
         in_order!(refusals!(BadImage, NotMfs, BadCount, ShortWork, Damaged))
     };

@@ -85,7 +85,8 @@ mod view;
 mod volume;
 
 pub use calls::{
-    check, create_dir, create_file, delete, format, info, list, open, read, seek, usage, work_len, write, Info, Listed, Usage,
+    check, create_dir, create_file, delete, format, info, list, open, read, room, seek, usage, work_len, write, Info, Listed,
+    Room, Usage,
 };
 pub use entries::{Entries, Walk, Walked};
 #[cfg(feature = "std")]

@@ -16,6 +16,7 @@ extern "C" {
     pub fn mfs_c_version() -> u32;
     pub fn mfs_c_format(img: *mut u8, img_len: usize, k: u32) -> u32;
     pub fn mfs_c_usage(img: *const u8, img_len: usize, k: u32, size: *mut u64, used: *mut u64, free: *mut u64) -> u32;
+    pub fn mfs_c_room(img: *const u8, img_len: usize, k: u32, count: u32, enough: *mut u32, bytes: *mut u32) -> u32;
     pub fn mfs_c_check(img: *const u8, img_len: usize, k: u32, work: *mut u8, work_len: usize) -> u32;
     pub fn mfs_c_open(
         img: *const u8,

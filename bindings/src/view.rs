@@ -1,5 +1,5 @@
 //! A volume that is only read.
-use crate::{work_len, Entries, Handle, Info, Refusal, Usage, Walk};
+use crate::{work_len, Entries, Handle, Info, Refusal, Room, Usage, Walk};
 use alloc::vec;
 use alloc::vec::Vec;
 use core::fmt;
@@ -69,6 +69,13 @@ impl<'a> VolumeRef<'a> {
     #[doc = errors!(usage)]
     pub fn usage(&self) -> Result<Usage, Refusal> {
         crate::usage(self.image, self.k)
+    }
+
+    /// Whether so many blocks are free within reach of allocation. The bitmap is read no further than it takes to tell.
+    ///
+    #[doc = errors!(room)]
+    pub fn room(&self, count: u32) -> Result<Room, Refusal> {
+        crate::room(self.image, self.k, count)
     }
 
     /// Opens the file at a path, at position 0.

@@ -1,5 +1,5 @@
 //! A volume with its work buffer and working directory.
-use crate::{work_len, Entries, Handle, Info, Refusal, Usage, VolumeRef, Walk};
+use crate::{work_len, Entries, Handle, Info, Refusal, Room, Usage, VolumeRef, Walk};
 use alloc::borrow::ToOwned;
 use alloc::string::String;
 use alloc::vec;
@@ -74,6 +74,13 @@ impl<'a> Volume<'a> {
     #[doc = errors!(usage)]
     pub fn usage(&self) -> Result<Usage, Refusal> {
         self.view().usage()
+    }
+
+    /// Whether so many blocks are free within reach of allocation. The bitmap is read no further than it takes to tell.
+    ///
+    #[doc = errors!(room)]
+    pub fn room(&self, count: u32) -> Result<Room, Refusal> {
+        self.view().room(count)
     }
 
     /// Opens the file at a path, at position 0.

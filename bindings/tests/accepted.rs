@@ -2,7 +2,7 @@
 mod common;
 
 use common::*;
-use mfs::{Info, Kind, Listed, Refusal, SeekFrom, Usage, Volume, BLOCK_SIZE};
+use mfs::{Info, Kind, Listed, Refusal, Room, SeekFrom, Usage, Volume, BLOCK_SIZE};
 
 fn info_of(kind: Kind, size: u32, time: u64, name: &[u8]) -> Info {
     Info { kind, size, time, name: name.to_vec() }
@@ -18,6 +18,29 @@ fn a_formatted_image_is_an_empty_volume() {
     let mut buf = [7; 300];
     assert_eq!(mfs::list(&image, K, b"/", b"/", 0, &mut buf), Ok(Listed { bytes: 0, next: 0 }));
     assert_eq!(buf, [7; 300]);
+}
+
+/// Of 4,200 blocks 4,096 are in reach, and the root has the first of them.
+#[test]
+fn room_is_told_by_the_fewest_bytes() {
+    let mut image = formatted(ROOMY);
+    for (count, enough, bytes) in [
+        (0, true, 0),
+        (1, true, 1),
+        (7, true, 1),
+        (8, true, 2),
+        (64, true, 9),
+        (65, true, 9),
+        (4095, true, 512),
+        (4096, false, 512),
+        (u32::MAX, false, 512),
+    ] {
+        assert_eq!(mfs::room(&image, K, count), Ok(Room { enough, bytes }), "{count}");
+    }
+    image[10 * BLOCK_SIZE..][..100].fill(0xFF);
+    assert_eq!(mfs::room(&image, K, 1), Ok(Room { enough: true, bytes: 101 }));
+    assert_eq!(mfs::room(&image, K, 4096 - 800), Ok(Room { enough: true, bytes: 512 }));
+    assert_eq!(mfs::room(&image, K, 4096 - 799), Ok(Room { enough: false, bytes: 512 }));
 }
 
 #[test]

@@ -18,6 +18,8 @@ struct Outs {
     bytes: usize,
     next: u32,
     totals: [u64; 3],
+    enough: u32,
+    read: u32,
 }
 
 fn untouched() -> Outs {
@@ -31,6 +33,8 @@ fn untouched() -> Outs {
         bytes: 0xDEAD,
         next: 0xDEAD_BEEF,
         totals: [0xDEAD_BEEF_DEAD_BEEF; 3],
+        enough: 0xDEAD_BEEF,
+        read: 0xDEAD_BEEF,
     }
 }
 
@@ -39,6 +43,10 @@ fn untouched() -> Outs {
 fn usage(image: &[u8], outs: &mut Outs) -> u32 {
     let [size, used, free] = &mut outs.totals;
     unsafe { raw::mfs_c_usage(image.as_ptr(), image.len(), K, size, used, free) }
+}
+
+fn room(image: &[u8], count: u32, outs: &mut Outs) -> u32 {
+    unsafe { raw::mfs_c_room(image.as_ptr(), image.len(), K, count, &mut outs.enough, &mut outs.read) }
 }
 
 fn open(image: &[u8], path: &[u8], outs: &mut Outs) -> u32 {
@@ -162,6 +170,7 @@ fn out_parameters_stay_on_a_refusal() {
     let mut outs = untouched();
     let mut buf = [7; 600];
     assert_eq!(usage(&image[..512], &mut outs), 1);
+    assert_eq!(room(&image[..512], 0, &mut outs), 1);
     assert_eq!(open(&image, b"/none", &mut outs), 5);
     assert_eq!(open(&image, b"/old", &mut outs), 6);
     assert_eq!(info(&image, b"/none", &mut outs), 5);
@@ -188,6 +197,12 @@ fn out_parameters_are_the_answer() {
     assert_eq!(usage(&image, &mut outs), 0);
     expected.totals = [128 * 512, 14 * 512, 114 * 512];
     assert_eq!(outs, expected);
+
+    for (count, enough) in [(0, 1), (1, 0)] {
+        assert_eq!(room(&image, count, &mut outs), 0);
+        (expected.enough, expected.read) = (enough, 0);
+        assert_eq!(outs, expected);
+    }
 
     assert_eq!(info(&image, b"/old", &mut outs), 0);
     (expected.kind, expected.size, expected.time) = (0, 0, 1_700_000_060);

@@ -150,6 +150,6 @@ fn exports_have_the_same_parameters() {
             (rest.split('(').next().unwrap(), c_parameters(list).iter().map(|parameter| as_c(parameter)).collect())
         })
         .collect();
-    assert_eq!(in_header.len(), 15);
+    assert_eq!(in_header.len(), 16);
     assert_eq!(in_header, in_raw);
 }

@@ -73,6 +73,7 @@ fn assert_lookups_refused(image: &[u8], cwd: &[u8], path: &[u8], refusal: Refusa
 #[track_caller]
 fn assert_reading_refused(image: &[u8], refusal: Refusal) {
     assert_refused(image, refusal, |image| mfs::usage(image, K));
+    assert_refused(image, refusal, |image| mfs::room(image, K, 0));
     assert_lookups_refused(image, b"/", b"/m1", refusal);
     assert_read_refused(image, &some_handle(), refusal);
 }

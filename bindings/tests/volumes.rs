@@ -22,6 +22,7 @@ fn a_view_answers_what_the_functions_do() {
     assert!(core::ptr::eq(moved.image(), &image[..]));
     assert_eq!(volume.check(), Ok(()));
     assert_eq!(volume.usage(), mfs::usage(&image, K));
+    assert_eq!(volume.room(5), mfs::room(&image, K, 5));
     assert_eq!(moved.open("f"), mfs::open(&image, K, b"/", b"/d/f"));
     assert_eq!(moved.info(b"f"), mfs::info(&image, K, b"/", b"/d/f"));
     let mut buf = [7; 5];

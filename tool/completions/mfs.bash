@@ -1,6 +1,6 @@
 # Completion of the tool mfs for bash: commands, their options, and files of the host.
 _mfs() {
-    local commands='ls tree info df cat get put append mkdir rm format check dump map help'
+    local commands='ls tree info df room cat get put append mkdir rm format check dump map help'
     local word=${COMP_WORDS[COMP_CWORD]} before=${COMP_WORDS[COMP_CWORD - 1]} command='' i
     case $before in
     -k) mapfile -t COMPREPLY < <(compgen -W 'auto 0 1 8 8192' -- "$word") && return ;;

@@ -1,4 +1,4 @@
-//! `df`: how much is used, free, and free within reach of allocation.
+//! `df` and `room`: how much is used, free, and free within reach of allocation; whether so many blocks are.
 use crate::args::Call;
 use crate::failure::Failure;
 use crate::human;
@@ -25,5 +25,22 @@ pub fn df(call: &Call) -> Result<(), Failure> {
     let reach = human::size(in_reach * BLOCK as u64);
     out.line(&format!("{size:>8} {used:>8} {free:>8} {reach:>9} {percent:>4}%  {}", image.name))?;
     out.line(&format!("{} in reach of allocation", human::count(in_reach, "block")))?;
+    out.end()
+}
+
+pub fn room(call: &Call) -> Result<(), Failure> {
+    let mut out = Output::new(&call.options);
+    let word = call.words[1].to_string_lossy();
+    let count: u32 = word.parse().map_err(|_| call.usage(format!("'{word}' is no number of blocks")))?;
+    let image = Reading::open(call, &out)?;
+    let room = image.view().room(count).map_err(|refusal| image.refused(refusal, b""))?;
+    if out.json {
+        let object = Object::new().text("image", &image.name).number("blocks", count).flag("enough", room.enough);
+        out.object(&object.number("bytes_read", room.bytes))?;
+        return out.end();
+    }
+    let blocks = human::count(u64::from(count), "block");
+    let told = if room.enough { format!("yes: {blocks} in reach") } else { format!("no: fewer than {blocks} in reach") };
+    out.line(&format!("{told} ({} of the bitmap read)", human::count(u64::from(room.bytes), "byte")))?;
     out.end()
 }

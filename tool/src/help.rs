@@ -25,7 +25,7 @@ impl Command {
 
 const MANY: usize = usize::MAX;
 
-pub const COMMANDS: [Command; 15] = [
+pub const COMMANDS: [Command; 16] = [
     Command {
         name: "ls",
         synopsis: "ls [-l] [-R] IMAGE [PATH...]",
@@ -61,6 +61,15 @@ pub const COMMANDS: [Command; 15] = [
         flags: &[],
         words: (1, 1),
         run: df::df,
+    },
+    Command {
+        name: "room",
+        synopsis: "room IMAGE N",
+        about: "are N blocks free in reach?",
+        details: "  Says yes or no, and how many bytes of the bitmap were read to tell: no more than it takes.",
+        flags: &[],
+        words: (2, 2),
+        run: df::room,
     },
     Command {
         name: "cat",

@@ -75,6 +75,13 @@ pub struct Usage {
     pub free: u64,
 }
 
+/// Whether so many blocks are free in reach, and the bytes of the bitmap that it took to tell.
+#[derive(Clone, Copy, Debug, PartialEq, Eq)]
+pub struct Room {
+    pub enough: bool,
+    pub bytes: u32,
+}
+
 /// A volume that is only read.
 #[derive(Clone, Copy)]
 pub struct View<'a> {
@@ -91,6 +98,11 @@ impl View<'_> {
     pub fn usage(self) -> Result<Usage, Refusal> {
         let mfs::Usage { size, used, free, .. } = mfs::usage(self.image, self.k)?;
         Ok(Usage { size, used, free })
+    }
+
+    pub fn room(self, count: u32) -> Result<Room, Refusal> {
+        let mfs::Room { enough, bytes, .. } = mfs::room(self.image, self.k, count)?;
+        Ok(Room { enough, bytes })
     }
 
     pub fn info(self, path: &[u8]) -> Result<Entry, Refusal> {

@@ -121,7 +121,8 @@ impl Log {
             return None;
         }
         let record = |r: &[u8]| Record {
-            offset: number(&r[..8]) * BLOCK as u64,
+            // A block number that is no block lies past every end, where reading fails.
+            offset: number(&r[..8]).saturating_mul(BLOCK as u64),
             new_digest: number(&r[8..]),
             old: r[16..].try_into().expect("a block"),
         };

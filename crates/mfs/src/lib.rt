@@ -1,9 +1,10 @@
 // The public calls on an MFS volume. An image is a lent slice of 512-byte blocks, and k the block of its superblock.
 // No call requires anything: every image gets the one answer that the rules give it, and a refusal changes nothing.
-// Each call is one of call_volume, call_read or call_change under the name that callers know, with the same contract.
+// Each call is one of call_volume, call_room, call_read or call_change under the name that callers know, with the same contract.
 use call_read::InfoOut;
 use call_read::Listing;
 use call_read::OpenOut;
+use call_room::RoomOut;
 use call_volume::Answer;
 use call_volume::Space;
 use file::Handle;
@@ -12,6 +13,7 @@ use file::SeekFrom;
 use file::Sought;
 use file::WriteOut;
 ghost use Rattle.call_read.specs.Reading.{Opens, Informs, Lists, Reads};
+ghost use Rattle.call_room.specs.Room.{Asks};
 ghost use Rattle.file.specs.Post.{SoughtIs};
 ghost use Rattle.call_change.specs.Changing.{CreatesFile, CreatesDir, Deletes, Writes};
 ghost use Rattle.call_volume.specs.Checking.{Checks};
@@ -29,6 +31,13 @@ pub fn usage(img: &[u8], k: u32) -> Space
     ensures { λ r. ⌜ Uses k (now (img .entry)) r ⌝ }
 {
     call_volume::usage(img, k)
+}
+
+// Whether so many blocks are free within reach, and how many bytes of the bitmap were read to tell. Refusals: 1, 2, 3.
+pub fn room(img: &[u8], k: u32, count: u32) -> RoomOut
+    ensures { λ r. ⌜ Asks k (now (img .entry)) count r ⌝ }
+{
+    call_room::room(img, k, count)
 }
 
 // Whether the image is a well-formed volume, W1 to W5. One bit a block is marked in the work buffer, and is zero again afterwards.

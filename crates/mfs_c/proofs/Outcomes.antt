@@ -10,11 +10,15 @@ use Rattle.file.specs.declared.Sought.{Sought}
 use Rattle.file.specs.declared.ReadOut.{ReadOut}
 use Rattle.file.specs.declared.WriteOut.{WriteOut}
 use Rattle.file.specs.Written.{countedSays}
+use Rattle.wire.specs.Pick.{pick}
+use Rattle.call_room.specs.declared.Told.{Told}
+use Rattle.call_room.specs.Room.{roomSays}
+use Rattle.call_room.proofs.Means.{room-one}
 use Rattle.call_volume.specs.Says.{says, Sizes, spaceSays, soughtSays}
 use Rattle.call_read.specs.Reading.{About, Counts, openSays, infoSays, listSays}
 use Rattle.mfs.proofs.Outcomes.{format-one, usage-one, open-one, info-one, list-one, read-one, seek-one, create-file-one, create-dir-one, delete-one, write-one}
 use Rattle.call_volume.proofs.Checked.{check-one}
-use Rattle.mfs_c.specs.Exports.{told, outOf, numbersOf, FormatsC, UsesC, ChecksC, HandleOut, OpensC, InformsC, ListsC, CountOut, ReadsC, SeeksC, CreatesFileC, CreatesDirC, DeletesC, WritesC}
+use Rattle.mfs_c.specs.Exports.{told, outOf, numbersOf, FormatsC, UsesC, AsksC, ChecksC, HandleOut, OpensC, InformsC, ListsC, CountOut, ReadsC, SeeksC, CreatesFileC, CreatesDirC, DeletesC, WritesC}
 
 -- ---- one answer is told in one way
 
@@ -58,6 +62,17 @@ usage-c-one K I size used free c d size' size2 used' used2 free' free2 a b =
       out-one _ _ (λ (s : Sizes). s .size) size size' size2 e (a .sizes) (b .sizes),
       out-one _ _ (λ (s : Sizes). s .used) used used' used2 e (a .useds) (b .useds),
       out-one _ _ (λ (s : Sizes). s .free) free free' free2 e (a .frees) (b .frees),
+    )
+
+pub room-c-one : (K : ℕ) (I : List ℕ) (k enough bytes c d enough' enough2 bytes' bytes2 : ℕ)
+    → AsksC K I k enough bytes c enough' bytes'
+    → AsksC K I k enough bytes d enough2 bytes2
+    → (c ≡ d) × (enough' ≡ enough2) × (bytes' ≡ bytes2)
+room-c-one K I k enough bytes c d enough' enough2 bytes' bytes2 a b =
+    let e = ap roomSays (room-one K I k (a .answer) (b .answer) (a .call) (b .call)) in (
+      told-one _ _ c d e (a .code) (b .code),
+      out-one _ _ (λ (t : Told). pick (t .enough) 1 0) enough enough' enough2 e (a .enoughs) (b .enoughs),
+      out-one _ _ (λ (t : Told). t .bytes) bytes bytes' bytes2 e (a .reads) (b .reads),
     )
 
 pub check-c-one : (K : ℕ) (I W : List ℕ) (c d : ℕ) (Z Y : List ℕ) → ChecksC K I W c Z → ChecksC K I W d Y → (c ≡ d) × (Z ≡ Y)

@@ -15,6 +15,9 @@ use Rattle.file.specs.declared.Counted.{Counted}
 use Rattle.file.specs.declared.Counted.the-variants as counted
 use Rattle.file.specs.Post.{CountedIs}
 use Rattle.file.specs.Written.{countedSays}
+use Rattle.wire.specs.Pick.{pick}
+use Rattle.call_room.specs.declared.Told.{Told}
+use Rattle.call_room.specs.Room.{roomSays}
 use Rattle.call_volume.specs.declared.Answer.{Answer}
 use Rattle.call_volume.specs.declared.Answer.the-variants as answer
 use Rattle.call_read.specs.declared.Listing.{Listing}
@@ -23,7 +26,7 @@ use Rattle.call_volume.specs.Says.{says, onAnswer, Sizes, spaceSays, soughtSays
 use Rattle.call_volume.specs.Format.{Formats}
 use Rattle.call_read.specs.Reading.{About, Counts, infoSays, listSays, ListIs}
 use Rattle.thm_calls.proofs.Changing.{create-file-kept, create-dir-kept, delete-kept, write-kept}
-use Rattle.mfs_c.specs.Exports.{told, outOf, numbersOf, FormatsC, UsesC, HandleOut, OpensC, InformsC, ListsC, CountOut, ReadsC, SeeksC, CreatesFileC, CreatesDirC, DeletesC, WritesC}
+use Rattle.mfs_c.specs.Exports.{told, outOf, numbersOf, FormatsC, UsesC, AsksC, HandleOut, OpensC, InformsC, ListsC, CountOut, ReadsC, SeeksC, CreatesFileC, CreatesDirC, DeletesC, WritesC}
 
 -- ---- a number that is not 0 tells a refusal, and 0 tells none
 
@@ -83,6 +86,14 @@ usage-c-kept K I size used free c size' used' free' a n =
       kept r (λ (s : Sizes). s .size) size size' c (a .code) n (a .sizes),
       kept r (λ (s : Sizes). s .used) used used' c (a .code) n (a .useds),
       kept r (λ (s : Sizes). s .free) free free' c (a .code) n (a .frees),
+    )
+
+pub room-c-kept : (K : ℕ) (I : List ℕ) (k enough bytes c enough' bytes' : ℕ)
+    → AsksC K I k enough bytes c enough' bytes' → (c ≡ 0 → ⊥) → (enough' ≡ enough) × (bytes' ≡ bytes)
+room-c-kept K I k enough bytes c enough' bytes' a n =
+    let r = roomSays (a .answer) in (
+      kept r (λ (t : Told). pick (t .enough) 1 0) enough enough' c (a .code) n (a .enoughs),
+      kept r (λ (t : Told). t .bytes) bytes bytes' c (a .code) n (a .reads),
     )
 
 pub open-c-kept : (K : ℕ) (I cwd p ns x : List ℕ) (len c : ℕ) (ns' x' : List ℕ) (len' : ℕ)

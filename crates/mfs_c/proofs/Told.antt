@@ -1,11 +1,14 @@
 -- What each export tells on each of its ways out: the call that it made, and the arm that its answer took.
-use mathlib.Core.Path.{_≡_, refl, subst}
+use mathlib.Core.Path.{_≡_, refl, sym, subst}
 use mathlib.Core.List.{List}
 use Prim.Native.Nat.{ℕ}
 use lib.IntN.{ℤ}
 use mir.Syntax.{w32}
 use mir.Val.{SFits, ofZ, toZ}
 use mir.Facts.{toZ-ofZ}
+use mathlib.Core.Bool.{Bool, true, false}
+use Rattle.wire.specs.Pick.{pick}
+use Rattle.wire.proofs.Picks.{pick-true, pick-false}
 use Rattle.limits.specs.Refusals.{refusalNumber}
 use Rattle.limits.specs.declared.Refusal.{Refusal}
 use Rattle.dir_entry.specs.Entry.{kindByte}
@@ -19,6 +22,10 @@ use Rattle.file.specs.declared.ReadOut.{ReadOut}
 use Rattle.file.specs.declared.WriteOut.{WriteOut}
 use Rattle.file.specs.Post.{SoughtIs}
 use Rattle.file.specs.Written.{countedSays}
+use Rattle.call_room.specs.declared.Told.{Told}
+use Rattle.call_room.specs.declared.RoomOut.{RoomOut}
+use Rattle.call_room.specs.declared.RoomOut.the-variants as room
+use Rattle.call_room.specs.Room.{Asks}
 use Rattle.call_volume.specs.declared.Answer.{Answer}
 use Rattle.call_volume.specs.declared.Answer.the-variants as answer
 use Rattle.call_volume.specs.declared.Space.{Space}
@@ -31,7 +38,7 @@ use Rattle.call_volume.specs.Says.{says}
 use Rattle.call_volume.specs.Format.{Uses}
 use Rattle.call_read.specs.Reading.{openSays, Informs, Lists, Reads}
 use Rattle.call_change.specs.Changing.{Writes}
-use Rattle.mfs_c.specs.Exports.{told, handleOf, numbersOf, UsesC, HandleOut, InformsC, ListsC, CountOut, ReadsC, SeeksC, WritesC}
+use Rattle.mfs_c.specs.Exports.{told, handleOf, numbersOf, UsesC, AsksC, HandleOut, InformsC, ListsC, CountOut, ReadsC, SeeksC, WritesC}
 
 -- a plain answer that is refused
 pub code-refused : (a : Answer) (r : Refusal) (c : ℕ) → a ≡ answer.Refused r → c ≡ refusalNumber r → c ≡ told (says a)
@@ -45,6 +52,19 @@ module _ (K : ℕ) (I : List ℕ) (size used free : ℕ) (a : Space) (call : Use
 
   pub usage-told : (s u f : ℕ) → a ≡ space.Bytes s u f → UsesC K I size used free 0 s u f
   usage-told s u f e = record { answer = space.Bytes s u f; call = rw e at call; code = refl; sizes = refl; useds = refl; frees = refl }
+
+pub flag-yes : (b : Bool) → b ≡ true → _≡_ {A = ℕ} 1 (pick b 1 0)
+flag-yes b e = sym (pick-true 1 0 e)
+
+pub flag-no : (b : Bool) → b ≡ false → _≡_ {A = ℕ} 0 (pick b 1 0)
+flag-no b e = sym (pick-false 1 0 e)
+
+module _ (K : ℕ) (I : List ℕ) (k enough bytes : ℕ) (a : RoomOut) (call : Asks K I k a) where
+  pub room-refused : (r : Refusal) (c : ℕ) → a ≡ room.Refused r → c ≡ refusalNumber r → AsksC K I k enough bytes c enough bytes
+  room-refused r c e f = record { answer = room.Refused r; call = rw e at call; code = f; enoughs = refl; reads = refl }
+
+  pub room-told : (t : Told) (n : ℕ) → a ≡ room.Known t → n ≡ pick (t .enough) 1 0 → AsksC K I k enough bytes 0 n (t .bytes)
+  room-told t n e f = record { answer = room.Known t; call = rw e at call; code = refl; enoughs = f; reads = refl }
 
 module _ (o : OpenOut) (ns x : List ℕ) (len : ℕ) where
   pub handle-refused : (r : Refusal) (c : ℕ) → o .answer ≡ answer.Refused r → c ≡ refusalNumber r → HandleOut (openSays o) ns x len c ns x len

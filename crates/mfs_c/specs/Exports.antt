@@ -4,6 +4,7 @@ use mathlib.Core.Path.{_≡_}
 use mathlib.Core.List.{List, [], _∷_}
 use Prim.Native.Nat.{ℕ}
 use lib.ListN.{getD}
+use Rattle.wire.specs.Pick.{pick}
 use Rattle.model.specs.Answers.{Reply, accepted, refused}
 use Rattle.dir_entry.specs.Entry.{kindByte}
 use Rattle.file.specs.declared.Handle.{Handle}
@@ -13,6 +14,9 @@ use Rattle.file.specs.declared.ReadOut.{ReadOut}
 use Rattle.file.specs.declared.WriteOut.{WriteOut}
 use Rattle.file.specs.Post.{SoughtIs}
 use Rattle.file.specs.Written.{countedSays}
+use Rattle.call_room.specs.declared.Told.{Told}
+use Rattle.call_room.specs.declared.RoomOut.{RoomOut}
+use Rattle.call_room.specs.Room.{roomSays, Asks}
 use Rattle.call_volume.specs.declared.Answer.{Answer}
 use Rattle.call_volume.specs.declared.Space.{Space}
 use Rattle.call_read.specs.declared.OpenOut.{OpenOut}
@@ -64,6 +68,14 @@ pub record UsesC (K : ℕ) (I : List ℕ) (size used free c size' used' free' : 
   pub sizes : size' ≡ outOf (spaceSays answer) (λ (s : Sizes). s .size) size
   pub useds : used' ≡ outOf (spaceSays answer) (λ (s : Sizes). s .used) used
   pub frees : free' ≡ outOf (spaceSays answer) (λ (s : Sizes). s .free) free
+
+-- yes is 1, no is 0
+pub record AsksC (K : ℕ) (I : List ℕ) (k enough bytes c enough' bytes' : ℕ) : Type 0 where
+  pub answer : RoomOut
+  pub call : Asks K I k answer
+  pub code : c ≡ told (roomSays answer)
+  pub enoughs : enough' ≡ outOf (roomSays answer) (λ (t : Told). pick (t .enough) 1 0) enough
+  pub reads : bytes' ≡ outOf (roomSays answer) (λ (t : Told). t .bytes) bytes
 
 pub record ChecksC (K : ℕ) (I W : List ℕ) (c : ℕ) (Z : List ℕ) : Type 0 where
   pub answer : Answer

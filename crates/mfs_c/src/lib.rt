@@ -3,6 +3,7 @@
 use block::Addr;
 use call_read::Listing;
 use call_read::OpenOut;
+use call_room::RoomOut;
 use call_volume::Answer;
 use call_volume::Space;
 use file::Counted;
@@ -11,12 +12,13 @@ use file::Outcome;
 use file::SeekFrom;
 use limits::Refusal;
 ghost use mathlib.Core.Path.{_≡_};
+ghost use Rattle.wire.specs.Pick.{pick};
 ghost use Rattle.limits.specs.Refusals.{refusalNumber};
 ghost use Rattle.file.specs.declared.SeekFrom.the-variants as from;
 ghost use Rattle.file.specs.Written.{countedSays};
 ghost use Rattle.call_volume.specs.Says.{says};
 ghost use Rattle.call_read.specs.Reading.{openSays};
-ghost use Rattle.mfs_c.specs.Exports.{abiVersion, told, handleOf, numbersOf, FormatsC, UsesC, ChecksC, HandleOut, OpensC, InformsC, ListsC, CountOut, ReadsC, SeeksC, CreatesFileC, CreatesDirC, DeletesC, WritesC};
+ghost use Rattle.mfs_c.specs.Exports.{abiVersion, told, handleOf, numbersOf, FormatsC, UsesC, ChecksC, HandleOut, OpensC, InformsC, ListsC, CountOut, ReadsC, SeeksC, CreatesFileC, CreatesDirC, DeletesC, WritesC, AsksC};
 
 // The version of these exports, for callers that were compiled against another one to find out.
 #[no_mangle]
@@ -128,6 +130,35 @@ pub extern "C" fn mfs_c_usage(
             *size = s;
             *used = u;
             *free = f;
+            0
+        }
+    }
+}
+
+// Yes is 1, no is 0.
+fn flag(b: bool) -> u32
+    ensures { λ c. ⌜ c ≡ pick b 1 0 ⌝ }
+{
+    if b { 1 } else { 0 }
+}
+
+// Whether so many blocks are free, and the bytes of the bitmap that were read to tell. Refusals: 1, 2, 3.
+#[no_mangle]
+pub extern "C" fn mfs_c_room(
+    img: &[u8],
+    k: u32,
+    count: u32,
+    enough: &mut u32,
+    bytes: &mut u32,
+) -> u32
+    ensures { λ c. ⌜ AsksC k (now (img .entry)) count (now (enough .entry)) (now (bytes .entry)) c (now (enough .exit)) (now (bytes .exit)) ⌝ }
+{
+    let known = mfs::room(img, k, count);
+    match known {
+        RoomOut::Refused(r) => code(r),
+        RoomOut::Known(t) => {
+            *enough = flag(t.enough);
+            *bytes = t.bytes;
             0
         }
     }

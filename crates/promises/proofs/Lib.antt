@@ -14,6 +14,7 @@ pub mod Creates
 pub mod Handles
 pub mod Rooms
 pub mod Refusals
+pub mod Room
 pub mod Well
 pub mod Reopened
 pub mod Done

@@ -12,6 +12,7 @@ use Rattle.call_volume.specs.Says.{IfRefused}
 use Rattle.call_read.specs.Reading.{Counts, noHandle, noAbout, aboutOf, onReply, size, area, end, recordsOn, readCall}
 use Rattle.file.specs.File.{bytesRead}
 use Rattle.path.specs.Path.{realPath}
+use Rattle.call_room.proofs.Means.{room-one}
 use Rattle.mfs.proofs.Outcomes.{format-one, usage-one, open-one, info-one, list-one, read-one, seek-one, create-file-one}
 use Rattle.mfs.proofs.Outcomes.{create-dir-one, delete-one, write-one}
 use Rattle.call_volume.proofs.Checked.{check-one}
@@ -25,6 +26,7 @@ one-outcome =
     record {
       formats = format-one;
       uses = usage-one;
+      asks = room-one;
       checks = check-one;
       opens = open-one;
       informs = info-one;

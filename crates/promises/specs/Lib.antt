@@ -3,6 +3,7 @@ pub mod Sequence
 pub mod Counter
 pub mod Honest
 pub mod Refusals
+pub mod Room
 pub mod Work
 pub mod EitherOrder
 pub mod Exact

@@ -11,6 +11,8 @@ use Rattle.file.specs.declared.ReadOut.{ReadOut}
 use Rattle.file.specs.declared.WriteOut.{WriteOut}
 use Rattle.file.specs.Post.{SoughtIs}
 use Rattle.file.specs.Written.{countedSays}
+use Rattle.call_room.specs.declared.RoomOut.{RoomOut}
+use Rattle.call_room.specs.Room.{Asks}
 use Rattle.call_volume.specs.declared.Answer.{Answer}
 use Rattle.call_volume.specs.declared.Space.{Space}
 use Rattle.call_read.specs.declared.OpenOut.{OpenOut}
@@ -27,6 +29,7 @@ use Rattle.call_change.specs.Changing.{CreatesFile, CreatesDir, Deletes, Writes
 pub record OneOutcome : Type 0 where
   pub formats : (K : ℕ) (I : List ℕ) (r q : Answer) (J L : List ℕ) → Formats K I r J → Formats K I q L → (r ≡ q) × (J ≡ L)
   pub uses : (K : ℕ) (I : List ℕ) (r q : Space) → Uses K I r → Uses K I q → r ≡ q
+  pub asks : (K : ℕ) (I : List ℕ) (k : ℕ) (r q : RoomOut) → Asks K I k r → Asks K I k q → r ≡ q
   pub checks : (K : ℕ) (I W Z Y : List ℕ) (r q : Answer) → Checks K I W r Z → Checks K I W q Y → (r ≡ q) × (Z ≡ Y)
   pub opens : (K : ℕ) (I cwd p : List ℕ) (r q : OpenOut) → Opens K I cwd p r → Opens K I cwd p q → r ≡ q
   pub informs : (K : ℕ) (I cwd p : List ℕ) (r q : InfoOut) → Informs K I cwd p r → Informs K I cwd p q → r ≡ q
@@ -45,8 +48,8 @@ pub record OneOutcome : Type 0 where
       → Writes K I W h buf time r J Z → Writes K I W h buf time q L Y → (r ≡ q) × (J ≡ L) × (Z ≡ Y)
 
 -- D1, a refused call, whatever its number j: image, handle and read buffer are as they were, and the work buffer ends as C3 says.
--- I is the image before and J after, W the work buffer before and Z after. (Usage, open, info, list, read, seek and the check
--- cannot write the image. By H6 a refused open or create_file answers the empty handle, and info the empty entry.)
+-- I is the image before and J after, W the work buffer before and Z after. (Usage, room, open, info, list, read, seek and the
+-- check cannot write the image. By H6 a refused open or create_file answers the empty handle, and info the empty entry.)
 pub record RefusalKeeps : Type 0 where
   pub formats : (K : ℕ) (I J : List ℕ) (r : Answer) (j : ℕ) → Formats K I r J → says r ≡ refused j → J ≡ I
   pub checks : (K : ℕ) (I W Z : List ℕ) (r : Answer) (j : ℕ) → Checks K I W r Z → says r ≡ refused j → Z ≡ workAfter K I W

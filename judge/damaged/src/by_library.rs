@@ -2,7 +2,7 @@
 use crate::case::{Answer, Call, Case, Values};
 use crate::guard::{self, Area, Guarded};
 use mfs::raw;
-use model::{Handle, Listed, SeekFrom, Usage, NAME_LEN};
+use model::{Handle, Listed, Room, SeekFrom, Usage, NAME_LEN};
 
 /// The buffers of a call; after the call they hold what it left.
 pub struct Library {
@@ -68,6 +68,22 @@ impl Library {
         unsafe { raw::mfs_c_check(self.image.ptr(), self.image.len(), k, self.work.ptr(), self.work.len()) }
     }
 
+    /// Asks for room once more. Of the image only the bytes up to `end` are there, and a guard page right after them; its length is
+    /// told whole.
+    pub fn room_before(&mut self, case: &Case, count: u32, end: usize) -> Answer {
+        self.image.place(&case.image[..end], Guarded::End);
+        for out in &mut self.outs[..2] {
+            out.place(&[UNTOUCHED; 4], Guarded::End);
+        }
+        guard::start_clock();
+        match unsafe {
+            raw::mfs_c_room(self.image.ptr(), case.image.len(), case.k, count, self.outs[0].ptr(), self.outs[1].ptr())
+        } {
+            0 => Ok(self.answered_room()),
+            refusal => Err(refusal),
+        }
+    }
+
     /// A handle is given to some calls and answered by others.
     fn place_handle(&mut self, case: &Case, guarded: Guarded) {
         if answers_handle(case.call) || case.call == Call::Info {
@@ -91,6 +107,7 @@ impl Library {
         match case.call {
             Call::Format => raw::mfs_c_format(img, img_len, k),
             Call::Usage => raw::mfs_c_usage(img, img_len, k, a.ptr(), b.ptr(), c.ptr()),
+            Call::Room(count) => raw::mfs_c_room(img, img_len, k, count, a.ptr(), b.ptr()),
             Call::Check => raw::mfs_c_check(img, img_len, k, work, work_len),
             Call::Open => raw::mfs_c_open(img, img_len, k, cwd, cwd_len, path, path_len, number, name, self.len.ptr()),
             Call::Info => {
@@ -128,11 +145,20 @@ impl Library {
     fn values(&self, call: Call) -> Values {
         match call {
             Call::Usage => Values::Usage(Usage { size: self.out(0), used: self.out(1), free: self.out(2) }),
+            Call::Room(_) => self.answered_room(),
             Call::Open | Call::CreateFile => Values::Handle(self.answered_handle()),
             Call::Info => self.answered_info(),
             Call::List => Values::Listed(Listed { bytes: self.out(0) as usize, next: self.out(1) as u32 }),
             Call::Read | Call::Write => Values::Bytes(self.out(0) as usize),
             Call::Format | Call::Check | Call::Seek(_) | Call::CreateDir | Call::Delete => Values::None,
+        }
+    }
+
+    /// Neither yes nor no is a difference from every answer of the model.
+    fn answered_room(&self) -> Values {
+        match self.out(0) {
+            flag @ 0..=1 => Values::Room(Room { enough: flag == 1, bytes: self.out(1) as u32 }),
+            _ => Values::None,
         }
     }
 
@@ -199,6 +225,7 @@ fn answers_handle(call: Call) -> bool {
 fn out_sizes(call: Call) -> [usize; 3] {
     match call {
         Call::Usage => [8, 8, 8],
+        Call::Room(_) => [4, 4, 0],
         Call::Info => [1, 4, 8],
         Call::List => [size_of::<usize>(), 4, 0],
         Call::Read | Call::Write => [size_of::<usize>(), 0, 0],

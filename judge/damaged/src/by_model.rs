@@ -43,6 +43,7 @@ pub fn look(case: &Case, image: &[u8], handle: &mut Handle, buf: &mut [u8], work
     let Case { k, cwd, path, from, .. } = case;
     let answer = match case.call {
         Call::Usage => model::usage(image, *k).map(Values::Usage),
+        Call::Room(count) => model::room(image, *k, count).map(Values::Room),
         Call::Check => model::check(image, *k, work).map(|()| Values::None),
         Call::Open => model::open(image, *k, cwd, path).map(Values::Handle),
         Call::Info => model::info(image, *k, cwd, path).map(info_values),

@@ -1,11 +1,13 @@
 //! A call with everything it is given, and what it answers.
-use model::{Handle, Listed, SeekFrom, Usage, NAME_LEN};
+use model::{Handle, Listed, Room, SeekFrom, Usage, NAME_LEN};
 use std::fmt;
 
 #[derive(Clone, Copy, Debug, PartialEq, Eq)]
 pub enum Call {
     Format,
     Usage,
+    /// For so many blocks.
+    Room(u32),
     Check,
     Open,
     Info,
@@ -40,6 +42,7 @@ pub struct Case {
 pub enum Values {
     None,
     Usage(Usage),
+    Room(Room),
     Handle(Handle),
     Info { kind: u8, size: u32, time: u64, name: [u8; NAME_LEN], len: usize },
     Listed(Listed),
@@ -60,6 +63,7 @@ pub fn show(answer: &Answer) -> String {
         Ok(Values::None) => "success".to_string(),
         Ok(Values::Bytes(count)) => format!("{count} bytes"),
         Ok(Values::Usage(usage)) => format!("{usage:?}"),
+        Ok(Values::Room(room)) => format!("{room:?}"),
         Ok(Values::Listed(listed)) => format!("{listed:?}"),
         Ok(Values::Handle(Handle { dir, addr, size, position, name, len })) => {
             format!("dir {dir}, addr {addr}, size {size}, position {position}, name length {len}, \"{}\"", text(name))
@@ -72,7 +76,7 @@ pub fn show(answer: &Answer) -> String {
 
 impl Call {
     /// All calls, by name, and the numbers of the refusals that the rules give each.
-    pub const TABLE: [(&'static str, &'static [u32]); 12] = [
+    pub const TABLE: [(&'static str, &'static [u32]); 13] = [
         ("format", &[1, 3]),
         ("usage", &[1, 2, 3, 17]),
         ("check", &[1, 2, 3, 16, 17]),
@@ -85,6 +89,7 @@ impl Call {
         ("create_dir", &[1, 2, 3, 4, 5, 6, 7, 8, 9, 15, 16, 17]),
         ("delete", &[1, 2, 3, 4, 5, 6, 14, 16, 17]),
         ("write", &[1, 2, 3, 9, 10, 11, 13, 16, 17]),
+        ("room", &[1, 2, 3]),
     ];
 
     /// The call's row of the table.
@@ -102,6 +107,7 @@ impl Call {
             Call::CreateDir => 9,
             Call::Delete => 10,
             Call::Write => 11,
+            Call::Room(_) => 12,
         }
     }
 
@@ -139,6 +145,9 @@ impl fmt::Display for Case {
             writeln!(f, "  K       {}", self.k)?;
             write!(f, "  image   {} bytes", self.image.len())?;
             write_runs(f, &self.image)?;
+        }
+        if let Call::Room(count) = self.call {
+            writeln!(f, "  count   {count}")?;
         }
         if self.call.takes_path() {
             writeln!(f, "  cwd     {} bytes, \"{}\"", self.cwd.len(), self.cwd.escape_ascii())?;

@@ -33,7 +33,8 @@ fn draw_call(scene: &Scene, rng: &mut Rng) -> Call {
     let calls = if scene.well_formed { 100 } else { 76 };
     match rng.below(calls) {
         0 if !scene.well_formed || rng.one_in(3) => Call::Format,
-        0..=4 => Call::Usage,
+        0..=2 => Call::Usage,
+        3..=4 => Call::Room(draw_count(scene, rng)),
         5..=12 => Call::Check,
         13..=23 => Call::Open,
         24..=33 => Call::Info,
@@ -44,6 +45,18 @@ fn draw_call(scene: &Scene, rng: &mut Rng) -> Call {
         66..=68 | 83..=87 => Call::CreateDir,
         69..=71 | 88..=93 => Call::Delete,
         _ => Call::Write,
+    }
+}
+
+/// None, one, as many as are free and one more, and any number.
+fn draw_count(scene: &Scene, rng: &mut Rng) -> u32 {
+    let whole = |geometry: &volumes::Geometry| geometry.data() as usize * BLOCK_SIZE <= scene.image.len();
+    let all = scene.geometry().filter(whole).map_or(0, |geometry| geometry.free_in_reach(&scene.image).count() as u32);
+    match rng.below(4) {
+        0 => *rng.pick(&[0, 1, u32::MAX]),
+        1 => *rng.pick(&[all, all + 1, all.saturating_sub(1)]),
+        2 => rng.below(u64::from(all) + 2) as u32,
+        _ => *rng.pick(&[2, 7, 8, 9, 63, 64, 65, 66, 127, 128, 129, 200]),
     }
 }
 

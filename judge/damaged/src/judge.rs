@@ -1,8 +1,9 @@
 //! A case on both sides: the same answer and the same bytes, and what must hold whatever the answer is.
 use crate::by_library::{number_bytes, Library};
 use crate::by_model::{self, Outcome};
-use crate::case::{show, Answer, Case};
+use crate::case::{show, Answer, Call, Case, Values};
 use crate::guard::Guarded;
+use model::BLOCK_SIZE;
 
 /// The outcome that both sides agree on, or what is wrong.
 pub fn judge(case: &Case, guarded: Guarded, library: &mut Library) -> Result<Outcome, String> {
@@ -10,6 +11,9 @@ pub fn judge(case: &Case, guarded: Guarded, library: &mut Library) -> Result<Out
     let answer = library.run(case, guarded);
     compare(&expected, &answer, case, library)?;
     look_from_outside(&answer, case, library)?;
+    if let (Call::Room(count), Ok(Values::Room(room))) = (case.call, &answer) {
+        read_no_further(case, count, room.bytes, &answer, library)?;
+    }
     if answer.is_ok() && case.call.changes_the_image() {
         let refusal = library.check_again(case.k, guarded);
         if refusal != 0 {
@@ -49,6 +53,16 @@ fn look_from_outside(answer: &Answer, case: &Case, library: &Library) -> Result<
         if library.image.bytes() != case.image || library.buf.bytes() != case.buf || handle_changed {
             return Err("a refused call changed the image, the buffer or the handle".to_string());
         }
+    }
+    Ok(())
+}
+
+/// Room reads no byte after the bytes of the bitmap that it names: a guard page stands there.
+fn read_no_further(case: &Case, count: u32, bytes: u32, answer: &Answer, library: &mut Library) -> Result<(), String> {
+    let end = BLOCK_SIZE * (case.k as usize + 2) + bytes as usize;
+    let again = library.room_before(case, count, end);
+    if again != *answer {
+        return Err(format!("the library answers {}, and without the bytes behind {}", show(answer), show(&again)));
     }
     Ok(())
 }

@@ -9,6 +9,7 @@ mod guard;
 mod handles;
 mod judge;
 mod paths;
+mod rooms;
 mod scene;
 mod shrink;
 mod tally;
@@ -52,6 +53,7 @@ fn main() {
         play(&options, round, &mut library, &mut tally);
         round += 1;
     }
+    rooms::compare(&mut library, &mut tally);
     println!("{round} rounds done; now images and buffers of some GiB");
     vast::compare(&mut library, &mut tally);
     println!("{tally}");

@@ -27,6 +27,8 @@ fn largest_images(library: &mut Library, tally: &mut Tally) {
         Call::Check,
         Call::CreateFile,
         Call::Write,
+        Call::Room(1),
+        Call::Room(u32::MAX),
         Call::Open,
         Call::CreateDir,
         Call::Delete,
@@ -66,7 +68,7 @@ fn longest_buffers(library: &mut Library, tally: &mut Tally) {
     }
 }
 
-fn empty_case(call: Call) -> Case {
+pub fn empty_case(call: Call) -> Case {
     let handle = Handle { dir: 0, addr: 0, size: 0, position: 0, name: [0; NAME_LEN], len: 0 };
     let none = Vec::new;
     Case { call, image: none(), k: K, cwd: none(), path: none(), from: 0, time: 1, handle, buf: none(), work: none() }

@@ -1,4 +1,4 @@
-//! The calls (C1 to C12), each with its refusals in order (O1 to O12).
+//! The calls (C1 to C12 and C18), each with its refusals in order (O1 to O12).
 use crate::check::{file_blocks, well_formed, MAX_DEPTH, MAX_FILE};
 use crate::directory::{self, Entry, Kind, Opened, HEADER, LAST_END};
 use crate::path::{full_path, pieces, split};
@@ -25,6 +25,12 @@ pub struct Usage {
     pub size: u64,
     pub used: u64,
     pub free: u64,
+}
+
+#[derive(Clone, Copy, Debug, PartialEq, Eq)]
+pub struct Room {
+    pub enough: bool,
+    pub bytes: u32,
 }
 
 /// The name's array has zeros after the name.
@@ -106,6 +112,18 @@ pub fn usage(image: &[u8], k: u32) -> Answer<Usage> {
     }
     let bytes = |blocks: usize| (blocks * BLOCK_SIZE) as u64;
     Ok(Usage { size: bytes(geo.n), used: bytes(used), free: bytes(geo.n - used) })
+}
+
+/// C18: the bytes that hold bits in reach, in order, up to the one in which the last clear bit asked for is found. Bits outside
+/// the reach don't count.
+pub fn room(image: &[u8], k: u32, count: u32) -> Answer<Room> {
+    let geo = volume::volume(image, k)?;
+    let (mut found, mut bytes) = (0, 0);
+    while found < count as usize && 8 * bytes < geo.reach() {
+        found += (8 * bytes..geo.reach().min(8 * bytes + 8)).filter(|&x| !volume::is_set(image, geo, x)).count();
+        bytes += 1;
+    }
+    Ok(Room { enough: found >= count as usize, bytes: bytes as u32 })
 }
 
 /// C3, O4.

@@ -10,8 +10,8 @@ mod path;
 mod tests;
 mod volume;
 
-pub use calls::{check, create_dir, create_file, delete, format, info, list, open, read, seek, usage, write};
-pub use calls::{Handle, Info, Listed, SeekFrom, Usage, NAME_LEN};
+pub use calls::{check, create_dir, create_file, delete, format, info, list, open, read, room, seek, usage, write};
+pub use calls::{Handle, Info, Listed, Room, SeekFrom, Usage, NAME_LEN};
 pub use directory::Kind;
 pub use volume::{Geometry, BLOCK_SIZE, MAX_BLOCKS};
 

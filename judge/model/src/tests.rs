@@ -255,3 +255,30 @@ fn text_is_what_the_standard_library_takes_without_controls() {
         }
     }
 }
+
+/// Volumes whose reach is 0, whole bytes, and one that ends inside a byte; bitmaps at random.
+#[test]
+fn room_is_the_full_count_by_the_fewest_bytes() {
+    let mut seed: u32 = 1;
+    for blocks in [128, 4096, 4107, 8192] {
+        let mut image = vec![0; blocks * 512];
+        format(&mut image, K).unwrap();
+        let geo = volume::volume(&image, K).unwrap();
+        let bitmap = 512 * geo.a()..512 * geo.d();
+        for byte in &mut image[bitmap] {
+            seed = seed.wrapping_mul(1_664_525).wrapping_add(1_013_904_223);
+            *byte = (seed >> 24) as u8 | (seed >> 16) as u8;
+        }
+        let clear: Vec<usize> = (0..geo.reach()).filter(|&x| !volume::is_set(&image, geo, x)).collect();
+        for count in 0..=clear.len() {
+            let bytes = if count == 0 { 0 } else { clear[count - 1] / 8 + 1 };
+            assert_eq!(room(&image, K, count as u32), Ok(Room { enough: true, bytes: bytes as u32 }));
+        }
+        let all = geo.reach().div_ceil(8) as u32;
+        for count in [clear.len() as u32 + 1, u32::MAX] {
+            assert_eq!(room(&image, K, count), Ok(Room { enough: false, bytes: all }));
+        }
+    }
+    assert_eq!(room(&[], K, 0), Err(Refusal::BadImage));
+    assert_eq!(room(&[0; 512 * 128], K, 0), Err(Refusal::NotMfs));
+}

@@ -50,6 +50,20 @@ fn df_tells_what_is_free_and_what_is_in_reach() {
 }
 
 #[test]
+fn room_says_whether_and_by_how_many_bytes() {
+    let bench = Bench::with_street();
+    // The first eight of 4,096 blocks are taken.
+    for (count, told) in [
+        ("0", "yes: 0 blocks in reach (0 bytes of the bitmap read)\n"),
+        ("1", "yes: 1 block in reach (2 bytes of the bitmap read)\n"),
+        ("4088", "yes: 4088 blocks in reach (512 bytes of the bitmap read)\n"),
+        ("4089", "no: fewer than 4089 blocks in reach (512 bytes of the bitmap read)\n"),
+    ] {
+        assert_eq!(bench.ok(&["room", "card.img", count]), told);
+    }
+}
+
+#[test]
 fn cat_writes_the_bytes() {
     let bench = Bench::with_street();
     assert_eq!(bench.ok(&["cat", "card.img", "/street/water", "street/water/"]), "00000041\n00000041\n");
@@ -236,7 +250,7 @@ fn help_speaks_of_every_command() {
     let overview = bench.ok(&["help"]);
     assert_eq!(bench.ok(&["--help"]), overview);
     let commands: Vec<&str> = overview.lines().skip(3).take_while(|line| !line.is_empty()).collect();
-    assert_eq!(commands.len(), 15);
+    assert_eq!(commands.len(), 16);
     for line in commands {
         let name = line.split_whitespace().next().expect("a name");
         let about = bench.ok(&["help", name]);

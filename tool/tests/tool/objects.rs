@@ -145,6 +145,8 @@ fn numbers_of_the_volume_are_raw() {
     let df = object(bench.ok(&["--json", "df", "card.img"]).trim_end());
     assert_eq!((number(&df, "size"), number(&df, "used")), (4200 * 512, 20 * 512));
     assert_eq!((number(&df, "free"), number(&df, "blocks_in_reach")), (4180 * 512, 4088));
+    let room = object(bench.ok(&["--json", "room", "card.img", "9"]).trim_end());
+    assert_eq!((number(&room, "blocks"), &room["enough"], number(&room, "bytes_read")), (9, &Value::Flag(true), 3));
     let info = object(bench.ok(&["--json", "info", "card.img"]).trim_end());
     assert_eq!((number(&info, "data"), number(&info, "reach"), number(&info, "superblock")), (12, 4096, 8));
     let superblock = object(bench.ok(&["--json", "dump", "card.img", "superblock"]).trim_end());

@@ -215,9 +215,9 @@ fn a_command_line_that_makes_no_sense() {
     let cases: [(&[&str], &str); 14] = [
         (&[], "mfs: which command?"),
         (&["lss", "card.img"], "mfs: there is no command 'lss'"),
-        (&["room", "card.img", "5"], "mfs: there is no command 'room'"),
         (&["ls"], "mfs ls: too few words: it is used as 'mfs ls [-l] [-R] IMAGE [PATH...]'"),
         (&["df", "card.img", "x"], "mfs df: too many words: it is used as 'mfs df IMAGE'"),
+        (&["room", "card.img", "few"], "mfs room: 'few' is no number of blocks"),
         (&["ls", "--blocks", "5", "card.img"], "mfs ls: there is no option --blocks here"),
         (&["ls", "-x", "card.img"], "mfs ls: there is no option -x here"),
         (&["ls", "-k", "eight", "card.img"], "mfs ls: -k wants a number, not 'eight'"),
