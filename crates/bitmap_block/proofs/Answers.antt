@@ -5,15 +5,14 @@ use Prim.Native.Nat.{ℕ, suc, _+_, _-_, _*_, _/_, _≤_, _<_}
 use native.Mathlib.Decide.{decLt}
 use native.Mathlib.Omega.{arith}
 use lib.ListN.{length, getD, drop}
-use Rattle.bits.specs.Bit.{bit, ones, AllSet}
+use Rattle.bits.specs.Bit.{bit, AllSet}
 use Rattle.bits.specs.Find.{Lowest}
 use Rattle.bits.specs.declared.Found.{Found}
 use Rattle.bits.specs.declared.Found.the-variants.{At, Nothing}
-use Rattle.bits.proofs.Bits.{ones-le}
 use Rattle.block.specs.Block.{zeroed}
 use Rattle.model.specs.Geometry.{blockSize, mapAt, dataAt, reach, usedCount}
 use Rattle.model.specs.Calls.{clearFrom}
-use Rattle.model.proofs.Free.{LowestClear, lowest-clear, clear-lowest, clear-count}
+use Rattle.model.proofs.Free.{LowestClear, lowest-clear, clear-lowest}
 use Rattle.super_block.specs.declared.SuperBlock.{SuperBlock}
 use Rattle.super_block.specs.Super.{geoOf, Fit}
 use Rattle.super_block.proofs.Fits.{placed, fit-long}
@@ -26,7 +25,7 @@ reach-few f = let p = placed f in omega arith
 
 module _ {s : SuperBlock} {I : List ℕ} {at : ℕ} (f : Fit s I) (e : at ≡ 512 * s .bitmap .0) where
   -- the bitmap begins where the definitions have it
-  from-is : at ≡ blockSize (geoOf s) * mapAt (geoOf s)
+  pub from-is : at ≡ blockSize (geoOf s) * mapAt (geoOf s)
   from-is = e ∙ ap (λ (a : ℕ). 512 * a) (f .bitmap)
 
   -- the byte of an index in the data
@@ -86,17 +85,6 @@ module _ {s : SuperBlock} {I : List ℕ} {at : ℕ} (f : Fit s I) (e : at ≡ 51
       go : (x : ℕ) → x < s .reach → bit I at x ≡ 0 → Dec (x < y) → y ≤ s .reach
       go x p z (yes l) = absurd (omega (arith, hint a x (omega arith) l))
       go x p z (no l) = omega arith
-
-  -- how many are clear
-  pub set-few : {r : ℕ} → r ≡ ones I at (s .reach) → r ≤ s .reach
-  set-few q = omega (arith, ones-le I at (s .reach))
-
-  pub clear-many : {r : ℕ} → r ≡ ones I at (s .reach) → s .reach - r ≡ length (clears (geoOf s) I)
-  unfolding clears mark
-  clear-many {r} q =
-      let g = geoOf s in
-      let a : r ≡ ones I (blockSize g * mapAt g) (reach g) = q ∙ ap (λ (z : ℕ). ones I z (s .reach)) from-is ∙ ap (ones I (blockSize g * mapAt g)) (f .reach) in
-      omega (arith, clear-count I (blockSize g * mapAt g) (dataAt g) (reach g), f .reach)
 
 -- ---- between the stores
 

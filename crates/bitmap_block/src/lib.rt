@@ -104,14 +104,3 @@ pub fn alloc(img: &mut [u8], s: SuperBlock, from: Index) -> Index
     take(img, s, x);
     x
 }
-
-// How many indexes in reach are clear.
-pub fn count_free(img: &[u8], s: SuperBlock) -> u32
-    requires { ⌜ Fit s (now img) ⌝ }
-    ensures { λ r. ⌜ r ≡ length (clears (geoOf s) (now (img .entry))) ⌝ }
-{
-    let a = s.bitmap;
-    let from = block::offset(a);
-    let reach = s.reach;
-    reach - bits::count(img, from, reach)
-}

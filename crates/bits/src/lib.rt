@@ -75,7 +75,7 @@ pub fn lowest_clear(s: &[u8], from: usize, start: u32, limit: u32) -> Found
 }
 
 // The ones of the eight bytes at `at`, counted together.
-fn word_ones(s: &[u8], at: usize) -> u32
+pub fn word_ones(s: &[u8], at: usize) -> u32
     requires { ⌜ at + 8 ≤ length (now s) ⌝ }
     ensures { λ r. ⌜ (r ≡ ones (now (s .entry)) at 64) × (r ≤ 64) ⌝ }
 {
@@ -83,7 +83,7 @@ fn word_ones(s: &[u8], at: usize) -> u32
 }
 
 // The ones of one byte.
-fn byte_ones(s: &[u8], at: usize) -> u32
+pub fn byte_ones(s: &[u8], at: usize) -> u32
     requires { ⌜ at < length (now s) ⌝ }
     ensures { λ r. ⌜ (r ≡ ones (now (s .entry)) at 8) × (r ≤ 8) ⌝ }
 {

@@ -1,2 +1,2 @@
-pub mod Clear
+pub mod Answers
 pub mod Means

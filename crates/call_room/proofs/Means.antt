@@ -9,17 +9,17 @@ use native.Mathlib.Omega.{arith}
 use lib.Dec.{leb}
 use lib.ListN.{length}
 use borrow.Author.Tests.{leb-true, leb-false, le-leb}
-use Rattle.model.specs.Geometry.{Geo, geoAt, blockSize, mapAt, dataAt, reach, openRefusal}
+use Rattle.model.specs.Geometry.{geoAt, blockSize, mapAt, reach, openRefusal}
 use Rattle.model.proofs.Replies.{accepted-one, reply-none, reply-zero}
-use Rattle.model.proofs.Free.{clear-count}
 use Rattle.limits.specs.Refusals.{refusalNumber}
 use Rattle.limits.proofs.Numbers.{number-one}
-use Rattle.bitmap_block.specs.Bitmap.{mark, clears}
-use Rattle.call_room.specs.declared.Told.{Told}
+use Rattle.bitmap_block.specs.Bitmap.{clears}
+use Rattle.bitmap_room.specs.declared.Told.{Told}
 use Rattle.call_room.specs.declared.RoomOut.{RoomOut}
 use Rattle.call_room.specs.declared.RoomOut.the-variants.{Known, Refused}
-use Rattle.call_room.specs.Room.{clearIn, bytesRead, bytesFor, roomIn, roomSays, Asks}
-use Rattle.call_room.proofs.Clear.{clear-mono, clear-all, byte-read, byte-not, read-to}
+use Rattle.bitmap_room.specs.Search.{clearIn, bytesRead, bytesFor, roomIn}
+use Rattle.call_room.specs.Room.{roomSays, Asks}
+use Rattle.bitmap_room.proofs.Clear.{clear-mono, byte-read, byte-not, read-to, clear-reach}
 
 -- ---- the bytes read
 
@@ -63,13 +63,6 @@ module _ (l : List ℕ) (from limit k : ℕ) where
   reads-all n h = read-to l from limit k n (λ j q. omega (arith, clear-mono l from limit j n (omega arith)))
 
 -- ---- the answer
-
--- all bytes have all the clear indexes in reach
-clear-reach : (g : Geo) (I : List ℕ) → clearIn I (blockSize g * mapAt g) (reach g) (bytesFor (reach g)) ≡ length (clears g I)
-unfolding clears mark
-clear-reach g I =
-    let from : ℕ = blockSize g * mapAt g in
-    omega (arith, clear-all I from (reach g) (bytesFor (reach g)) (omega arith), clear-count I from (dataAt g) (reach g))
 
 module _ (K : ℕ) (I : List ℕ) (k : ℕ) (t : Told) (a : Asks K I k (Known t)) where
   -- it is that of the bitmap

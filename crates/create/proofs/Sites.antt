@@ -2,11 +2,11 @@
 use mathlib.Core.Path.{_≡_, refl, sym, ap, _∙_, subst}
 use mathlib.Core.Bool.{Bool, true, false, _&&_}
 use mathlib.Core.List.{List}
-use Prim.Native.Nat.{ℕ, zero, suc, _+_, _-_, _≤_, _<_}
+use Prim.Native.Nat.{ℕ, zero, suc, _+_, _-_, _≤_}
 use native.Mathlib.Omega.{arith}
 use lib.Dec.{ltb, leb, eqb}
 use lib.ListN.{length, take}
-use borrow.Author.Tests.{lt-ltb, le-ltb, eq-eqb, ne-eqb, leb-true, ltb-false, eqb-false}
+use borrow.Author.Tests.{eq-eqb, ne-eqb, leb-true, ltb-false, eqb-false}
 use Rattle.wire.proofs.Picks.{pick-case}
 use Rattle.model.specs.Answers.{Reply, accepted, refused, andThen, when, given}
 use Rattle.limits.specs.Refusals.{refusalNumber}
@@ -91,9 +91,10 @@ module _ (s : SuperBlock) (I : List ℕ) (p : Spot) (k : ℕ) (needs : k ≡ nee
       subst (SpotIn 512 (s .area .0) (s .blocks) len) (sym e)
       (spot-lies 512 (s .area .0) (s .blocks) I len (s .blocks - s .area .0) a (subst (λ (q : Spot). 1 ≤ needed q) e (omega arith)))
 
-  pub spot-room : (m : ℕ) → WellFormed (s .addr .0) I → s .blocks ≡ countAt (s .addr .0) I → m ≡ length (clears (geoOf s) I) → k ≤ m → Room (geoOf s) I (needed p)
-  spot-room m w e q h =
+  pub spot-room : (b : Bool) → WellFormed (s .addr .0) I → s .blocks ≡ countAt (s .addr .0) I → b ≡ ltb (length (clears (geoOf s) I)) k → b ≡ false → Room (geoOf s) I (needed p)
+  spot-room b w e q h =
       let v = well-volume s I w e in
+      let r = ltb-false (length (clears (geoOf s) I)) k (sym q ∙ h) in
       volume-room (geoOf s) I maxDepth (w .tree) v (needed p) (subst (λ (l : List ℕ). needed p ≤ length l) (volume-clears (geoOf s) I maxDepth (w .tree) v) (omega arith))
 
 -- ---- the site at a spot
@@ -116,20 +117,22 @@ module _ (s : SuperBlock) (I : List ℕ) (h : Holding) (p q : Spot) (k : ℕ) (e
   unfolding siteAt
   site-damaged z = sym (given-some 17 _ (omega arith) (spot-number q (omega (arith, ap needed e))))
 
-  module _ (m : ℕ) (some : k ≡ 0 → ⊥) (is : m ≡ length (clears (geoOf s) I)) where
+  module _ (b : Bool) (some : k ≡ 0 → ⊥) (is : b ≡ ltb (length (clears (geoOf s) I)) k) where
     at-spot : siteAt (geoOf s) I (holdOf h) q ≡ given (when 9 (noRoom (geoOf s) I (needed q))) told
     unfolding siteAt
     at-spot = given-none _ (spot-none q (λ z. some (omega (arith, ap needed e))))
 
-    pub site-full : m < k → refused 9 ≡ siteAt (geoOf s) I (holdOf h) q
+    lacks-it : b ≡ noRoom (geoOf s) I (needed q)
     unfolding noRoom
-    site-full l = sym (at-spot ∙ given-some 9 told (omega arith) (when-true 9 (lt-ltb (length (clears (geoOf s) I)) (needed q) (omega (arith, ap needed e)))))
+    lacks-it = is ∙ ap (ltb (length (clears (geoOf s) I))) (needs ∙ ap needed e)
 
-    pub site-free : k ≤ m → accepted (record { dir = h .dir .0; spot = p; own = h .own }) ≡ siteAt (geoOf s) I (holdOf h) q
-    unfolding noRoom
+    pub site-full : b ≡ true → refused 9 ≡ siteAt (geoOf s) I (holdOf h) q
+    site-full l = sym (at-spot ∙ given-some 9 told (omega arith) (when-true 9 (sym lacks-it ∙ l)))
+
+    pub site-free : b ≡ false → accepted (record { dir = h .dir .0; spot = p; own = h .own }) ≡ siteAt (geoOf s) I (holdOf h) q
     site-free enough =
         ap (λ (y : Spot). let z : Reply Site = accepted (record { dir = h .dir .0; spot = y; own = h .own }) in z) e
-        ∙ sym (at-spot ∙ given-none told (when-false 9 (le-ltb (length (clears (geoOf s) I)) (needed q) (omega (arith, ap needed e)))))
+        ∙ sym (at-spot ∙ given-none told (when-false 9 (sym lacks-it ∙ enough)))
 
 -- ---- the site in a directory
 

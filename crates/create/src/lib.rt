@@ -77,7 +77,7 @@ fn site_at(img: &[u8], s: SuperBlock, h: Holding, len: usize) -> Sited
     if needed == 0 {
         return Sited::Refused(Refusal::Damaged);
     }
-    if bitmap_block::count_free(img, s) < needed {
+    if bitmap_room::lacks(img, s, needed) {
         return Sited::Refused(Refusal::NoRoom);
     }
     Sited::At(spot)

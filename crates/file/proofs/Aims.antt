@@ -51,9 +51,9 @@ module _ (h : Handle) (len : ℕ) where
     unfolding noRoom blocksToAdd
     room-kept p = sym (le-ltb (length (clears (geoOf s) I)) (blocksFor 512 (h .position + len) - blocksFor 512 (h .size)) (omega arith))
 
-    pub room-counted : (k : ℕ) → k ≡ length (clears (geoOf s) I) → ltb k (new - old) ≡ noRoom (geoOf s) I h len
+    pub room-asked : (b : Bool) → b ≡ ltb (length (clears (geoOf s) I)) (new - old) → b ≡ noRoom (geoOf s) I h len
     unfolding noRoom blocksToAdd
-    room-counted k e = λ i. ltb (e i) (en i - eo i)
+    room-asked b e = e ∙ (λ i. ltb (length (clears (geoOf s) I)) (en i - eo i))
 
 -- ---- the directory
 

@@ -414,7 +414,7 @@ impl Handle {
         if new <= old {
             return false;
         }
-        bitmap_block::count_free(img, s) < new - old
+        bitmap_room::lacks(img, s, new - old)
     }
 
     // Refusals 10 and 9 of a write of len bytes to the file of entry e, which stands at p.

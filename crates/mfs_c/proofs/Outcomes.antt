@@ -11,7 +11,7 @@ use Rattle.file.specs.declared.ReadOut.{ReadOut}
 use Rattle.file.specs.declared.WriteOut.{WriteOut}
 use Rattle.file.specs.Written.{countedSays}
 use Rattle.wire.specs.Pick.{pick}
-use Rattle.call_room.specs.declared.Told.{Told}
+use Rattle.bitmap_room.specs.declared.Told.{Told}
 use Rattle.call_room.specs.Room.{roomSays}
 use Rattle.call_room.proofs.Means.{room-one}
 use Rattle.call_volume.specs.Says.{says, Sizes, spaceSays, soughtSays}

@@ -16,7 +16,7 @@ use Rattle.file.specs.declared.Counted.the-variants as counted
 use Rattle.file.specs.Post.{CountedIs}
 use Rattle.file.specs.Written.{countedSays}
 use Rattle.wire.specs.Pick.{pick}
-use Rattle.call_room.specs.declared.Told.{Told}
+use Rattle.bitmap_room.specs.declared.Told.{Told}
 use Rattle.call_room.specs.Room.{roomSays}
 use Rattle.call_volume.specs.declared.Answer.{Answer}
 use Rattle.call_volume.specs.declared.Answer.the-variants as answer

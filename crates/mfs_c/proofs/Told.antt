@@ -22,7 +22,7 @@ use Rattle.file.specs.declared.ReadOut.{ReadOut}
 use Rattle.file.specs.declared.WriteOut.{WriteOut}
 use Rattle.file.specs.Post.{SoughtIs}
 use Rattle.file.specs.Written.{countedSays}
-use Rattle.call_room.specs.declared.Told.{Told}
+use Rattle.bitmap_room.specs.declared.Told.{Told}
 use Rattle.call_room.specs.declared.RoomOut.{RoomOut}
 use Rattle.call_room.specs.declared.RoomOut.the-variants as room
 use Rattle.call_room.specs.Room.{Asks}

@@ -13,10 +13,11 @@ use Rattle.model.proofs.OneVolume.{well-formed-geo}
 use Rattle.limits.specs.Refusals.{refusalNumber}
 use Rattle.bitmap_block.specs.Bitmap.{clears}
 use Rattle.bitmap_block.proofs.Stores.{volume-clears}
-use Rattle.call_room.specs.declared.Told.{Told}
+use Rattle.bitmap_room.specs.declared.Told.{Told}
 use Rattle.call_room.specs.declared.RoomOut.{RoomOut}
 use Rattle.call_room.specs.declared.RoomOut.the-variants.{Known, Refused}
-use Rattle.call_room.specs.Room.{roomIn, Asks}
+use Rattle.bitmap_room.specs.Search.{roomIn}
+use Rattle.call_room.specs.Room.{Asks}
 use Rattle.call_room.proofs.Means.{room-enough, room-fewest, room-all}
 use Rattle.promises.specs.Room.{RoomIsTold}
 

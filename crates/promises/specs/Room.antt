@@ -10,10 +10,11 @@ use Rattle.model.specs.Geometry.{blockSize, mapAt, reach, geoAt, openRefusal}
 use Rattle.model.specs.Volume.{WellFormed, maxDepth}
 use Rattle.model.specs.Calls.{freeBlocks}
 use Rattle.bitmap_block.specs.Bitmap.{clears}
-use Rattle.call_room.specs.declared.Told.{Told}
+use Rattle.bitmap_room.specs.declared.Told.{Told}
 use Rattle.call_room.specs.declared.RoomOut.{RoomOut}
 use Rattle.call_room.specs.declared.RoomOut.the-variants.{Known}
-use Rattle.call_room.specs.Room.{clearIn, bytesFor, roomSays, Asks}
+use Rattle.bitmap_room.specs.Search.{clearIn, bytesFor}
+use Rattle.call_room.specs.Room.{roomSays, Asks}
 
 -- how many of the clear indexes in reach have their bits in the first m bytes of the bitmap
 abbrev pub held : ℕ → List ℕ → ℕ → ℕ

@@ -1,10 +1,10 @@
-use Rattle.call_room.proofs.Clear.{room-opened, room-refused, room-known}
+use Rattle.call_room.proofs.Answers.{room-opened, room-refused, room-known}
 use borrow.Author.Needs.{needs}
 use Rattle.call_room.proofs.room.Statement.{statement}
 use Rattle.call_room.proofs.room.Tie as tie
 use Rattle.call_room.proofs.room.Reads as reads
 use Rattle.call_room.proofs.room.Lts as lts
-use Rattle.call_room.proofs.room_in.Reads as room-in-reads
+use Rattle.bitmap_room.proofs.room_in.Reads as room-in-reads
 use Rattle.super_block.proofs.SuperBlock.read.Reads as read-reads
 
 -- src/lib.rt:138:9

@@ -4,7 +4,7 @@ use Rattle.create.proofs.site_at.Statement.{statement}
 use Rattle.create.proofs.site_at.Tie as tie
 use Rattle.create.proofs.site_at.Reads as reads
 use Rattle.create.proofs.site_at.Lts as lts
-use Rattle.bitmap_block.proofs.count_free.Reads as count-free-reads
+use Rattle.bitmap_room.proofs.lacks.Reads as lacks-reads
 use Rattle.create_store.proofs.blocks_needed.Reads as blocks-needed-reads
 use Rattle.create_store.proofs.spot_for.Reads as spot-for-reads
 
@@ -17,8 +17,8 @@ blocks-needed-requires c κs = search needs
 returns : tie.Need-returns
 returns c = (search site-damaged, tt)
 
-count-free-requires : tie.Need-count-free-requires
-count-free-requires c κs = search needs
+lacks-requires : tie.Need-lacks-requires
+lacks-requires c κs = search needs
 
 returns-2 : tie.Need-returns-2
 returns-2 c = (search site-full, tt)
@@ -33,6 +33,6 @@ site-at-spec =
     spot-for-requires
     blocks-needed-requires
     returns
-    count-free-requires
+    lacks-requires
     returns-2
     returns-3)

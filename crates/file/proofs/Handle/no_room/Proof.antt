@@ -1,4 +1,4 @@
-use Rattle.file.proofs.Aims.{room-kept, room-counted}
+use Rattle.file.proofs.Aims.{room-kept, room-asked}
 use borrow.Author.Needs.{needs}
 use Rattle.file.proofs.Handle.no_room.Statement.{statement}
 use Rattle.file.proofs.Handle.no_room.Tie as tie
@@ -15,14 +15,14 @@ blocks-for-requires-2 c κs = search needs
 returns : tie.Need-returns
 returns c = search room-kept
 
-count-free-requires : tie.Need-count-free-requires
-count-free-requires c κs = search needs
+sub-lacks : tie.Need-sub-lacks
+sub-lacks c = search needs
 
-sub-result : tie.Need-sub-result
-sub-result c = search needs
+lacks-requires : tie.Need-lacks-requires
+lacks-requires c κs = search needs
 
 returns-2 : tie.Need-returns-2
-returns-2 c = search room-counted
+returns-2 c = search room-asked
 
 pub no-room-spec : {M : Type 1} → statement M
 no-room-spec =
@@ -32,6 +32,6 @@ no-room-spec =
     add-blocks-for
     blocks-for-requires-2
     returns
-    count-free-requires
-    sub-result
+    sub-lacks
+    lacks-requires
     returns-2)

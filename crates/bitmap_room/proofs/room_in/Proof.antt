@@ -1,22 +1,22 @@
 use Rattle.bitmap_block.proofs.Answers.{reach-place, reach-few}
-use Rattle.call_room.proofs.Clear.{room-of}
+use Rattle.bitmap_room.proofs.Clear.{room-of}
 use borrow.Author.Needs.{needs}
-use Rattle.call_room.proofs.room_in.Statement.{statement}
-use Rattle.call_room.proofs.room_in.Tie as tie
-use Rattle.call_room.proofs.room_in.Reads as reads
-use Rattle.call_room.proofs.room_in.Lts as lts
+use Rattle.bitmap_room.proofs.room_in.Statement.{statement}
+use Rattle.bitmap_room.proofs.room_in.Tie as tie
+use Rattle.bitmap_room.proofs.room_in.Reads as reads
+use Rattle.bitmap_room.proofs.room_in.Lts as lts
+use Rattle.bitmap_room.proofs.search.Reads as search-reads
 use Rattle.block.proofs.offset.Reads as offset-reads
-use Rattle.call_room.proofs.search.Reads as search-reads
 
--- src/lib.rt:130:9
+-- src/lib.rt:116:9
 offset-requires : tie.Need-offset-requires
 offset-requires c κs = search needs
 
--- src/lib.rt:131:5
+-- src/lib.rt:117:5
 search-requires : tie.Need-search-requires
 search-requires c κs = search (reach-place, reach-few, needs)
 
--- src/lib.rt:125:1
+-- src/lib.rt:111:1
 returns : tie.Need-returns
 returns c = search (room-of, needs)
 
