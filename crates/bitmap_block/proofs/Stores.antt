@@ -16,7 +16,7 @@ use Rattle.block.specs.Block.{cell, zeroed, Off, Kept}
 use Rattle.block.proofs.Blocks.{block-below, kept-trans, kept-less, be-kept, splice-kept, zeroed-kept, cell-zeroed}
 use Rattle.model.specs.Tree.{Tree}
 use Rattle.model.specs.Render.{blocks, count, padded, Shows}
-use Rattle.model.specs.Geometry.{Geo, blockSize, mapAt, dataAt, reach, mapBits, signature, superBytes, geo, usedCount, Sound}
+use Rattle.model.specs.Geometry.{mount, Geo, blockSize, mapAt, dataAt, reach, mapBits, signature, superBytes, geo, usedCount, Sound}
 use Rattle.model.specs.Volume.{Volume}
 use Rattle.model.specs.Calls.{freeBlocks}
 use Rattle.model.proofs.Areas.{area, few, size-large, block-inside}
@@ -33,7 +33,7 @@ use Rattle.bitmap_block.specs.Bitmap.{mark, marked, clears, more, fewer,
 -- ---- places
 
 -- F5, as the rule has it: first the bitmap block of index x, then the byte in that block, then the place in that byte.
-pub mark-place : (K n : ℕ) (I : List ℕ) (x : ℕ) → mark (geo K n) I x ≡ bit I (512 * (K + 2 + x / 4096)) (x % 4096)
+pub mark-place : (K n : ℕ) (I : List ℕ) (x : ℕ) → mark (geo (mount K) n) I x ≡ bit I (512 * (K + 2 + x / 4096)) (x % 4096)
 unfolding mark bit
 mark-place K n I x =
     let e : 512 * (K + 2) + x / 8 ≡ 512 * (K + 2 + x / 4096) + x % 4096 / 8 = omega arith in

@@ -8,55 +8,52 @@ use lib.ListN.{length, take}
 use Rattle.model.specs.Answers.{Reply, accepted, refused, andThen, when, settle, given}
 use Rattle.limits.specs.Refusals.{refusalNumber}
 use Rattle.limits.specs.declared.Refusal.{Refusal}
-use Rattle.model.specs.Geometry.{Geo, geoAt, countAt}
+use Rattle.model.specs.Geometry.{Mount, Geo, mounted, geoAt, countAt}
 use Rattle.model.specs.Volume.{WellFormed}
 use Rattle.model.specs.Steps.{Bytes}
-use Rattle.model.proofs.Opens.{when-true, when-false, first-of-head, first-of-tail, first-of-one}
+use Rattle.model.proofs.Opens.{when-true, when-false, first-of-head, first-of-tail, first-of-one, or-false}
 use Rattle.model.proofs.Replies.{settle-none}
 use Rattle.limits.proofs.Numbers.{number-some, settle-refused}
 use Rattle.super_block.specs.declared.SuperBlock.{SuperBlock}
 use Rattle.super_block.specs.declared.Opened.{Opened}
 use Rattle.super_block.specs.declared.Opened.the-variants as opened
-use Rattle.super_block.specs.Super.{geoOf, superBlock, Fit}
-use Rattle.super_block.proofs.Fits.{opened-fit}
+use Rattle.super_block.specs.Super.{mountOf, geoOf, superBlock, Fit}
+use Rattle.super_block.proofs.Fits.{opened-fit, opened-geo}
 use Rattle.path.specs.declared.Real.{Real}
 use Rattle.path.specs.declared.Real.the-variants as real
-use Rattle.path.specs.Path.{realPath, badPath, pathRefusal}
+use Rattle.path.specs.Path.{realPath, badPath, pathRefusal, lastName}
 use Rattle.path.specs.Post.{RealIs, Stores, Leaves}
 use mathlib.Core.Logic.{_⊎_, inl, inr}
 use lib.Dec.{ltb, eqb}
 use borrow.Author.Tests.{ltb-false}
 use Rattle.wire.proofs.Picks.{either}
 use Rattle.block.specs.declared.Addr.{Addr}
-use Rattle.model.specs.Render.{padded}
-use Rattle.model.proofs.Opens.{or-false}
 use Rattle.dir_entry.specs.declared.Kind.{Kind}
 use Rattle.dir_entry.specs.declared.Kind.the-variants as kind
-use Rattle.dir_entry.specs.declared.DirEntry.{DirEntry}
-use Rattle.path.specs.Path.{lastName}
 use Rattle.create.specs.Creating.{Fresh, freshOf, badName, siteOf, createdOn, createdImage}
 use Rattle.create.specs.Post.{createdSays}
 use Rattle.create.specs.declared.Created.{Created}
 use Rattle.create.specs.declared.Created.the-variants as created
 use Rattle.call_read.specs.declared.OpenOut.{OpenOut}
-use Rattle.call_read.specs.Reading.{handleFor, OpenIs}
+use Rattle.call_read.specs.Reading.{OpenIs}
 use Rattle.call_read.proofs.Opening.{open-as}
 use Rattle.delete.specs.Deleting.{deletedOn, deletedImage}
 use Rattle.delete.specs.Post.{deletedSays}
 use Rattle.delete.specs.declared.Deleted.{Deleted}
 use Rattle.delete.specs.declared.Deleted.the-variants as deleted
-use Rattle.file.specs.declared.Handle.{Handle}
-use Rattle.file.specs.declared.WriteOut.{WriteOut}
-use Rattle.file.specs.declared.Counted.the-variants as counted
-use Rattle.file.specs.Writing.{targetOf, writtenImage, handleAfter, countOf}
-use Rattle.file.specs.Written.{WriteIs}
-use Rattle.call_volume.specs.declared.Answer.{Answer}
-use Rattle.call_volume.specs.declared.Answer.the-variants as answer
+use Rattle.handle.specs.declared.Handle.{Handle}
+use Rattle.handle.specs.Handles.{newHandle}
+use Rattle.handle.specs.declared.CountedOut.{CountedOut}
+use Rattle.handle.specs.declared.Counted.the-variants as counted
+use Rattle.write.specs.Writing.{targetOf, writtenImage, handleAfter, countOf}
+use Rattle.write.specs.Written.{WriteIs}
+use Rattle.limits.specs.declared.Answer.{Answer}
+use Rattle.limits.specs.declared.Answer.the-variants as answer
 use Rattle.call_volume.specs.Says.{says}
 use Rattle.call_volume.specs.Checking.{checkRefusal, CheckedIs, Checked}
 use Rattle.call_change.specs.Changing.{Ready, changeCall, createReply, createImage, freshHandle, CreatesFile, plainly, CreatesDir, Deletes, writeReply, Writes}
 use Rattle.call_read.proofs.Paths.{given-none, given-some, path-taken, path-at}
-use Rattle.call_volume.proofs.Checked.{check-passed}
+use Rattle.call_volume.proofs.Checked.{checked-opens, check-passed}
 
 -- ---- the path
 
@@ -79,51 +76,55 @@ module _ (cwd p l m : List ℕ) (r : Real) (o : RealIs cwd p l m r) where
 pub ready-fit : (s : SuperBlock) (I : List ℕ) → Ready s I → Fit s I
 ready-fit s I h = h .fit
 
-pub ready-well : (s : SuperBlock) (I : List ℕ) → Ready s I → WellFormed (s .addr .0) I
+pub ready-well : (s : SuperBlock) (I : List ℕ) → Ready s I → WellFormed (mountOf s) I
 ready-well s I h = h .well
 
-pub ready-count : (s : SuperBlock) (I : List ℕ) → Ready s I → s .blocks ≡ countAt (s .addr .0) I
+pub ready-count : (s : SuperBlock) (I : List ℕ) → Ready s I → s .blocks ≡ countAt (mountOf s) I
 ready-count s I h = h .count
 
 -- ---- the checked volume
 
-module _ (K : ℕ) (I W Z : List ℕ) (r : Opened) (h : Checked K I W r Z) where
+module _ (M : Mount) (I W Z : List ℕ) (r : Opened) (h : Checked M I W r Z) where
   module _ (cwd p : List ℕ) where
-    change-refused : {A : Type 0} (q : Reply A) (x : Refusal) → r ≡ opened.Refused x → refused (refusalNumber x) ≡ given (changeCall K I (length W) cwd p) q
+    change-refused : {A : Type 0} (q : Reply A) (x : Refusal) → r ≡ opened.Refused x → refused (refusalNumber x) ≡ given (changeCall M I (length W) cwd p) q
     unfolding changeCall
     change-refused q x e =
-        let f : checkRefusal K I (length W) ≡ refusalNumber x = subst (CheckedIs K I (length W)) e (h .answer) in
+        let f : checkRefusal M I (length W) ≡ refusalNumber x = subst (CheckedIs M I (length W)) e (h .answer) in
         given-some _ _ q (number-some x) (first-of-head _ _ (omega (arith, f, number-some x)) ∙ f)
 
-    change-kept : (X : List ℕ) (x : Refusal) → r ≡ opened.Refused x → I ≡ settle (changeCall K I (length W) cwd p) X I
+    change-kept : (X : List ℕ) (x : Refusal) → r ≡ opened.Refused x → I ≡ settle (changeCall M I (length W) cwd p) X I
     unfolding changeCall
     change-kept X x e =
-        let f : checkRefusal K I (length W) ≡ refusalNumber x = subst (CheckedIs K I (length W)) e (h .answer) in
+        let f : checkRefusal M I (length W) ≡ refusalNumber x = subst (CheckedIs M I (length W)) e (h .answer) in
         sym (settle-refused X I x (first-of-head _ _ (omega (arith, f, number-some x)) ∙ f))
 
     module _ (s : SuperBlock) (e : r ≡ opened.At s) where
-      passed : (checkRefusal K I (length W) ≡ 0) × (s ≡ superBlock (geoAt K I))
-      passed = subst (CheckedIs K I (length W)) e (h .answer)
+      passed : (checkRefusal M I (length W) ≡ 0) × (s ≡ superBlock (geoAt M I))
+      passed = subst (CheckedIs M I (length W)) e (h .answer)
 
-      path-next : pathRefusal cwd p ≡ changeCall K I (length W) cwd p
+      geo-next : geoOf s ≡ geoAt M I
+      geo-next = opened-geo M I s (checked-opens M I (length W) (passed .0)) (passed .1)
+
+      path-next : pathRefusal cwd p ≡ changeCall M I (length W) cwd p
       unfolding changeCall
       path-next = sym (first-of-tail _ _ (passed .0) ∙ first-of-one (pathRefusal cwd p))
 
-      change-at : {A : Type 0} (f : Geo → Reply A) → given (pathRefusal cwd p) (f (geoOf s)) ≡ given (changeCall K I (length W) cwd p) (f (geoAt K I))
-      change-at f = ap (λ (k : ℕ). given k (f (geoOf s))) path-next ∙ ap (λ (x : SuperBlock). given (changeCall K I (length W) cwd p) (f (geoOf x))) (passed .1)
+      change-at : {A : Type 0} (f : Geo → Reply A) → given (pathRefusal cwd p) (f (geoOf s)) ≡ given (changeCall M I (length W) cwd p) (f (geoAt M I))
+      change-at f = ap (λ (k : ℕ). given k (f (geoOf s))) path-next ∙ ap (λ (g : Geo). given (changeCall M I (length W) cwd p) (f g)) geo-next
 
-      change-image : (F : Geo → List ℕ) → settle (pathRefusal cwd p) (F (geoOf s)) I ≡ settle (changeCall K I (length W) cwd p) (F (geoAt K I)) I
-      change-image F = ap (λ (k : ℕ). settle k (F (geoOf s)) I) path-next ∙ ap (λ (x : SuperBlock). settle (changeCall K I (length W) cwd p) (F (geoOf x)) I) (passed .1)
+      change-image : (F : Geo → List ℕ) → settle (pathRefusal cwd p) (F (geoOf s)) I ≡ settle (changeCall M I (length W) cwd p) (F (geoAt M I)) I
+      change-image F = ap (λ (k : ℕ). settle k (F (geoOf s)) I) path-next ∙ ap (λ (g : Geo). settle (changeCall M I (length W) cwd p) (F g) I) geo-next
 
   -- What the inner calls ask.
   pub ready : Bytes I → (s : SuperBlock) → r ≡ opened.At s → Ready s I
   ready b s e =
-      let q : (checkRefusal K I (length W) ≡ 0) × (s ≡ superBlock (geoAt K I)) = subst (CheckedIs K I (length W)) e (h .answer) in
-      let c = check-passed K I (length W) b (q .0) in
+      let q : (checkRefusal M I (length W) ≡ 0) × (s ≡ superBlock (geoAt M I)) = subst (CheckedIs M I (length W)) e (h .answer) in
+      let c = check-passed M I (length W) b (q .0) in
+      let m : M ≡ mountOf s = sym (ap mounted (opened-geo M I s (c .1) (q .1))) in
       record {
-        fit = opened-fit K I s (c .1) (q .1);
-        well = subst (λ (x : SuperBlock). WellFormed (x .addr .0) I) (sym (q .1)) (c .2);
-        count = subst (λ (x : SuperBlock). x .blocks ≡ countAt (x .addr .0) I) (sym (q .1)) refl;
+        fit = opened-fit M I s (c .1) (q .1);
+        well = subst (λ (x : Mount). WellFormed x I) m (c .2);
+        count = ap (λ (x : SuperBlock). x .blocks) (q .1) ∙ ap (λ (x : Mount). countAt x I) m;
       }
 
 -- ---- delete
@@ -178,12 +179,10 @@ module _ (g : Geo) (I l : List ℕ) (c : Created) (q : createdSays c ≡ created
   unfolding andThen
   handle-refused x f = ap (λ (y : Reply Fresh). andThen y (λ z. accepted (freshHandle (lastName l) z))) (ap createdSays (sym f) ∙ q)
 
-  pub handle-made : (a b : Addr) (e : DirEntry) → c ≡ created.At a b → e .addr ≡ b → e .size ≡ 0
-      → accepted (handleFor (a .0) e (lastName l)) ≡ andThen (createdOn g I kind.File l) (λ f. accepted (freshHandle (lastName l) f))
+  pub handle-made : (a b : Addr) → c ≡ created.At a b
+      → accepted (newHandle a (lastName l) b 0) ≡ andThen (createdOn g I kind.File l) (λ f. accepted (freshHandle (lastName l) f))
   unfolding andThen
-  handle-made a b e f i j =
-      (λ t. accepted (record { dir = record { 0 = a .0 }; name = padded 255 (lastName l); len = length (lastName l); addr = i t; size = j t; position = 0 }))
-      ∙ ap (λ (y : Reply Fresh). andThen y (λ z. accepted (freshHandle (lastName l) z))) (ap createdSays (sym f) ∙ q)
+  handle-made a b f = ap (λ (y : Reply Fresh). andThen y (λ z. accepted (freshHandle (lastName l) z))) (ap createdSays (sym f) ∙ q)
 
   -- its name has at most 255 bytes
   pub created-short : (a b : Addr) → c ≡ created.At a b → length (lastName l) ≤ 255
@@ -198,23 +197,23 @@ module _ (g : Geo) (I l : List ℕ) (c : Created) (q : createdSays c ≡ created
 
 -- ---- the whole call
 
-module _ (K : ℕ) (I W Z : List ℕ) (r : Opened) (h : Checked K I W r Z) (cwd p : List ℕ) (time : ℕ) where
+module _ (M : Mount) (I W Z : List ℕ) (r : Opened) (h : Checked M I W r Z) (cwd p : List ℕ) (time : ℕ) where
   module _ (x : Refusal) (e : r ≡ opened.Refused x) where
-    pub file-no : (o : OpenOut) → OpenIs (refused (refusalNumber x)) o → CreatesFile K I W cwd p time o I Z
+    pub file-no : (o : OpenOut) → OpenIs (refused (refusalNumber x)) o → CreatesFile M I W cwd p time o I Z
     unfolding createReply createImage andThen
     file-no o i =
         record {
-          answer = open-as i (ap (λ (q : Reply Fresh). andThen q (λ f. accepted (freshHandle (lastName (realPath cwd p)) f))) (change-refused K I W Z r h cwd p (createdOn (geoAt K I) I kind.File (realPath cwd p)) x e));
-          image = change-kept K I W Z r h cwd p _ x e;
+          answer = open-as i (ap (λ (q : Reply Fresh). andThen q (λ f. accepted (freshHandle (lastName (realPath cwd p)) f))) (change-refused M I W Z r h cwd p (createdOn (geoAt M I) I kind.File (realPath cwd p)) x e));
+          image = change-kept M I W Z r h cwd p _ x e;
           work = h .work;
         }
 
-    pub dir-no : CreatesDir K I W cwd p time (answer.Refused x) I Z
+    pub dir-no : CreatesDir M I W cwd p time (answer.Refused x) I Z
     unfolding createReply createImage andThen
-    dir-no = record { answer = ap plainly (change-refused K I W Z r h cwd p (createdOn (geoAt K I) I kind.Dir (realPath cwd p)) x e); image = change-kept K I W Z r h cwd p _ x e; work = h .work }
+    dir-no = record { answer = ap plainly (change-refused M I W Z r h cwd p (createdOn (geoAt M I) I kind.Dir (realPath cwd p)) x e); image = change-kept M I W Z r h cwd p _ x e; work = h .work }
 
-    pub delete-no : Deletes K I W cwd p time (answer.Refused x) I Z
-    delete-no = record { answer = change-refused K I W Z r h cwd p _ x e; image = change-kept K I W Z r h cwd p _ x e; work = h .work }
+    pub delete-no : Deletes M I W cwd p time (answer.Refused x) I Z
+    delete-no = record { answer = change-refused M I W Z r h cwd p _ x e; image = change-kept M I W Z r h cwd p _ x e; work = h .work }
 
   module _ (s : SuperBlock) (e : r ≡ opened.At s) (J : List ℕ) where
     -- what follows an answer, inside a refusal before it
@@ -225,43 +224,43 @@ module _ (K : ℕ) (I W Z : List ℕ) (r : Opened) (h : Checked K I W r Z) (cwd 
 
     pub file-yes : (o : OpenOut)
         → OpenIs (given (pathRefusal cwd p) (andThen (createdOn (geoOf s) I kind.File (realPath cwd p)) (λ f. accepted (freshHandle (lastName (realPath cwd p)) f)))) o
-        → J ≡ settle (pathRefusal cwd p) (createdImage (geoOf s) I kind.File (realPath cwd p) time) I → CreatesFile K I W cwd p time o J Z
+        → J ≡ settle (pathRefusal cwd p) (createdImage (geoOf s) I kind.File (realPath cwd p) time) I → CreatesFile M I W cwd p time o J Z
     unfolding createReply createImage
     file-yes o i j =
         record {
-          answer = open-as i (change-at K I W Z r h cwd p s e (λ g. andThen (createdOn g I kind.File (realPath cwd p)) (λ f. accepted (freshHandle (lastName (realPath cwd p)) f)))
-              ∙ under (changeCall K I (length W) cwd p) (createdOn (geoAt K I) I kind.File (realPath cwd p)) (λ f. accepted (freshHandle (lastName (realPath cwd p)) f)));
-          image = j ∙ change-image K I W Z r h cwd p s e (λ g. createdImage g I kind.File (realPath cwd p) time);
+          answer = open-as i (change-at M I W Z r h cwd p s e (λ g. andThen (createdOn g I kind.File (realPath cwd p)) (λ f. accepted (freshHandle (lastName (realPath cwd p)) f)))
+              ∙ under (changeCall M I (length W) cwd p) (createdOn (geoAt M I) I kind.File (realPath cwd p)) (λ f. accepted (freshHandle (lastName (realPath cwd p)) f)));
+          image = j ∙ change-image M I W Z r h cwd p s e (λ g. createdImage g I kind.File (realPath cwd p) time);
           work = h .work;
         }
 
     pub dir-yes : (q : Answer) → says q ≡ given (pathRefusal cwd p) (plainly (createdOn (geoOf s) I kind.Dir (realPath cwd p)))
-        → J ≡ settle (pathRefusal cwd p) (createdImage (geoOf s) I kind.Dir (realPath cwd p) time) I → CreatesDir K I W cwd p time q J Z
+        → J ≡ settle (pathRefusal cwd p) (createdImage (geoOf s) I kind.Dir (realPath cwd p) time) I → CreatesDir M I W cwd p time q J Z
     unfolding createReply createImage
     dir-yes q i j =
         record {
-          answer = i ∙ change-at K I W Z r h cwd p s e (λ g. plainly (createdOn g I kind.Dir (realPath cwd p))) ∙ under (changeCall K I (length W) cwd p) (createdOn (geoAt K I) I kind.Dir (realPath cwd p)) (λ f. accepted tt);
-          image = j ∙ change-image K I W Z r h cwd p s e (λ g. createdImage g I kind.Dir (realPath cwd p) time);
+          answer = i ∙ change-at M I W Z r h cwd p s e (λ g. plainly (createdOn g I kind.Dir (realPath cwd p))) ∙ under (changeCall M I (length W) cwd p) (createdOn (geoAt M I) I kind.Dir (realPath cwd p)) (λ f. accepted tt);
+          image = j ∙ change-image M I W Z r h cwd p s e (λ g. createdImage g I kind.Dir (realPath cwd p) time);
           work = h .work;
         }
 
     pub delete-yes : (q : Answer) → says q ≡ given (pathRefusal cwd p) (deletedOn (geoOf s) I (realPath cwd p))
-        → J ≡ settle (pathRefusal cwd p) (deletedImage (geoOf s) I (realPath cwd p) time) I → Deletes K I W cwd p time q J Z
+        → J ≡ settle (pathRefusal cwd p) (deletedImage (geoOf s) I (realPath cwd p) time) I → Deletes M I W cwd p time q J Z
     delete-yes q i j =
         record {
-          answer = i ∙ change-at K I W Z r h cwd p s e (λ g. deletedOn g I (realPath cwd p));
-          image = j ∙ change-image K I W Z r h cwd p s e (λ g. deletedImage g I (realPath cwd p) time);
+          answer = i ∙ change-at M I W Z r h cwd p s e (λ g. deletedOn g I (realPath cwd p));
+          image = j ∙ change-image M I W Z r h cwd p s e (λ g. deletedImage g I (realPath cwd p) time);
           work = h .work;
         }
 
 -- ---- write
 
-module _ (K : ℕ) (I W Z : List ℕ) (r : Opened) (c : Checked K I W r Z) (h : Handle) (buf : List ℕ) (time : ℕ) where
-  pub write-no : (x : Refusal) → r ≡ opened.Refused x → Writes K I W h buf time (record { answer = counted.Refused x; handle = h }) I Z
+module _ (M : Mount) (I W Z : List ℕ) (r : Opened) (c : Checked M I W r Z) (h : Handle) (buf : List ℕ) (time : ℕ) where
+  pub write-no : (x : Refusal) → r ≡ opened.Refused x → Writes M I W h buf time (record { answer = counted.Refused x; handle = h }) I Z
   unfolding writeReply countOf andThen
   write-no x e =
-      let f : checkRefusal K I (length W) ≡ refusalNumber x = subst (CheckedIs K I (length W)) e (c .answer) in
-      let g : refused (refusalNumber x) ≡ given (checkRefusal K I (length W)) (targetOf (geoAt K I) I h (length buf)) = given-some _ _ _ (number-some x) f in
+      let f : checkRefusal M I (length W) ≡ refusalNumber x = subst (CheckedIs M I (length W)) e (c .answer) in
+      let g : refused (refusalNumber x) ≡ given (checkRefusal M I (length W)) (targetOf (geoAt M I) I h (length buf)) = given-some _ _ _ (number-some x) f in
       record {
         answer = ap (countOf (length buf)) g;
         handle = ap (handleAfter h (length buf)) g;
@@ -269,15 +268,16 @@ module _ (K : ℕ) (I W Z : List ℕ) (r : Opened) (c : Checked K I W r Z) (h : 
         work = c .work;
       }
 
-  pub write-yes : (s : SuperBlock) → r ≡ opened.At s → (o : WriteOut) (J : List ℕ) → WriteIs (geoOf s) h buf time I J o → Writes K I W h buf time o J Z
+  pub write-yes : (s : SuperBlock) → r ≡ opened.At s → (o : CountedOut) (J : List ℕ) → WriteIs (geoOf s) h buf time I J o → Writes M I W h buf time o J Z
   unfolding writeReply
   write-yes s e o J w =
-      let q : (checkRefusal K I (length W) ≡ 0) × (s ≡ superBlock (geoAt K I)) = subst (CheckedIs K I (length W)) e (c .answer) in
-      let t : targetOf (geoOf s) I h (length buf) ≡ given (checkRefusal K I (length W)) (targetOf (geoAt K I) I h (length buf))
-      = ap (λ (x : SuperBlock). targetOf (geoOf x) I h (length buf)) (q .1) ∙ given-none _ _ (q .0) in
+      let q : (checkRefusal M I (length W) ≡ 0) × (s ≡ superBlock (geoAt M I)) = subst (CheckedIs M I (length W)) e (c .answer) in
+      let g : geoOf s ≡ geoAt M I = opened-geo M I s (checked-opens M I (length W) (q .0)) (q .1) in
+      let t : targetOf (geoOf s) I h (length buf) ≡ given (checkRefusal M I (length W)) (targetOf (geoAt M I) I h (length buf))
+      = ap (λ (x : Geo). targetOf x I h (length buf)) g ∙ given-none _ _ (q .0) in
       record {
         answer = w .answer ∙ ap (countOf (length buf)) t;
         handle = w .handle ∙ ap (handleAfter h (length buf)) t;
-        image = w .image ∙ ap (λ (x : SuperBlock). writtenImage (geoOf x) I h buf time) (q .1) ∙ sym (settle-none _ I (q .0));
+        image = w .image ∙ ap (λ (x : Geo). writtenImage x I h buf time) g ∙ sym (settle-none _ I (q .0));
         work = c .work;
       }

@@ -5,82 +5,81 @@ use mathlib.Core.List.{List, [], _∷_}
 use Prim.Native.Nat.{ℕ}
 use lib.ListN.{length}
 use Rattle.model.specs.Answers.{Reply, accepted, andThen, firstOf, settle, given}
-use Rattle.model.specs.Render.{padded}
-use Rattle.model.specs.Geometry.{geoAt, countAt}
+use Rattle.model.specs.Geometry.{Mount, geoAt, countAt}
 use Rattle.model.specs.Volume.{WellFormed}
 use Rattle.super_block.specs.declared.SuperBlock.{SuperBlock}
-use Rattle.super_block.specs.Super.{Fit}
+use Rattle.super_block.specs.Super.{mountOf, Fit}
 use Rattle.dir_entry.specs.declared.Kind.{Kind}
 use Rattle.dir_entry.specs.declared.Kind.the-variants.{Dir, File}
 use Rattle.path.specs.Path.{realPath, pathRefusal, lastName}
 use Rattle.create.specs.Creating.{Fresh, createdOn, createdImage}
 use Rattle.delete.specs.Deleting.{deletedOn, deletedImage}
-use Rattle.file.specs.declared.Handle.{Handle}
-use Rattle.file.specs.declared.WriteOut.{WriteOut}
-use Rattle.file.specs.Writing.{Target, targetOf, writtenImage, handleAfter, countOf}
-use Rattle.file.specs.Written.{countedSays}
-use Rattle.call_volume.specs.declared.Answer.{Answer}
+use Rattle.handle.specs.declared.Handle.{Handle}
+use Rattle.handle.specs.Handles.{newHandle}
+use Rattle.handle.specs.declared.CountedOut.{CountedOut}
+use Rattle.write.specs.Writing.{Target, targetOf, writtenImage, handleAfter, countOf}
+use Rattle.write.specs.Written.{countedSays}
+use Rattle.limits.specs.declared.Answer.{Answer}
 use Rattle.call_read.specs.declared.OpenOut.{OpenOut}
 use Rattle.call_volume.specs.Says.{says}
 use Rattle.call_read.specs.Reading.{OpenIs}
 use Rattle.call_volume.specs.Checking.{workAfter, checkRefusal}
 
 -- O8, then 4: with a work buffer of len bytes
-unfoldable pub changeCall : ℕ → List ℕ → ℕ → List ℕ → List ℕ → ℕ
-changeCall K I len cwd p = firstOf (checkRefusal K I len ∷ (pathRefusal cwd p ∷ []))
+unfoldable pub changeCall : Mount → List ℕ → ℕ → List ℕ → List ℕ → ℕ
+changeCall M I len cwd p = firstOf (checkRefusal M I len ∷ (pathRefusal cwd p ∷ []))
 
 -- ---- create
 
 -- O9: what a create of that kind answers, and the image that it leaves.
-unfoldable pub createReply : Kind → ℕ → List ℕ → ℕ → List ℕ → List ℕ → Reply Fresh
-createReply k K I len cwd p = given (changeCall K I len cwd p) (createdOn (geoAt K I) I k (realPath cwd p))
+unfoldable pub createReply : Kind → Mount → List ℕ → ℕ → List ℕ → List ℕ → Reply Fresh
+createReply k M I len cwd p = given (changeCall M I len cwd p) (createdOn (geoAt M I) I k (realPath cwd p))
 
-unfoldable pub createImage : Kind → ℕ → List ℕ → ℕ → List ℕ → List ℕ → ℕ → List ℕ
-createImage k K I len cwd p time = settle (changeCall K I len cwd p) (createdImage (geoAt K I) I k (realPath cwd p) time) I
+unfoldable pub createImage : Kind → Mount → List ℕ → ℕ → List ℕ → List ℕ → ℕ → List ℕ
+createImage k M I len cwd p time = settle (changeCall M I len cwd p) (createdImage (geoAt M I) I k (realPath cwd p) time) I
 
 -- H5: the handle on the new file x, of 0 bytes
 abbrev pub freshHandle : List ℕ → Fresh → Handle
-freshHandle x f =
-    record { dir = record { 0 = f .dir }; name = padded 255 x; len = length x; addr = record { 0 = f .block }; size = 0; position = 0 }
+freshHandle x f = newHandle (record { 0 = f .dir }) x (record { 0 = f .block }) 0
 
 -- C9: create a file at the path p, with the work buffer W: the answer o, the image J and the buffer Z.
-pub record CreatesFile (K : ℕ) (I W cwd p : List ℕ) (time : ℕ) (o : OpenOut) (J Z : List ℕ) : Type 0 where
-  pub answer : OpenIs (andThen (createReply File K I (length W) cwd p) (λ f. accepted (freshHandle (lastName (realPath cwd p)) f))) o
-  pub image : J ≡ createImage File K I (length W) cwd p time
-  pub work : Z ≡ workAfter K I W
+pub record CreatesFile (M : Mount) (I W cwd p : List ℕ) (time : ℕ) (o : OpenOut) (J Z : List ℕ) : Type 0 where
+  pub answer : OpenIs (andThen (createReply File M I (length W) cwd p) (λ f. accepted (freshHandle (lastName (realPath cwd p)) f))) o
+  pub image : J ≡ createImage File M I (length W) cwd p time
+  pub work : Z ≡ workAfter M I W
 
 -- C10: create a directory: plain success, without what a handle would hold.
 abbrev pub plainly : Reply Fresh → Reply (Unit {0})
 plainly r = andThen r (λ f. accepted tt)
 
-pub record CreatesDir (K : ℕ) (I W cwd p : List ℕ) (time : ℕ) (r : Answer) (J Z : List ℕ) : Type 0 where
-  pub answer : says r ≡ plainly (createReply Dir K I (length W) cwd p)
-  pub image : J ≡ createImage Dir K I (length W) cwd p time
-  pub work : Z ≡ workAfter K I W
+pub record CreatesDir (M : Mount) (I W cwd p : List ℕ) (time : ℕ) (r : Answer) (J Z : List ℕ) : Type 0 where
+  pub answer : says r ≡ plainly (createReply Dir M I (length W) cwd p)
+  pub image : J ≡ createImage Dir M I (length W) cwd p time
+  pub work : Z ≡ workAfter M I W
 
 -- ---- delete: C11
 
-pub record Deletes (K : ℕ) (I W cwd p : List ℕ) (time : ℕ) (r : Answer) (J Z : List ℕ) : Type 0 where
-  pub answer : says r ≡ given (changeCall K I (length W) cwd p) (deletedOn (geoAt K I) I (realPath cwd p))
-  pub image : J ≡ settle (changeCall K I (length W) cwd p) (deletedImage (geoAt K I) I (realPath cwd p) time) I
-  pub work : Z ≡ workAfter K I W
+pub record Deletes (M : Mount) (I W cwd p : List ℕ) (time : ℕ) (r : Answer) (J Z : List ℕ) : Type 0 where
+  pub answer : says r ≡ given (changeCall M I (length W) cwd p) (deletedOn (geoAt M I) I (realPath cwd p))
+  pub image : J ≡ settle (changeCall M I (length W) cwd p) (deletedImage (geoAt M I) I (realPath cwd p) time) I
+  pub work : Z ≡ workAfter M I W
 
 -- ---- write
 
 -- O11, C12: a write of the bytes buf through the handle h: the byte count and the new handle.
-unfoldable pub writeReply : ℕ → List ℕ → ℕ → Handle → ℕ → Reply Target
-writeReply K I len h size = given (checkRefusal K I len) (targetOf (geoAt K I) I h size)
+unfoldable pub writeReply : Mount → List ℕ → ℕ → Handle → ℕ → Reply Target
+writeReply M I len h size = given (checkRefusal M I len) (targetOf (geoAt M I) I h size)
 
-pub record Writes (K : ℕ) (I W : List ℕ) (h : Handle) (buf : List ℕ) (time : ℕ) (o : WriteOut) (J Z : List ℕ) : Type 0 where
-  pub answer : countedSays (o .answer) ≡ countOf (length buf) (writeReply K I (length W) h (length buf))
-  pub handle : o .handle ≡ handleAfter h (length buf) (writeReply K I (length W) h (length buf))
-  pub image : J ≡ settle (checkRefusal K I (length W)) (writtenImage (geoAt K I) I h buf time) I
-  pub work : Z ≡ workAfter K I W
+pub record Writes (M : Mount) (I W : List ℕ) (h : Handle) (buf : List ℕ) (time : ℕ) (o : CountedOut) (J Z : List ℕ) : Type 0 where
+  pub answer : countedSays (o .answer) ≡ countOf (length buf) (writeReply M I (length W) h (length buf))
+  pub handle : o .handle ≡ handleAfter h (length buf) (writeReply M I (length W) h (length buf))
+  pub image : J ≡ settle (checkRefusal M I (length W)) (writtenImage (geoAt M I) I h buf time) I
+  pub work : Z ≡ workAfter M I W
 
 -- ---- what the inner calls ask
 
 -- The struct is that of the image's own superblock, and the image is well formed: what a passed check gives.
 pub record Ready (s : SuperBlock) (I : List ℕ) : Type 0 where
   pub fit : Fit s I
-  pub well : WellFormed (s .addr .0) I
-  pub count : s .blocks ≡ countAt (s .addr .0) I
+  pub well : WellFormed (mountOf s) I
+  pub count : s .blocks ≡ countAt (mountOf s) I

@@ -1,14 +1,13 @@
 // The public calls that change a volume: create, delete and write, each after the whole check. Their answers for a caller are those of `mfs`,
 // which passes them on.
 use call_read::OpenOut;
-use call_volume::Answer;
 use create::Created;
 use delete::Deleted;
-use dir_entry::DirEntry;
 use dir_entry::Kind;
-use file::Counted;
-use file::Handle;
-use file::WriteOut;
+use handle::Counted;
+use handle::CountedOut;
+use handle::Handle;
+use limits::Answer;
 use limits::Refusal;
 use path::Real;
 use super_block::Opened;
@@ -16,6 +15,7 @@ use super_block::SuperBlock;
 ghost use mathlib.Core.Path.{_≡_};
 ghost use Prim.Native.Nat.{_≤_};
 ghost use lib.ListN.{length, take};
+ghost use Rattle.model.specs.Geometry.{mount};
 ghost use Rattle.super_block.specs.Super.{geoOf};
 ghost use Rattle.model.specs.Answers.{accepted, andThen, settle, given};
 ghost use Rattle.path.specs.Path.{pathLimit, realPath, pathRefusal, lastName};
@@ -37,16 +37,7 @@ fn create_file_full(img: &mut [u8], s: SuperBlock, full: &[u8], len: usize, time
     let created = create::create(img, s, full, len, Kind::File, time);
     match created {
         Created::Refused(r) => call_read::refused_open(r),
-        Created::At(dir, addr) => {
-            let e = DirEntry {
-                kind: Kind::File,
-                addr,
-                size: 0,
-                time,
-                len: 0,
-            };
-            call_read::handle_for(full, len, dir, e)
-        }
+        Created::At(dir, addr) => call_read::handle_for(full, len, dir, addr, 0),
     }
 }
 
@@ -73,7 +64,7 @@ pub fn create_file(
     time: u64,
     work: &mut [u8],
 ) -> OpenOut
-    ensures { λ o. ⌜ CreatesFile k (now (img .entry)) (now (work .entry)) (now (cwd .entry)) (now (path .entry)) time o (now (img .exit)) (now (work .exit)) ⌝ }
+    ensures { λ o. ⌜ CreatesFile (mount k) (now (img .entry)) (now (work .entry)) (now (cwd .entry)) (now (path .entry)) time o (now (img .exit)) (now (work .exit)) ⌝ }
 {
     let checked = call_volume::open_checked(img, k, work);
     match checked {
@@ -109,7 +100,7 @@ pub fn create_dir(
     time: u64,
     work: &mut [u8],
 ) -> Answer
-    ensures { λ r. ⌜ CreatesDir k (now (img .entry)) (now (work .entry)) (now (cwd .entry)) (now (path .entry)) time r (now (img .exit)) (now (work .exit)) ⌝ }
+    ensures { λ r. ⌜ CreatesDir (mount k) (now (img .entry)) (now (work .entry)) (now (cwd .entry)) (now (path .entry)) time r (now (img .exit)) (now (work .exit)) ⌝ }
 {
     let checked = call_volume::open_checked(img, k, work);
     match checked {
@@ -138,7 +129,7 @@ fn delete_path(img: &mut [u8], s: SuperBlock, cwd: &[u8], path: &[u8], time: u64
 
 // Deletes the file, the device or the empty directory at a path. Refusals: 1, 2, 3, 16, 17, 4, 5, 6, 14.
 pub fn delete(img: &mut [u8], k: u32, cwd: &[u8], path: &[u8], time: u64, work: &mut [u8]) -> Answer
-    ensures { λ r. ⌜ Deletes k (now (img .entry)) (now (work .entry)) (now (cwd .entry)) (now (path .entry)) time r (now (img .exit)) (now (work .exit)) ⌝ }
+    ensures { λ r. ⌜ Deletes (mount k) (now (img .entry)) (now (work .entry)) (now (cwd .entry)) (now (path .entry)) time r (now (img .exit)) (now (work .exit)) ⌝ }
 {
     let checked = call_volume::open_checked(img, k, work);
     match checked {
@@ -155,15 +146,15 @@ pub fn write(
     buf: &[u8],
     time: u64,
     work: &mut [u8],
-) -> WriteOut
-    ensures { λ o. ⌜ Writes k (now (img .entry)) (now (work .entry)) handle (now (buf .entry)) time o (now (img .exit)) (now (work .exit)) ⌝ }
+) -> CountedOut
+    ensures { λ o. ⌜ Writes (mount k) (now (img .entry)) (now (work .entry)) handle (now (buf .entry)) time o (now (img .exit)) (now (work .exit)) ⌝ }
 {
     let checked = call_volume::open_checked(img, k, work);
     match checked {
-        Opened::Refused(r) => WriteOut {
+        Opened::Refused(r) => CountedOut {
             answer: Counted::Refused(r),
             handle,
         },
-        Opened::At(s) => handle.write(img, s, buf, time),
+        Opened::At(s) => write::write(handle, img, s, buf, time),
     }
 }

@@ -12,8 +12,8 @@ use Rattle.wire.proofs.Picks.{pick-true, pick-false}
 use Rattle.model.specs.Answers.{Reply, refused, andThen, firstOf, given}
 use Rattle.limits.specs.Refusals.{refusalNumber}
 use Rattle.limits.specs.declared.Refusal.{Refusal}
-use Rattle.model.specs.Geometry.{dataAt, geoAt, countAt, openRefusal}
-use Rattle.model.proofs.Opens.{when-true, when-false, first-of-head, first-of-tail, first-of-one}
+use Rattle.model.specs.Geometry.{Mount, codeSize, geoAt, openRefusal}
+use Rattle.model.proofs.Opens.{opens-sound, when-true, when-false, first-of-head, first-of-tail, first-of-one}
 use Rattle.model.proofs.Replies.{given-none as given-nothing, given-some as given-refusal}
 use Rattle.limits.proofs.Numbers.{number-some}
 use Rattle.super_block.specs.declared.SuperBlock.{SuperBlock}
@@ -38,7 +38,7 @@ use Rattle.dir.specs.declared.Located.the-variants as located
 use Rattle.dir.specs.Post.{openedSays, locatedSays}
 use Rattle.call_read.specs.declared.Listing.{Listing}
 use Rattle.call_read.specs.declared.Listing.the-variants as listing
-use Rattle.call_read.specs.Reading.{pathCall, openReply, infoReply, listReply, openEntry, openOn, aboutEntry, aboutRoot, infoOn, Counts, onReply, ListIs, listOn, recordsOn, recordsAt, countsOf}
+use Rattle.call_read.specs.Reading.{size, area, end, pathCall, openReply, infoReply, listReply, openEntry, openOn, aboutEntry, aboutRoot, infoOn, Counts, onReply, ListIs, listOn, recordsOn, recordsAt, countsOf}
 
 -- ---- an earlier refusal
 
@@ -51,27 +51,34 @@ given-some k m r h e = sym (given-refusal m r h e)
 
 -- ---- the volume
 
-module _ (K : ℕ) (I : List ℕ) (r : Opened) (o : OpenedIs K I r) (cwd p : List ℕ) where
-  call-refused : {A : Type 0} (q : Reply A) (x : Refusal) → r ≡ Refused x → refused (refusalNumber x) ≡ given (pathCall K I cwd p) q
+module _ (M : Mount) (I : List ℕ) (r : Opened) (o : OpenedIs M I r) where
+  call-refused : {A : Type 0} (cwd p : List ℕ) (q : Reply A) (x : Refusal) → r ≡ Refused x → refused (refusalNumber x) ≡ given (pathCall M I cwd p) q
   unfolding pathCall
-  call-refused q x e =
-      let f : openRefusal K I ≡ refusalNumber x = subst (OpenedIs K I) e o in
+  call-refused cwd p q x e =
+      let f : openRefusal M I ≡ refusalNumber x = subst (OpenedIs M I) e o in
       given-some _ _ q (number-some x) (first-of-head _ _ (omega (arith, f, number-some x)) ∙ f)
 
   module _ (s : SuperBlock) (e : r ≡ At s) where
-    opens : (openRefusal K I ≡ 0) × (s ≡ superBlock (geoAt K I))
-    opens = subst (OpenedIs K I) e o
+    opens : (openRefusal M I ≡ 0) × (s ≡ superBlock (geoAt M I))
+    opens = subst (OpenedIs M I) e o
 
-    call-at : {A : Type 0} (f : ℕ → ℕ → Reply A)
-        → given (pathRefusal cwd p) (f (s .area .0) (s .blocks)) ≡ given (pathCall K I cwd p) (f (dataAt (geoAt K I)) (countAt K I))
+    -- The block size, where the data begins and where the volume ends are the struct's; so what goes by them goes by the struct.
+    pub parts-is : _≡_ {A = ℕ × ℕ × ℕ} (512, s .area .0, s .blocks) (size M I, area M I, end M I)
+    parts-is =
+        let k : M .code ≡ 0 = opens-sound M I (opens .0) .0 .known .1 in
+        let a : _≡_ {A = ℕ × ℕ × ℕ} (512, s .area .0, s .blocks) (512, area M I, end M I) = λ i. (512, opens .1 i .area .0, opens .1 i .blocks) in
+        let b : _≡_ {A = ℕ × ℕ × ℕ} (512, area M I, end M I) (size M I, area M I, end M I) = λ i. (codeSize (sym k i), area M I, end M I) in
+        a ∙ b
+
+    parts-at : {A : Type 0} (f : ℕ → ℕ → ℕ → A) → f 512 (s .area .0) (s .blocks) ≡ f (size M I) (area M I) (end M I)
+    parts-at f = ap (λ (x : ℕ × ℕ × ℕ). f (x .0) (x .1) (x .2)) parts-is
+
+    call-at : {A : Type 0} (cwd p : List ℕ) (f : ℕ → ℕ → ℕ → Reply A)
+        → given (pathRefusal cwd p) (f 512 (s .area .0) (s .blocks)) ≡ given (pathCall M I cwd p) (f (size M I) (area M I) (end M I))
     unfolding pathCall
-    call-at f =
-        let c : pathRefusal cwd p ≡ firstOf (openRefusal K I ∷ (pathRefusal cwd p ∷ [])) = sym (first-of-tail _ _ (opens .0) ∙ first-of-one (pathRefusal cwd p)) in
-        ap (λ (k : ℕ). given k (f (s .area .0) (s .blocks))) c
-        ∙ ap (λ (x : SuperBlock). given (firstOf (openRefusal K I ∷ (pathRefusal cwd p ∷ []))) (f (x .area .0) (x .blocks))) (opens .1)
-
-    records-at : (f : ℕ → ℕ → List ℕ) → f (s .area .0) (s .blocks) ≡ f (dataAt (geoAt K I)) (countAt K I)
-    records-at f = ap (λ (x : SuperBlock). f (x .area .0) (x .blocks)) (opens .1)
+    call-at cwd p f =
+        let c : pathRefusal cwd p ≡ firstOf (openRefusal M I ∷ (pathRefusal cwd p ∷ [])) = sym (first-of-tail _ _ (opens .0) ∙ first-of-one (pathRefusal cwd p)) in
+        ap (λ (k : ℕ). given k (f 512 (s .area .0) (s .blocks))) c ∙ ap (given _) (parts-at f)
 
 -- ---- the path
 
@@ -185,31 +192,31 @@ module _ (cwd p l m : List ℕ) (r : Real) (o : RealIs cwd p l m r) (k : ℕ) (e
   pub records-path-at : (i cap : ℕ) → recordsOn B D n I (take k m) i cap ≡ recordsOn B D n I (realPath cwd p) i cap
   records-path-at i cap = ap (λ (x : List ℕ). recordsOn B D n I x i cap) (path-taken cwd p l m r o k e long)
 
-module _ (K : ℕ) (I : List ℕ) (r : Opened) (o : OpenedIs K I r) (cwd p : List ℕ) (s : SuperBlock) (e : r ≡ At s) where
-  pub open-call : given (pathRefusal cwd p) (openOn 512 (s .area .0) (s .blocks) I (realPath cwd p)) ≡ openReply K I cwd p
+module _ (M : Mount) (I : List ℕ) (r : Opened) (o : OpenedIs M I r) (cwd p : List ℕ) (s : SuperBlock) (e : r ≡ At s) where
+  pub open-call : given (pathRefusal cwd p) (openOn 512 (s .area .0) (s .blocks) I (realPath cwd p)) ≡ openReply M I cwd p
   unfolding openReply
-  open-call = call-at K I r o cwd p s e (λ d n. openOn 512 d n I (realPath cwd p))
+  open-call = call-at M I r o s e cwd p (λ b d n. openOn b d n I (realPath cwd p))
 
-  pub info-call : given (pathRefusal cwd p) (infoOn 512 (s .area .0) (s .blocks) I (realPath cwd p) p) ≡ infoReply K I cwd p
+  pub info-call : given (pathRefusal cwd p) (infoOn 512 (s .area .0) (s .blocks) I (realPath cwd p) p) ≡ infoReply M I cwd p
   unfolding infoReply
-  info-call = call-at K I r o cwd p s e (λ d n. infoOn 512 d n I (realPath cwd p) p)
+  info-call = call-at M I r o s e cwd p (λ b d n. infoOn b d n I (realPath cwd p) p)
 
-  pub list-call : (i cap : ℕ) → given (pathRefusal cwd p) (listOn 512 (s .area .0) (s .blocks) I (realPath cwd p) i cap) ≡ listReply K I cwd p i cap
+  pub list-call : (i cap : ℕ) → given (pathRefusal cwd p) (listOn 512 (s .area .0) (s .blocks) I (realPath cwd p) i cap) ≡ listReply M I cwd p i cap
   unfolding listReply
-  list-call i cap = call-at K I r o cwd p s e (λ d n. listOn 512 d n I (realPath cwd p) i cap)
+  list-call i cap = call-at M I r o s e cwd p (λ b d n. listOn b d n I (realPath cwd p) i cap)
 
-  pub records-call : (i cap : ℕ) → recordsOn 512 (s .area .0) (s .blocks) I (realPath cwd p) i cap ≡ recordsOn 512 (dataAt (geoAt K I)) (countAt K I) I (realPath cwd p) i cap
-  records-call i cap = records-at K I r o cwd p s e (λ d n. recordsOn 512 d n I (realPath cwd p) i cap)
+  pub records-call : (i cap : ℕ) → recordsOn 512 (s .area .0) (s .blocks) I (realPath cwd p) i cap ≡ recordsOn (size M I) (area M I) (end M I) I (realPath cwd p) i cap
+  records-call i cap = parts-at M I r o s e (λ b d n. recordsOn b d n I (realPath cwd p) i cap)
 
-module _ (K : ℕ) (I : List ℕ) (r : Opened) (o : OpenedIs K I r) (cwd p : List ℕ) (x : Refusal) (e : r ≡ Refused x) where
-  pub open-no : refused (refusalNumber x) ≡ openReply K I cwd p
+module _ (M : Mount) (I : List ℕ) (r : Opened) (o : OpenedIs M I r) (cwd p : List ℕ) (x : Refusal) (e : r ≡ Refused x) where
+  pub open-no : refused (refusalNumber x) ≡ openReply M I cwd p
   unfolding openReply
-  open-no = call-refused K I r o cwd p _ x e
+  open-no = call-refused M I r o cwd p _ x e
 
-  pub info-no : refused (refusalNumber x) ≡ infoReply K I cwd p
+  pub info-no : refused (refusalNumber x) ≡ infoReply M I cwd p
   unfolding infoReply
-  info-no = call-refused K I r o cwd p _ x e
+  info-no = call-refused M I r o cwd p _ x e
 
-  pub list-no : (i cap : ℕ) → refused (refusalNumber x) ≡ listReply K I cwd p i cap
+  pub list-no : (i cap : ℕ) → refused (refusalNumber x) ≡ listReply M I cwd p i cap
   unfolding listReply
-  list-no i cap = call-refused K I r o cwd p _ x e
+  list-no i cap = call-refused M I r o cwd p _ x e

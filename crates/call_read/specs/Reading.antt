@@ -10,7 +10,7 @@ use Rattle.wire.specs.Pick.{pick, same}
 use Rattle.model.specs.Answers.{Reply, accepted, refused, andThen, firstOf, given}
 use Rattle.limits.specs.Refusals.{refusalNumber}
 use Rattle.model.specs.Render.{padded}
-use Rattle.model.specs.Geometry.{blockSize, dataAt, geoAt, openRefusal}
+use Rattle.model.specs.Geometry.{Mount, blockSize, dataAt, geoAt, openRefusal}
 use Rattle.model.specs.Volume.{fileLimit}
 use Rattle.dir_entry.specs.declared.Kind.{Kind}
 use Rattle.dir_entry.specs.declared.Kind.the-variants.{Dir}
@@ -24,10 +24,11 @@ use Rattle.read_dir.specs.Walk.{walk}
 use Rattle.read_dir.specs.Finds.{sumFrom, skip, listFrom, recordsFrom}
 use Rattle.path.specs.Path.{slash, realPath, pathRefusal, lastName}
 use Rattle.dir.specs.Resolve.{Held, entryOf, openDir}
-use Rattle.file.specs.declared.Handle.{Handle}
-use Rattle.file.specs.declared.ReadOut.{ReadOut}
-use Rattle.file.specs.File.{readRefusal, bytesRead}
-use Rattle.file.specs.Post.{CountedIs}
+use Rattle.handle.specs.declared.Handle.{Handle}
+use Rattle.handle.specs.declared.CountedOut.{CountedOut}
+use Rattle.handle.specs.Handles.{newHandle}
+use Rattle.file_read.specs.Read.{readRefusal, bytesRead}
+use Rattle.file_read.specs.Post.{CountedIs}
 use Rattle.call_read.specs.declared.OpenOut.{OpenOut}
 use Rattle.call_read.specs.declared.InfoOut.{InfoOut}
 use Rattle.call_read.specs.declared.Listing.{Listing}
@@ -35,24 +36,24 @@ use Rattle.call_read.specs.declared.Listing.the-variants as listing
 use Rattle.call_volume.specs.Says.{onAnswer, IfRefused}
 
 -- O5: 1, 2, 3, 4
-unfoldable pub pathCall : ℕ → List ℕ → List ℕ → List ℕ → ℕ
-pathCall K I cwd p = firstOf (openRefusal K I ∷ (pathRefusal cwd p ∷ []))
+unfoldable pub pathCall : Mount → List ℕ → List ℕ → List ℕ → ℕ
+pathCall M I cwd p = firstOf (openRefusal M I ∷ (pathRefusal cwd p ∷ []))
 
 -- The block size, D and n of the image's volume.
-abbrev pub size : ℕ → List ℕ → ℕ
-size K I = blockSize (geoAt K I)
+abbrev pub size : Mount → List ℕ → ℕ
+size M I = blockSize (geoAt M I)
 
-abbrev pub area : ℕ → List ℕ → ℕ
-area K I = dataAt (geoAt K I)
+abbrev pub area : Mount → List ℕ → ℕ
+area M I = dataAt (geoAt M I)
 
-abbrev pub end : ℕ → List ℕ → ℕ
-end K I = geoAt K I .n
+abbrev pub end : Mount → List ℕ → ℕ
+end M I = geoAt M I .n
 
 -- ---- open
 
--- H1, H5: at position 0; the holding directory's first address, the name, the file's first address and size.
+-- H1, H5: of the directory at a, on the file whose entry is e
 abbrev pub handleFor : ℕ → DirEntry → List ℕ → Handle
-handleFor a e x = record { dir = record { 0 = a }; name = padded 255 x; len = length x; addr = e .addr; size = e .size; position = 0 }
+handleFor a e x = newHandle (record { 0 = a }) x (e .addr) (e .size)
 
 -- H6: what a refused open gives
 abbrev pub noHandle : Handle
@@ -67,8 +68,8 @@ openEntry x h =
 unfoldable pub openOn : ℕ → ℕ → ℕ → List ℕ → List ℕ → Reply Handle
 openOn B D n I l = andThen (entryOf B D n I l) (openEntry (lastName l))
 
-unfoldable pub openReply : ℕ → List ℕ → List ℕ → List ℕ → Reply Handle
-openReply K I cwd p = given (pathCall K I cwd p) (openOn (size K I) (area K I) (end K I) I (realPath cwd p))
+unfoldable pub openReply : Mount → List ℕ → List ℕ → List ℕ → Reply Handle
+openReply M I cwd p = given (pathCall M I cwd p) (openOn (size M I) (area M I) (end M I) I (realPath cwd p))
 
 -- ---- info
 
@@ -99,8 +100,8 @@ aboutRoot summed.Damaged = refused 17
 unfoldable pub infoOn : ℕ → ℕ → ℕ → List ℕ → List ℕ → List ℕ → Reply About
 infoOn B D n I l p = pick (same p (slash ∷ [])) (aboutRoot (sumFrom 0 (walk B D n I D))) (andThen (entryOf B D n I l) (aboutEntry (lastName l)))
 
-unfoldable pub infoReply : ℕ → List ℕ → List ℕ → List ℕ → Reply About
-infoReply K I cwd p = given (pathCall K I cwd p) (infoOn (size K I) (area K I) (end K I) I (realPath cwd p) p)
+unfoldable pub infoReply : Mount → List ℕ → List ℕ → List ℕ → Reply About
+infoReply M I cwd p = given (pathCall M I cwd p) (infoOn (size M I) (area M I) (end M I) I (realPath cwd p) p)
 
 -- ---- list
 
@@ -117,8 +118,8 @@ countsOf listed.Damaged = refused 17
 unfoldable pub listOn : ℕ → ℕ → ℕ → List ℕ → List ℕ → ℕ → ℕ → Reply Counts
 listOn B D n I l i cap = andThen (openDir B D n I l) (λ a. countsOf (listFrom cap 0 i (skip i (walk B D n I a))))
 
-unfoldable pub listReply : ℕ → List ℕ → List ℕ → List ℕ → ℕ → ℕ → Reply Counts
-listReply K I cwd p i cap = given (pathCall K I cwd p) (listOn (size K I) (area K I) (end K I) I (realPath cwd p) i cap)
+unfoldable pub listReply : Mount → List ℕ → List ℕ → List ℕ → ℕ → ℕ → Reply Counts
+listReply M I cwd p i cap = given (pathCall M I cwd p) (listOn (size M I) (area M I) (end M I) I (realPath cwd p) i cap)
 
 -- The bytes of the records, where the directory is found.
 abbrev pub recordsAt : ℕ → ℕ → ℕ → List ℕ → ℕ → ℕ → Reply ℕ → List ℕ
@@ -143,8 +144,8 @@ pub record OpenIs (r : Reply Handle) (o : OpenOut) : Type 0 where
   pub answer : openSays o ≡ r
   pub empty : IfRefused (o .answer) (o .handle ≡ noHandle)
 
-abbrev pub Opens : ℕ → List ℕ → List ℕ → List ℕ → OpenOut → Type 0
-Opens K I cwd p o = OpenIs (openReply K I cwd p) o
+abbrev pub Opens : Mount → List ℕ → List ℕ → List ℕ → OpenOut → Type 0
+Opens M I cwd p o = OpenIs (openReply M I cwd p) o
 
 -- Info: likewise.
 abbrev pub aboutOf : InfoOut → About
@@ -157,8 +158,8 @@ pub record InfoIs (r : Reply About) (o : InfoOut) : Type 0 where
   pub answer : infoSays o ≡ r
   pub empty : IfRefused (o .answer) (aboutOf o ≡ noAbout)
 
-abbrev pub Informs : ℕ → List ℕ → List ℕ → List ℕ → InfoOut → Type 0
-Informs K I cwd p o = InfoIs (infoReply K I cwd p) o
+abbrev pub Informs : Mount → List ℕ → List ℕ → List ℕ → InfoOut → Type 0
+Informs M I cwd p o = InfoIs (infoReply M I cwd p) o
 
 -- List: the counts, and the buffer, from buf to out.
 abbrev pub listSays : Listing → Reply Counts
@@ -170,14 +171,14 @@ pub record ListIs (r : Reply Counts) (rs buf out : List ℕ) (q : Listing) : Typ
   pub answer : listSays q ≡ r
   pub buffer : out ≡ onReply r (splice buf 0 rs) buf
 
-abbrev pub Lists : ℕ → List ℕ → List ℕ → List ℕ → ℕ → List ℕ → Listing → List ℕ → Type 0
-Lists K I cwd p i buf q out =
-    ListIs (listReply K I cwd p i (length buf)) (recordsOn (size K I) (area K I) (end K I) I (realPath cwd p) i (length buf)) buf out q
+abbrev pub Lists : Mount → List ℕ → List ℕ → List ℕ → ℕ → List ℕ → Listing → List ℕ → Type 0
+Lists M I cwd p i buf q out =
+    ListIs (listReply M I cwd p i (length buf)) (recordsOn (size M I) (area M I) (end M I) I (realPath cwd p) i (length buf)) buf out q
 
 -- C7, O6: 1, 2, 3, then what handle, directory and chain are refused by; the count, the handle and the buffer, from buf to out.
-unfoldable pub readCall : ℕ → List ℕ → Handle → ℕ → ℕ
-readCall K I h len = firstOf (openRefusal K I ∷ (readRefusal (size K I) (area K I) (end K I) I h len ∷ []))
+unfoldable pub readCall : Mount → List ℕ → Handle → ℕ → ℕ
+readCall M I h len = firstOf (openRefusal M I ∷ (readRefusal (size M I) (area M I) (end M I) I h len ∷ []))
 
-abbrev pub Reads : ℕ → List ℕ → Handle → List ℕ → List ℕ → ReadOut → Type 0
-Reads K I h buf out o =
-    CountedIs (readCall K I h (length buf)) h (o .handle) (bytesRead (size K I) (area K I) (end K I) I h (length buf)) buf out (o .answer)
+abbrev pub Reads : Mount → List ℕ → Handle → List ℕ → List ℕ → CountedOut → Type 0
+Reads M I h buf out o =
+    CountedIs (readCall M I h (length buf)) h (o .handle) (bytesRead (size M I) (area M I) (end M I) I h (length buf)) buf out (o .answer)

@@ -1,14 +1,14 @@
 // The public calls that read: open, info, list, read and seek. Their answers for a caller are those of `mfs`, which passes them on.
 use block::Addr;
-use call_volume::Answer;
 use dir::Located;
 use dir_entry::DirEntry;
 use dir_entry::Kind;
-use file::Counted;
-use file::Handle;
-use file::ReadOut;
-use file::SeekFrom;
-use file::Sought;
+use handle::Counted;
+use handle::CountedOut;
+use handle::Handle;
+use handle::SeekFrom;
+use handle::Sought;
+use limits::Answer;
 use limits::Refusal;
 use path::Real;
 use read_dir::Listed;
@@ -16,10 +16,10 @@ use read_dir::Summed;
 use super_block::Opened;
 use super_block::SuperBlock;
 ghost use mathlib.Core.Path.{_≡_};
-ghost use Prim.Native.Nat.{_+_, _-_, _≤_};
-ghost use lib.ListN.{length, take, drop};
+ghost use Prim.Native.Nat.{_-_, _≤_};
+ghost use lib.ListN.{length, take};
 ghost use Rattle.block.specs.Block.{blockBytes};
-ghost use Rattle.model.specs.Render.{padded};
+ghost use Rattle.model.specs.Geometry.{mount};
 ghost use Rattle.super_block.specs.Super.{Fit};
 ghost use Rattle.model.specs.Answers.{accepted, refused, andThen, given};
 ghost use Rattle.limits.specs.Refusals.{refusalNumber};
@@ -27,11 +27,9 @@ ghost use Rattle.path.specs.Path.{pathLimit, realPath, pathRefusal, lastName};
 ghost use Rattle.dir.specs.Resolve.{entryOf, held};
 ghost use Rattle.read_dir.specs.Walk.{walk};
 ghost use Rattle.read_dir.specs.Finds.{sumFrom, skip, listFrom, recordsFrom};
-ghost use Rattle.call_read.specs.Reading.{handleFor, openEntry, openOn, OpenIs, Opens, about, aboutRoot, aboutEntry, infoOn, InfoIs, Informs, countsOf, listOn, recordsOn, ListIs, Lists, Reads};
-ghost use Rattle.file.specs.Post.{SoughtIs};
-
-// The longest file.
-const FILE_LIMIT: u32 = limits::FILE_LIMIT;
+ghost use Rattle.call_read.specs.Reading.{openEntry, openOn, OpenIs, Opens, about, aboutRoot, aboutEntry, infoOn, InfoIs, Informs, countsOf, listOn, recordsOn, ListIs, Lists, Reads};
+ghost use Rattle.handle.specs.Handles.{newHandle};
+ghost use Rattle.handle.specs.Post.{SoughtIs};
 
 // An opened file: the handle stands at position 0. A refused open gives an empty handle.
 pub struct OpenOut {
@@ -55,16 +53,15 @@ pub enum Listing {
     Refused(Refusal),
 }
 
-// full[from..to], of at most 255 bytes, in an array of its own.
-fn name_array(full: &[u8], from: usize, to: usize) -> [u8; 255]
-    requires { ⌜ from ≤ to ⌝ }
-    requires { ⌜ to ≤ length (now full) ⌝ }
-    requires { ⌜ to ≤ from + 255 ⌝ }
-    ensures { λ r. ⌜ r ≡ padded 255 (take (to - from) (drop from (now (full .entry)))) ⌝ }
+// The last name of the path full[..len].
+fn last_name(full: &[u8], len: usize) -> &[u8]
+    requires { ⌜ len ≤ length (now full) ⌝ }
+    ensures { λ r. ⌜ now r ≡ lastName (take len (now (full .entry))) ⌝ }
 {
-    let mut name = [0u8; 255];
-    wire::copy(&mut name, 0, full, from, to - from);
-    name
+    let parts = path::parts_of(full, len);
+    let from = parts.from;
+    let to = parts.to;
+    &full[from..to]
 }
 
 pub fn refused_open(r: Refusal) -> OpenOut
@@ -83,27 +80,15 @@ pub fn refused_open(r: Refusal) -> OpenOut
     }
 }
 
-// A handle on the file whose entry is e, in the directory at `dir`; its name is the last one of full[..len].
-pub fn handle_for(full: &[u8], len: usize, dir: Addr, e: DirEntry) -> OpenOut
+// A handle on the file at `addr`, in the directory at `dir`; its name is the last one of full[..len].
+pub fn handle_for(full: &[u8], len: usize, dir: Addr, addr: Addr, size: u32) -> OpenOut
     requires { ⌜ len ≤ length (now full) ⌝ }
     requires { ⌜ length (lastName (take len (now full))) ≤ 255 ⌝ }
-    ensures { λ o. ⌜ OpenIs (accepted (handleFor (dir .0) e (lastName (take len (now (full .entry)))))) o ⌝ }
+    ensures { λ o. ⌜ OpenIs (accepted (newHandle dir (lastName (take len (now (full .entry)))) addr size)) o ⌝ }
 {
-    let parts = path::parts_of(full, len);
-    let from = parts.from;
-    let to = parts.to;
-    let name = name_array(full, from, to);
-    let addr = e.addr;
     OpenOut {
         answer: Answer::Success,
-        handle: Handle {
-            dir,
-            name,
-            len: to - from,
-            addr,
-            size: e.size,
-            position: 0,
-        },
+        handle: Handle::new(dir, last_name(full, len), addr, size),
     }
 }
 
@@ -114,15 +99,16 @@ fn open_entry(full: &[u8], len: usize, dir: Addr, e: DirEntry) -> OpenOut
     ensures { λ o. ⌜ OpenIs (openEntry (lastName (take len (now (full .entry)))) (held (dir .0) e)) o ⌝ }
 {
     let k = e.kind;
+    let addr = e.addr;
     let size = e.size;
     match k {
         Kind::Dir => refused_open(Refusal::WrongKind),
         Kind::Device => refused_open(Refusal::WrongKind),
         Kind::File => {
-            if FILE_LIMIT < size {
+            if limits::FILE_LIMIT < size {
                 refused_open(Refusal::TooLarge)
             } else {
-                handle_for(full, len, dir, e)
+                handle_for(full, len, dir, addr, size)
             }
         }
     }
@@ -147,18 +133,16 @@ fn about_entry(full: &[u8], len: usize, e: DirEntry) -> InfoOut
     requires { ⌜ length (lastName (take len (now full))) ≤ 255 ⌝ }
     ensures { λ o. ⌜ InfoIs (accepted (about (e .kind) (e .size) (e .time) (lastName (take len (now (full .entry)))))) o ⌝ }
 {
-    let parts = path::parts_of(full, len);
-    let from = parts.from;
-    let to = parts.to;
-    let name = name_array(full, from, to);
+    let name = last_name(full, len);
+    let all = handle::name_array(name);
     let kind = e.kind;
     InfoOut {
         answer: Answer::Success,
         kind,
         size: e.size,
         time: e.time,
-        name,
-        len: to - from,
+        name: all,
+        len: name.len(),
     }
 }
 
@@ -223,7 +207,7 @@ fn open_path(img: &[u8], s: SuperBlock, cwd: &[u8], path: &[u8]) -> OpenOut
 
 // Opens the file at a path. Refusals: 1, 2, 3, 4, 5, 6, 17, 10.
 pub fn open(img: &[u8], k: u32, cwd: &[u8], path: &[u8]) -> OpenOut
-    ensures { λ o. ⌜ Opens k (now (img .entry)) (now (cwd .entry)) (now (path .entry)) o ⌝ }
+    ensures { λ o. ⌜ Opens (mount k) (now (img .entry)) (now (cwd .entry)) (now (path .entry)) o ⌝ }
 {
     let opened = SuperBlock::read(img, k);
     match opened {
@@ -266,7 +250,7 @@ fn info_path(img: &[u8], s: SuperBlock, cwd: &[u8], path: &[u8]) -> InfoOut
 
 // Kind, size, time and name of what stands at a path. Refusals: 1, 2, 3, 4, 5, 6, 17.
 pub fn info(img: &[u8], k: u32, cwd: &[u8], path: &[u8]) -> InfoOut
-    ensures { λ o. ⌜ Informs k (now (img .entry)) (now (cwd .entry)) (now (path .entry)) o ⌝ }
+    ensures { λ o. ⌜ Informs (mount k) (now (img .entry)) (now (cwd .entry)) (now (path .entry)) o ⌝ }
 {
     let opened = SuperBlock::read(img, k);
     match opened {
@@ -304,7 +288,7 @@ fn list_path(img: &[u8], s: SuperBlock, cwd: &[u8], path: &[u8], i: u32, buf: &m
 
 // Lists the directory at a path from entry number i on, into buf. Refusals: 1, 2, 3, 4, 5, 6, 17.
 pub fn list(img: &[u8], k: u32, cwd: &[u8], path: &[u8], i: u32, buf: &mut [u8]) -> Listing
-    ensures { λ r. ⌜ Lists k (now (img .entry)) (now (cwd .entry)) (now (path .entry)) i (now (buf .entry)) r (now (buf .exit)) ⌝ }
+    ensures { λ r. ⌜ Lists (mount k) (now (img .entry)) (now (cwd .entry)) (now (path .entry)) i (now (buf .entry)) r (now (buf .exit)) ⌝ }
 {
     let opened = SuperBlock::read(img, k);
     match opened {
@@ -314,16 +298,16 @@ pub fn list(img: &[u8], k: u32, cwd: &[u8], path: &[u8], i: u32, buf: &mut [u8])
 }
 
 // Reads from the handle's position on into buf. Refusals: 1, 2, 3, 11, 17; a refused read hands back the very handle.
-pub fn read(img: &[u8], k: u32, handle: Handle, buf: &mut [u8]) -> ReadOut
-    ensures { λ o. ⌜ Reads k (now (img .entry)) handle (now (buf .entry)) (now (buf .exit)) o ⌝ }
+pub fn read(img: &[u8], k: u32, handle: Handle, buf: &mut [u8]) -> CountedOut
+    ensures { λ o. ⌜ Reads (mount k) (now (img .entry)) handle (now (buf .entry)) (now (buf .exit)) o ⌝ }
 {
     let opened = SuperBlock::read(img, k);
     match opened {
-        Opened::Refused(r) => ReadOut {
+        Opened::Refused(r) => CountedOut {
             answer: Counted::Refused(r),
             handle,
         },
-        Opened::At(s) => handle.read(img, s, buf),
+        Opened::At(s) => file_read::read(handle, img, s, buf),
     }
 }
 

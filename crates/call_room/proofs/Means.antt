@@ -9,7 +9,7 @@ use native.Mathlib.Omega.{arith}
 use lib.Dec.{leb}
 use lib.ListN.{length}
 use borrow.Author.Tests.{leb-true, leb-false, le-leb}
-use Rattle.model.specs.Geometry.{geoAt, blockSize, mapAt, reach, openRefusal}
+use Rattle.model.specs.Geometry.{Mount, geoAt, blockSize, mapAt, reach, openRefusal}
 use Rattle.model.proofs.Replies.{accepted-one, reply-none, reply-zero}
 use Rattle.limits.specs.Refusals.{refusalNumber}
 use Rattle.limits.proofs.Numbers.{number-one}
@@ -64,31 +64,31 @@ module _ (l : List ℕ) (from limit k : ℕ) where
 
 -- ---- the answer
 
-module _ (K : ℕ) (I : List ℕ) (k : ℕ) (t : Told) (a : Asks K I k (Known t)) where
+module _ (M : Mount) (I : List ℕ) (k : ℕ) (t : Told) (a : Asks M I k (Known t)) where
   -- it is that of the bitmap
-  room-is : t ≡ roomIn (geoAt K I) I k
+  room-is : t ≡ roomIn (geoAt M I) I k
   room-is =
-      let told : Told = roomIn (geoAt K I) I k in
-      accepted-one t told (a ∙ reply-none _ (reply-zero (openRefusal K I) told t (sym a)))
+      let told : Told = roomIn (geoAt M I) I k in
+      accepted-one t told (a ∙ reply-none _ (reply-zero (openRefusal M I) told t (sym a)))
 
-  enough-is : t .enough ≡ leb k (length (clears (geoAt K I) I))
+  enough-is : t .enough ≡ leb k (length (clears (geoAt M I) I))
   unfolding roomIn
   enough-is = ap (λ (u : Told). u .enough) room-is
 
   bytes-is : t .bytes
-      ≡ bytesRead I (blockSize (geoAt K I) * mapAt (geoAt K I)) (reach (geoAt K I)) k (bytesFor (reach (geoAt K I)))
+      ≡ bytesRead I (blockSize (geoAt M I) * mapAt (geoAt M I)) (reach (geoAt M I)) k (bytesFor (reach (geoAt M I)))
   unfolding roomIn
   bytes-is = ap (λ (u : Told). u .bytes) room-is
 
   -- yes is: at least k
-  pub room-enough : (t .enough ≡ true) ↔ (k ≤ length (clears (geoAt K I) I))
+  pub room-enough : (t .enough ≡ true) ↔ (k ≤ length (clears (geoAt M I) I))
   room-enough = (λ e. leb-true k _ (sym enough-is ∙ e), λ h. enough-is ∙ le-leb k _ h)
 
   -- then the bytes are the fewest leading ones that have k,
-  pub room-fewest : t .enough ≡ true → (k ≤ clearIn I (blockSize (geoAt K I) * mapAt (geoAt K I)) (reach (geoAt K I)) (t .bytes))
-      × ((m : ℕ) → m < t .bytes → clearIn I (blockSize (geoAt K I) * mapAt (geoAt K I)) (reach (geoAt K I)) m < k)
+  pub room-fewest : t .enough ≡ true → (k ≤ clearIn I (blockSize (geoAt M I) * mapAt (geoAt M I)) (reach (geoAt M I)) (t .bytes))
+      × ((m : ℕ) → m < t .bytes → clearIn I (blockSize (geoAt M I) * mapAt (geoAt M I)) (reach (geoAt M I)) m < k)
   room-fewest e =
-      let g = geoAt K I in
+      let g = geoAt M I in
       let from : ℕ = blockSize g * mapAt g in
       let h : k ≤ clearIn I from (reach g) (bytesFor (reach g)) = omega (arith, room-enough .0 e, clear-reach g I) in (
         omega (arith, reads-hold I from (reach g) k (bytesFor (reach g)) h, ap (clearIn I from (reach g)) bytes-is),
@@ -96,15 +96,15 @@ module _ (K : ℕ) (I : List ℕ) (k : ℕ) (t : Told) (a : Asks K I k (Known t)
       )
 
   -- and otherwise all
-  pub room-all : t .enough ≡ false → t .bytes ≡ bytesFor (reach (geoAt K I))
+  pub room-all : t .enough ≡ false → t .bytes ≡ bytesFor (reach (geoAt M I))
   room-all e =
-      let g = geoAt K I in
+      let g = geoAt M I in
       let h : length (clears g I) < k = leb-false k _ (sym enough-is ∙ e) in
       bytes-is ∙ reads-all I (blockSize g * mapAt g) (reach g) k (bytesFor (reach g)) (omega (arith, clear-reach g I))
 
 -- any two are equal
-pub room-one : (K : ℕ) (I : List ℕ) (k : ℕ) (r q : RoomOut) → Asks K I k r → Asks K I k q → r ≡ q
-room-one K I k r q a b = go r q (a ∙ sym b)
+pub room-one : (M : Mount) (I : List ℕ) (k : ℕ) (r q : RoomOut) → Asks M I k r → Asks M I k q → r ≡ q
+room-one M I k r q a b = go r q (a ∙ sym b)
   where
     go : (r q : RoomOut) → roomSays r ≡ roomSays q → r ≡ q
     go (Known t) (Known u) e = ap Known (accepted-one t u e)

@@ -3,7 +3,7 @@ use mathlib.Core.Path.{_≡_}
 use mathlib.Core.List.{List}
 use Prim.Native.Nat.{ℕ}
 use Rattle.model.specs.Answers.{Reply, accepted, refused, reply}
-use Rattle.model.specs.Geometry.{geoAt, openRefusal}
+use Rattle.model.specs.Geometry.{Mount, geoAt, openRefusal}
 use Rattle.limits.specs.Refusals.{refusalNumber}
 use Rattle.bitmap_room.specs.declared.Told.{Told}
 use Rattle.bitmap_room.specs.Search.{roomIn}
@@ -16,5 +16,5 @@ roomSays (Known t) = accepted t
 roomSays (Refused r) = refused (refusalNumber r)
 
 -- Is there room for k blocks on image I: the answer r. Refusals 1, 2, 3 (O13).
-abbrev pub Asks : ℕ → List ℕ → ℕ → RoomOut → Type 0
-Asks K I k r = roomSays r ≡ reply (openRefusal K I) (roomIn (geoAt K I) I k)
+abbrev pub Asks : Mount → List ℕ → ℕ → RoomOut → Type 0
+Asks M I k r = roomSays r ≡ reply (openRefusal M I) (roomIn (geoAt M I) I k)

@@ -3,6 +3,7 @@ use bitmap_room::Told;
 use limits::Refusal;
 use super_block::Opened;
 use super_block::SuperBlock;
+ghost use Rattle.model.specs.Geometry.{mount};
 ghost use Rattle.call_room.specs.Room.{Asks};
 
 pub enum RoomOut {
@@ -12,7 +13,7 @@ pub enum RoomOut {
 
 // Whether so many blocks are free on the image's volume. Refusals: 1, 2, 3.
 pub fn room(img: &[u8], k: u32, count: u32) -> RoomOut
-    ensures { λ r. ⌜ Asks k (now (img .entry)) count r ⌝ }
+    ensures { λ r. ⌜ Asks (mount k) (now (img .entry)) count r ⌝ }
 {
     let opened = SuperBlock::read(img, k);
     match opened {

@@ -19,7 +19,7 @@ use Rattle.model.specs.Answers.{accepted, refused, firstOf, reply}
 use Rattle.limits.specs.Refusals.{refusalNumber}
 use Rattle.limits.specs.declared.Refusal.{Refusal}
 use Rattle.limits.specs.declared.Refusal.the-variants.{Damaged}
-use Rattle.model.specs.Geometry.{Geo, superBytes, blockSize, mapAt, dataAt, geoAt, formatGeo, usedCount, openRefusal, formatRefusal}
+use Rattle.model.specs.Geometry.{Mount, Geo, superBytes, blockSize, mapAt, dataAt, geoAt, formatGeo, usedCount, openRefusal, formatRefusal}
 use Rattle.model.proofs.Opens.{when-true, when-false, first-of-head, first-of-tail, first-of-one}
 use Rattle.model.proofs.Replies.{reply-none, settle-none}
 use Rattle.limits.proofs.Numbers.{reply-refused, settle-refused, number-some}
@@ -27,9 +27,9 @@ use Rattle.super_block.specs.declared.SuperBlock.{SuperBlock}
 use Rattle.super_block.specs.declared.Opened.{Opened}
 use Rattle.super_block.specs.declared.Opened.the-variants.{At, Refused}
 use Rattle.super_block.specs.Super.{geoOf, superBlock, Fit, OpenedIs, MadeIs, superWritten}
-use Rattle.super_block.proofs.Fits.{placed, opened-fit, made-fit, fit-long}
+use Rattle.super_block.proofs.Fits.{placed, opened-fit, opened-geo, made-fit, made-geo, fit-long}
 use Rattle.bitmap_block.specs.Bitmap.{taken}
-use Rattle.call_volume.specs.declared.Answer.the-variants as answer
+use Rattle.limits.specs.declared.Answer.the-variants as answer
 use Rattle.call_volume.specs.declared.Space.{Space}
 use Rattle.call_volume.specs.declared.Space.the-variants as space
 use Rattle.call_volume.specs.Says.{spaceSays}
@@ -37,31 +37,31 @@ use Rattle.call_volume.specs.Format.{formatted, Formats, overused, usage
 
 -- ---- an opened volume
 
-module _ (K : ℕ) (I : List ℕ) (r : Opened) (o : OpenedIs K I r) where
+module _ (M : Mount) (I : List ℕ) (r : Opened) (o : OpenedIs M I r) where
   module _ (s : SuperBlock) (e : r ≡ At s) where
-    opens : (openRefusal K I ≡ 0) × (s ≡ superBlock (geoAt K I))
-    opens = subst (OpenedIs K I) e o
+    opens : (openRefusal M I ≡ 0) × (s ≡ superBlock (geoAt M I))
+    opens = subst (OpenedIs M I) e o
 
     pub opened-at : Fit s I
-    opened-at = opened-fit K I s (opens .0) (opens .1)
+    opened-at = opened-fit M I s (opens .0) (opens .1)
 
     -- usage, from the answer that the numbers and the count give
-    pub usage-sized : (u : ℕ) (q : Space) → u ≡ usedCount (geoOf s) I → spaceSays q ≡ reply (overused (geoOf s) u) (sizesOf (geoOf s) u) → Uses K I q
+    pub usage-sized : (u : ℕ) (q : Space) → u ≡ usedCount (geoOf s) I → spaceSays q ≡ reply (overused (geoOf s) u) (sizesOf (geoOf s) u) → Uses M I q
     unfolding usageRefusal
     usage-sized u q f h =
-        let g : geoOf s ≡ geoAt K I = ap geoOf (opens .1) in
-        let v : u ≡ usedCount (geoAt K I) I = f ∙ ap (λ (x : Geo). usedCount x I) g in
-        let t : overused (geoOf s) u ≡ overused (geoAt K I) (usedCount (geoAt K I) I) = ap (λ (x : Geo). overused x u) g ∙ ap (overused (geoAt K I)) v in
-        let z : sizesOf (geoOf s) u ≡ sizesOf (geoAt K I) (usedCount (geoAt K I) I) = ap (λ (x : Geo). sizesOf x u) g ∙ ap (sizesOf (geoAt K I)) v in
-        let w : firstOf (openRefusal K I ∷ (overused (geoAt K I) (usedCount (geoAt K I) I) ∷ [])) ≡ overused (geoAt K I) (usedCount (geoAt K I) I)
-        = first-of-tail _ _ (opens .0) ∙ first-of-one (overused (geoAt K I) (usedCount (geoAt K I) I)) in
+        let g : geoOf s ≡ geoAt M I = opened-geo M I s (opens .0) (opens .1) in
+        let v : u ≡ usedCount (geoAt M I) I = f ∙ ap (λ (x : Geo). usedCount x I) g in
+        let t : overused (geoOf s) u ≡ overused (geoAt M I) (usedCount (geoAt M I) I) = ap (λ (x : Geo). overused x u) g ∙ ap (overused (geoAt M I)) v in
+        let z : sizesOf (geoOf s) u ≡ sizesOf (geoAt M I) (usedCount (geoAt M I) I) = ap (λ (x : Geo). sizesOf x u) g ∙ ap (sizesOf (geoAt M I)) v in
+        let w : firstOf (openRefusal M I ∷ (overused (geoAt M I) (usedCount (geoAt M I) I) ∷ [])) ≡ overused (geoAt M I) (usedCount (geoAt M I) I)
+        = first-of-tail _ _ (opens .0) ∙ first-of-one (overused (geoAt M I) (usedCount (geoAt M I) I)) in
         h ∙ ap (λ (k : ℕ). reply k (sizesOf (geoOf s) u)) (t ∙ sym w) ∙ ap (reply _) z
 
-  pub usage-refused : (x : Refusal) → r ≡ Refused x → Uses K I (space.Refused x)
+  pub usage-refused : (x : Refusal) → r ≡ Refused x → Uses M I (space.Refused x)
   unfolding usageRefusal
   usage-refused x e =
-      let f : openRefusal K I ≡ refusalNumber x = subst (OpenedIs K I) e o in
-      let h : firstOf (openRefusal K I ∷ (overused (geoAt K I) (usedCount (geoAt K I) I) ∷ [])) ≡ refusalNumber x
+      let f : openRefusal M I ≡ refusalNumber x = subst (OpenedIs M I) e o in
+      let h : firstOf (openRefusal M I ∷ (overused (geoAt M I) (usedCount (geoAt M I) I) ∷ [])) ≡ refusalNumber x
       = first-of-head _ _ (omega (arith, f, number-some x)) ∙ f in
       sym (reply-refused _ x h)
 
@@ -78,24 +78,24 @@ sizes-in g u h = sym (reply-none _ (when-false 17 (le-ltb (g .n) u h)))
 
 -- ---- format
 
-module _ (K : ℕ) (I : List ℕ) (r : Opened) (o : MadeIs K (length I) r) where
-  pub format-refused : (x : Refusal) → r ≡ Refused x → Formats K I (answer.Refused x) I
+module _ (M : Mount) (I : List ℕ) (r : Opened) (o : MadeIs M (length I) r) where
+  pub format-refused : (x : Refusal) → r ≡ Refused x → Formats M I (answer.Refused x) I
   format-refused x e =
-      let f : formatRefusal K (length I) ≡ refusalNumber x = subst (MadeIs K (length I)) e o in
+      let f : formatRefusal M (length I) ≡ refusalNumber x = subst (MadeIs M (length I)) e o in
       record { answer = sym (reply-refused tt x f); image = sym (settle-refused _ I x f) }
 
   module _ (s : SuperBlock) (e : r ≡ At s) where
-    makes : (formatRefusal K (length I) ≡ 0) × (s ≡ superBlock (formatGeo K (length I)))
-    makes = subst (MadeIs K (length I)) e o
+    makes : (formatRefusal M (length I) ≡ 0) × (s ≡ superBlock (formatGeo M (length I)))
+    makes = subst (MadeIs M (length I)) e o
 
     pub made-at : Fit s I
-    made-at = made-fit K I s (makes .0) (makes .1)
+    made-at = made-fit M I s (makes .0) (makes .1)
 
-    pub format-made : (J : List ℕ) → J ≡ formatted (geoOf s) I → Formats K I answer.Success J
+    pub format-made : (J : List ℕ) → J ≡ formatted (geoOf s) I → Formats M I answer.Success J
     format-made J h =
         record {
           answer = sym (reply-none tt (makes .0));
-          image = h ∙ ap (λ (g : Geo). formatted g I) (ap geoOf (makes .1)) ∙ sym (settle-none _ I (makes .0));
+          image = h ∙ ap (λ (g : Geo). formatted g I) (made-geo M (length I) s (makes .0) (makes .1)) ∙ sym (settle-none _ I (makes .0));
         }
 
 -- ---- the stores of a format: the superblock, then the bitmap, then block D taken
@@ -141,12 +141,12 @@ module _ (s : SuperBlock) (I : List ℕ) (f : Fit s I) where
     pub laid-used : usedCount (geoOf s) L < s .blocks
     laid-used = let h = placed f in omega (arith, used-L)
 
-    pub laid-is : (M : List ℕ) → M ≡ taken (geoOf s) L 0 → M ≡ formatted (geoOf s) I
+    pub laid-is : (R : List ℕ) → R ≡ taken (geoOf s) L 0 → R ≡ formatted (geoOf s) I
     unfolding formatted
-    laid-is M e =
+    laid-is R e =
         let a : s .area .0 ≡ dataAt (geoOf s) = f .area in
         let b : s .bitmap .0 ≡ mapAt (geoOf s) = f .bitmap in
         let x : J ≡ superWritten (geoOf s) I (dataAt (geoOf s)) = p ∙ ap (superWritten (geoOf s) I) a in
         let y : L ≡ zeroed 512 (superWritten (geoOf s) I (dataAt (geoOf s))) (mapAt (geoOf s)) (dataAt (geoOf s) - mapAt (geoOf s))
-        = q ∙ ap (λ (K : List ℕ). zeroed 512 K (s .bitmap .0) (s .area .0 - s .bitmap .0)) x ∙ rw (a, b) in
-        e ∙ ap (λ (K : List ℕ). taken (geoOf s) K 0) y
+        = q ∙ ap (λ (x : List ℕ). zeroed 512 x (s .bitmap .0) (s .area .0 - s .bitmap .0)) x ∙ rw (a, b) in
+        e ∙ ap (λ (x : List ℕ). taken (geoOf s) x 0) y

@@ -15,7 +15,7 @@ use Rattle.block.proofs.Blocks.{byte-zeroed}
 use Rattle.model.specs.Answers.{accepted}
 use Rattle.model.specs.Tree.{blank}
 use Rattle.model.specs.Render.{Shows, padded, count}
-use Rattle.model.specs.Geometry.{Geo, mapAt, dataAt, mapBits, formatGeo, superBytes, usedCount, Sound, formatRefusal}
+use Rattle.model.specs.Geometry.{Mount, mount, Geo, mapAt, dataAt, mapBits, formatGeo, superBytes, usedCount, Sound, formatRefusal}
 use Rattle.model.specs.Volume.{Volume, WellFormed, maxDepth}
 use Rattle.model.proofs.Blank.{formatted as blank-volume}
 use Rattle.model.proofs.Full.{length-padded, padded-none, zero-byte}
@@ -27,7 +27,7 @@ use Rattle.super_block.specs.Super.{superBlock, superWritten, Fit}
 use Rattle.super_block.proofs.Fits.{fit-of}
 use Rattle.bitmap_block.specs.Bitmap.{mark, taken}
 use Rattle.bitmap_block.proofs.Stores.{mark-is, top-taken, mark-taken, mark-taken-other, cell-taken, sound-taken}
-use Rattle.call_volume.specs.declared.Answer.{Answer}
+use Rattle.limits.specs.declared.Answer.{Answer}
 use Rattle.call_volume.specs.Says.{says}
 use Rattle.call_volume.specs.Format.{formatted, Formats}
 use Rattle.call_volume.proofs.Answers.{bitmap-in, long-J, laid-fit, top-L, used-L, root-in}
@@ -39,9 +39,9 @@ empty-byte k i = ap (λ (l : List ℕ). getD (bytes 4 0 ++ l) i 0) (padded-none 
 zero-long : length (bytes 4 0 ++ padded 508 []) ≡ 512
 zero-long = length-append (bytes 4 0) (padded 508 []) ∙ omega (arith, length-bytes 4 0, length-padded 508 [] (omega arith))
 
-module _ (K : ℕ) (I : List ℕ) (sound : Sound (formatGeo K (length I)) (length I)) where
+module _ (K : ℕ) (I : List ℕ) (sound : Sound (formatGeo (mount K) (length I)) (length I)) where
   abbrev g : Geo
-  g = formatGeo K (length I)
+  g = formatGeo (mount K) (length I)
 
   abbrev s : SuperBlock
   s = superBlock g
@@ -91,17 +91,25 @@ module _ (K : ℕ) (I : List ℕ) (sound : Sound (formatGeo K (length I)) (lengt
       (λ i h. unfold cell in rw add-zero at (cell-taken g L sound-L 0 root i (omega (arith, zero-long, h))) ∙ sym (empty-byte 508 i))
       marks
 
+-- So it has for every mount whose numbers are sound.
+mount-volume : (M : Mount) (I : List ℕ) → Sound (formatGeo M (length I)) (length I) → (d : ℕ)
+    → Volume (formatGeo M (length I)) (formatted (formatGeo M (length I)) I) d (blank d (dataAt (formatGeo M (length I))))
+mount-volume M I s d =
+    let e : M ≡ mount (M .K) = λ i. record { K = M .K; code = s .known .1 i } in
+    subst (λ (m : Mount). Volume (formatGeo m (length I)) (formatted (formatGeo m (length I)) I) d (blank d (dataAt (formatGeo m (length I))))) (sym e)
+    (format-volume (M .K) I (subst (λ (m : Mount). Sound (formatGeo m (length I)) (length I)) e s) d)
+
 -- An image that format accepts is well formed: the numbers are those of the whole image, and the tree is the empty one.
-pub format-well-formed : (K : ℕ) (I : List ℕ) (r : Answer) (J : List ℕ) → Formats K I r J → says r ≡ accepted tt
-    → (w : WellFormed K J) × (w .tree ≡ blank maxDepth (dataAt (formatGeo K (length I))))
-format-well-formed K I r J f e =
-    let z : formatRefusal K (length I) ≡ 0 = reply-zero _ tt tt (sym (f .answer) ∙ e) in
-    let j : J ≡ formatted (formatGeo K (length I)) I = f .image ∙ settle-none _ I z in (
+pub format-well-formed : (M : Mount) (I : List ℕ) (r : Answer) (J : List ℕ) → Formats M I r J → says r ≡ accepted tt
+    → (w : WellFormed M J) × (w .tree ≡ blank maxDepth (dataAt (formatGeo M (length I))))
+format-well-formed M I r J f e =
+    let z : formatRefusal M (length I) ≡ 0 = reply-zero _ tt tt (sym (f .answer) ∙ e) in
+    let j : J ≡ formatted (formatGeo M (length I)) I = f .image ∙ settle-none _ I z in (
       record {
-        numbers = formatGeo K (length I);
+        numbers = formatGeo M (length I);
         here = refl;
-        tree = blank maxDepth (dataAt (formatGeo K (length I)));
-        volume = subst (λ (x : List ℕ). Volume (formatGeo K (length I)) x maxDepth (blank maxDepth (dataAt (formatGeo K (length I))))) (sym j) (format-volume K I (format-sound K (length I) z) maxDepth);
+        tree = blank maxDepth (dataAt (formatGeo M (length I)));
+        volume = subst (λ (x : List ℕ). Volume (formatGeo M (length I)) x maxDepth (blank maxDepth (dataAt (formatGeo M (length I))))) (sym j) (mount-volume M I (format-sound M (length I) z) maxDepth);
       },
       refl,
     )

@@ -2,22 +2,15 @@
 use Prim.Native.Nat.{ℕ}
 use Rattle.model.specs.Answers.{Reply, accepted, refused}
 use Rattle.limits.specs.Refusals.{refusalNumber}
-use Rattle.file.specs.declared.Outcome.{Outcome}
-use Rattle.file.specs.declared.Outcome.the-variants as outcome
-use Rattle.call_volume.specs.declared.Answer.{Answer}
-use Rattle.call_volume.specs.declared.Answer.the-variants as answer
+use Rattle.limits.specs.declared.Answer.{Answer}
+use Rattle.limits.specs.declared.Answer.the-variants as answer
 use Rattle.call_volume.specs.declared.Space.{Space}
 use Rattle.call_volume.specs.declared.Space.the-variants as space
 
--- plain success, of format, check, create_dir and delete (C1, C3, C10, C11)
+-- plain success, of format, check, create_dir and delete (C1, C3, C10, C11), and of seek (C8), with the handle beside it
 abbrev pub says : Answer → Reply (Unit {0})
 says answer.Success = accepted tt
 says (answer.Refused r) = refused (refusalNumber r)
-
--- C8, seek: plain success, and the handle beside it
-abbrev pub soughtSays : Outcome → Reply (Unit {0})
-soughtSays outcome.Success = accepted tt
-soughtSays (outcome.Refused r) = refused (refusalNumber r)
 
 -- an answer with a value beside it, which counts where the answer is success
 abbrev pub onAnswer : {A : Type 0} → Answer → A → Reply A

@@ -1,24 +1,20 @@
 // The public calls on a volume as a whole: format, usage and the check; and the check that a changing call runs first.
 // Their answers for a caller are those of `mfs`, which passes them on.
 use block::Index;
+use limits::Answer;
 use limits::Refusal;
 use super_block::Opened;
 use super_block::SuperBlock;
 ghost use mathlib.Core.Path.{_≡_};
 ghost use Prim.Native.Nat.{_-_};
 ghost use lib.ListN.{take};
+ghost use Rattle.model.specs.Geometry.{mount};
 ghost use Rattle.super_block.specs.Super.{geoOf, Fit, OpenedIs};
 ghost use Rattle.super_block.specs.declared.Opened.the-variants as opened;
 ghost use Rattle.model.specs.Answers.{reply};
 ghost use Rattle.call_volume.specs.Says.{spaceSays};
 ghost use Rattle.call_volume.specs.Checking.{Checks, Checked};
 ghost use Rattle.call_volume.specs.Format.{formatted, Formats, Uses, overused, sizesOf};
-
-// The answer of a call that gives nothing back.
-pub enum Answer {
-    Success,
-    Refused(Refusal),
-}
 
 // Bytes of the volume, bytes of its used blocks, and the rest; wide enough for 4 GiB.
 pub enum Space {
@@ -40,7 +36,7 @@ fn lay(img: &mut [u8], s: SuperBlock)
 
 // Makes the whole image a volume with an empty root directory. Refusals: 1, 3.
 pub fn format(img: &mut [u8], k: u32) -> Answer
-    ensures { λ r. ⌜ Formats k (now (img .entry)) r (now (img .exit)) ⌝ }
+    ensures { λ r. ⌜ Formats (mount k) (now (img .entry)) r (now (img .exit)) ⌝ }
 {
     let len = img.len();
     let opened = SuperBlock::for_image(len, k);
@@ -72,7 +68,7 @@ fn sizes_of(s: SuperBlock, used: u32) -> Space
 
 // How much of the volume is used. Refusals: 1, 2, 3, 17.
 pub fn usage(img: &[u8], k: u32) -> Space
-    ensures { λ r. ⌜ Uses k (now (img .entry)) r ⌝ }
+    ensures { λ r. ⌜ Uses (mount k) (now (img .entry)) r ⌝ }
 {
     let opened = SuperBlock::read(img, k);
     match opened {
@@ -83,8 +79,8 @@ pub fn usage(img: &[u8], k: u32) -> Space
 
 // The whole check of an opened volume, and its work buffer's length before that.
 fn check_opened(img: &[u8], k: u32, s: SuperBlock, work: &mut [u8]) -> Opened
-    requires { ⌜ OpenedIs k (now img) (opened.At s) ⌝ }
-    ensures { λ r. ⌜ Checked k (now (img .entry)) (now (work .entry)) r (now (work .exit)) ⌝ }
+    requires { ⌜ OpenedIs (mount k) (now img) (opened.At s) ⌝ }
+    ensures { λ r. ⌜ Checked (mount k) (now (img .entry)) (now (work .entry)) r (now (work .exit)) ⌝ }
 {
     if work.len() < check_bitmap::mark_bytes(s) {
         return Opened::Refused(Refusal::ShortWork);
@@ -98,7 +94,7 @@ fn check_opened(img: &[u8], k: u32, s: SuperBlock, work: &mut [u8]) -> Opened
 
 // Opens a volume and checks it whole: what a changing call does first.
 pub fn open_checked(img: &[u8], k: u32, work: &mut [u8]) -> Opened
-    ensures { λ r. ⌜ Checked k (now (img .entry)) (now (work .entry)) r (now (work .exit)) ⌝ }
+    ensures { λ r. ⌜ Checked (mount k) (now (img .entry)) (now (work .entry)) r (now (work .exit)) ⌝ }
 {
     let opened = SuperBlock::read(img, k);
     match opened {
@@ -110,7 +106,7 @@ pub fn open_checked(img: &[u8], k: u32, work: &mut [u8]) -> Opened
 // Whether the image is a well-formed volume, W1 to W5. One bit a block is marked in the work buffer, and is zero again afterwards.
 // Refusals: 1, 2, 3, 16, 17.
 pub fn check(img: &[u8], k: u32, work: &mut [u8]) -> Answer
-    ensures { λ r. ⌜ Checks k (now (img .entry)) (now (work .entry)) r (now (work .exit)) ⌝ }
+    ensures { λ r. ⌜ Checks (mount k) (now (img .entry)) (now (work .entry)) r (now (work .exit)) ⌝ }
 {
     let checked = open_checked(img, k, work);
     match checked {

@@ -40,14 +40,13 @@
 use block::Addr;
 use call_read::Listing;
 use call_read::OpenOut;
-use call_volume::Answer;
 use call_volume::Space;
 use dir_entry::Kind;
-use file::Counted;
-use file::Handle;
-use file::Outcome;
-use file::SeekFrom;
-use file::WriteOut;
+use handle::Counted;
+use handle::CountedOut;
+use handle::Handle;
+use handle::SeekFrom;
+use limits::Answer;
 use limits::Refusal;
 use super_block::Opened;
 use super_block::SuperBlock;
@@ -648,8 +647,8 @@ fn seek(letter: u8, h: Handle, v: Row) -> Handle {
     let a = o.answer;
     let g = o.handle;
     match a {
-        Outcome::Success => told(letter, b" 1\x03", b" to\x03", held(g, 0), b"", 0),
-        Outcome::Refused(r) => {
+        Answer::Success => told(letter, b" 1\x03", b" to\x03", held(g, 0), b"", 0),
+        Answer::Refused(r) => {
             refuse(letter, r);
             told(letter, b"", b"\x03", held(g, 0), b"", 0);
         }
@@ -657,7 +656,7 @@ fn seek(letter: u8, h: Handle, v: Row) -> Handle {
     g
 }
 
-fn written(letter: u8, o: WriteOut) -> Handle {
+fn written(letter: u8, o: CountedOut) -> Handle {
     let a = o.answer;
     let g = o.handle;
     let name = g.name;

@@ -14,85 +14,76 @@ use Rattle.wire.specs.Pick.{same, zeroFrom}
 use Rattle.wire.proofs.Numbers.{length-bytes, getD-zeros}
 use Rattle.wire.proofs.Picks.{same-eq}
 use Rattle.wire.proofs.Zeros.{zeros-shown, zeros-pass}
-use Rattle.block.specs.Block.{blockBytes}
 use Rattle.model.specs.Tree.{Tree}
 use Rattle.model.specs.Render.{Shows, padded}
-use Rattle.model.specs.Geometry.{Geo, blockSize, dataAt, setBits, signature, superBytes, geo, geoAt, countAt, usedCount, Sound, openRefusal}
+use Rattle.model.specs.Geometry.{Mount, Geo, codeSize, blockSize, dataAt, setBits, signature, topMark, superBytes, geo, geoAt, countAt, usedCount, openRefusal}
 use Rattle.model.specs.Volume.{Volume}
 use Rattle.model.specs.Steps.{Bytes}
-use Rattle.model.proofs.Areas.{sound-geo}
 use Rattle.model.proofs.Commit.{shows-both, shows-two}
 use Rattle.model.proofs.Entries.{bytes-shown}
 use Rattle.model.proofs.OneVolume.{used-set}
 use Rattle.model.proofs.Opens.{opens-sound}
 
--- signature, version and size code
-abbrev mark : List ℕ
-mark = signature ++ (2 ∷ (0 ∷ []))
+mark-shown : (M : Mount) (I : List ℕ) (k : ℕ) → same (take 10 (drop k I)) (topMark M) ≡ true → Shows I k (topMark M)
+mark-shown M I k e i h =
+    sym (getD-take 10 (drop k I) i 0 h ∙ getD-drop k I i 0) ∙ ap (λ (l : List ℕ). getD l i 0) (same-eq (take 10 (drop k I)) (topMark M) e)
 
-mark-shown : (I : List ℕ) (k : ℕ) → same (take 10 (drop k I)) mark ≡ true → Shows I k mark
-mark-shown I k e i h =
-    sym (getD-take 10 (drop k I) i 0 h ∙ getD-drop k I i 0) ∙ ap (λ (l : List ℕ). getD l i 0) (same-eq (take 10 (drop k I)) mark e)
-
--- the superblock's bytes, part by part
-super-shown : (I : List ℕ) (K n u : ℕ) → Shows I (512 * K) mark → Shows I (512 * K + 10) (bytes 4 n) → Shows I (512 * K + 14) (bytes 4 u)
-    → ((i : ℕ) → i < 494 → getD I (512 * K + 18 + i) 0 ≡ 0) → Shows I (512 * K) (superBytes (geo K n) u)
+-- the superblock's bytes at k, part by part
+super-shown : (g : Geo) (I : List ℕ) (k u : ℕ) → Shows I k (signature ++ (g .version ∷ (g .code ∷ []))) → Shows I (k + 10) (bytes 4 (g .n))
+    → Shows I (k + 14) (bytes 4 u) → ((i : ℕ) → i < blockSize g - 18 → getD I (k + 18 + i) 0 ≡ 0) → Shows I k (superBytes g u)
 unfolding superBytes padded
-super-shown I K n u m a b z =
-    let N : List ℕ = bytes 4 n in
+super-shown g I k u m a b z =
+    let T : List ℕ = signature ++ (g .version ∷ (g .code ∷ [])) in
+    let N : List ℕ = bytes 4 (g .n) in
     let U : List ℕ = bytes 4 u in
-    let ln : length N ≡ 4 = length-bytes 4 n in
+    let ln : length N ≡ 4 = length-bytes 4 (g .n) in
     let lu : length U ≡ 4 = length-bytes 4 u in
     let lr : length (N ++ U) ≡ 8 = length-append N U ∙ omega arith in
-    let at : 512 * K + 14 ≡ 512 * K + 10 + length N = omega arith in
-    let c : Shows I (512 * K + 10) (N ++ U) = shows-both I (512 * K + 10) N U a (subst (λ (j : ℕ). Shows I j U) at b) in
-    let d : Shows I (512 * K) (mark ++ (N ++ U)) = shows-both I (512 * K) mark (N ++ U) m c in
-    let ld : length (mark ++ (N ++ U)) ≡ 18 = length-append mark (N ++ U) ∙ omega arith in
-    let Z : List ℕ = zeros (512 - length (mark ++ (N ++ U))) in
-    let lz : length Z ≡ 512 - length (mark ++ (N ++ U)) = length-replicate {A = ℕ} (512 - length (mark ++ (N ++ U))) 0 in
-    shows-both I (512 * K) (mark ++ (N ++ U)) Z d
+    let at : k + 14 ≡ k + 10 + length N = omega arith in
+    let c : Shows I (k + 10) (N ++ U) = shows-both I (k + 10) N U a (subst (λ (j : ℕ). Shows I j U) at b) in
+    let d : Shows I k (T ++ (N ++ U)) = shows-both I k T (N ++ U) m c in
+    let ld : length (T ++ (N ++ U)) ≡ 18 = length-append T (N ++ U) ∙ omega arith in
+    let w : ℕ = blockSize g - length (T ++ (N ++ U)) in
+    let lz : length (zeros w) ≡ w = length-replicate {A = ℕ} w 0 in
+    shows-both I k (T ++ (N ++ U)) (zeros w) d
     (λ i h.
-    let e : 512 * K + length (mark ++ (N ++ U)) + i ≡ 512 * K + 18 + i = omega arith in
-    ap (λ (j : ℕ). getD I j 0) e ∙ z i (omega arith) ∙ sym (getD-zeros (512 - length (mark ++ (N ++ U))) i))
+    let e : k + length (T ++ (N ++ U)) + i ≡ k + 18 + i = omega arith in
+    ap (λ (j : ℕ). getD I j 0) e ∙ z i (omega arith) ∙ sym (getD-zeros w i))
 
 -- An image that opens, and whose superblock ends in zeros, shows the superblock of its numbers and its used count.
-rest-shown : (K : ℕ) (I : List ℕ) → openRefusal K I ≡ 0 → Bytes I → zeroFrom I (blockBytes * K + 18) (blockBytes - 18) ≡ true
-    → Shows I (blockSize (geoAt K I) * K) (superBytes (geoAt K I) (usedCount (geoAt K I) I))
+rest-shown : (M : Mount) (I : List ℕ) → openRefusal M I ≡ 0 → Bytes I → zeroFrom I (codeSize (M .code) * M .K + 18) (codeSize (M .code) - 18) ≡ true
+    → Shows I (codeSize (M .code) * M .K) (superBytes (geoAt M I) (usedCount (geoAt M I) I))
 unfolding countAt usedCount
-rest-shown K I o b z =
-    super-shown I K (be 4 I (512 * K + 10)) (be 4 I (512 * K + 14)) (mark-shown I (512 * K) (opens-sound K I o .1))
-    (bytes-shown 4 I (512 * K + 10) b) (bytes-shown 4 I (512 * K + 14) b) (zeros-shown I (512 * K + 18) 494 z)
+rest-shown M I o b z =
+    let k : ℕ = codeSize (M .code) * M .K in
+    super-shown (geo M (be 4 I (k + 10))) I k (be 4 I (k + 14)) (mark-shown M I k (opens-sound M I o .1))
+    (bytes-shown 4 I (k + 10) b) (bytes-shown 4 I (k + 14) b) (zeros-shown I (k + 18) (codeSize (M .code) - 18) z)
 
--- Back: a superblock that is shown ends in zeros,
-rest-zeros : (K n : ℕ) (I : List ℕ) (u : ℕ) → Shows I (512 * K) (superBytes (geo K n) u) → (i : ℕ) → i < 494 → getD I (512 * K + 18 + i) 0 ≡ 0
+-- Back: a superblock that is shown ends in zeros.
+rest-zeros : (g : Geo) (I : List ℕ) (k u : ℕ) → Shows I k (superBytes g u) → (i : ℕ) → i < blockSize g - 18 → getD I (k + 18 + i) 0 ≡ 0
 unfolding superBytes padded
-rest-zeros K n I u s i h =
-    let T : List ℕ = mark ++ (bytes 4 n ++ bytes 4 u) in
-    let lt : length T ≡ 18 = length-append mark (bytes 4 n ++ bytes 4 u) ∙ omega (arith, length-append (bytes 4 n) (bytes 4 u), length-bytes 4 n, length-bytes 4 u) in
-    let e : 512 * K + 18 + i ≡ 512 * K + length T + i = omega arith in
-    let lz : length (zeros (512 - length T)) ≡ 512 - length T = length-replicate {A = ℕ} (512 - length T) 0 in
-    ap (λ (j : ℕ). getD I j 0) e ∙ shows-two I (512 * K) T (zeros (512 - length T)) s i (omega arith) ∙ getD-zeros (512 - length T) i
-
-rest-passes : (g : Geo) (I : List ℕ) (u : ℕ) → Sound g (length I) → Shows I (blockSize g * g .K) (superBytes g u)
-    → zeroFrom I (blockBytes * g .K + 18) (blockBytes - 18) ≡ true
-rest-passes g I u s t =
-    let r : Shows I (512 * g .K) (superBytes (geo (g .K) (g .n)) u)
-    = subst (λ (x : Geo). Shows I (blockSize x * x .K) (superBytes x u)) (sound-geo g (length I) s) t in
-    zeros-pass I 494 (512 * g .K + 18) (rest-zeros (g .K) (g .n) I u r)
+rest-zeros g I k u s i h =
+    let R : List ℕ = bytes 4 (g .n) ++ bytes 4 u in
+    let T : List ℕ = signature ++ (g .version ∷ (g .code ∷ R)) in
+    let lr : length R ≡ 8 = length-append (bytes 4 (g .n)) (bytes 4 u) ∙ omega (arith, length-bytes 4 (g .n), length-bytes 4 u) in
+    let lt : length T ≡ 18 = omega arith in
+    let e : k + 18 + i ≡ k + length T + i = omega arith in
+    let lz : length (zeros (blockSize g - length T)) ≡ blockSize g - length T = length-replicate {A = ℕ} (blockSize g - length T) 0 in
+    ap (λ (j : ℕ). getD I j 0) e ∙ shows-two I k T (zeros (blockSize g - length T)) s i (omega arith) ∙ getD-zeros (blockSize g - length T) i
 
 -- ---- with the used count
 
 -- Where both tests pass, the image shows the superblock that a volume must have.
-pub top-shown : (K : ℕ) (I : List ℕ) → openRefusal K I ≡ 0 → Bytes I → zeroFrom I (blockBytes * K + 18) (blockBytes - 18) ≡ true
-    → eqb (usedCount (geoAt K I) I) (dataAt (geoAt K I) + setBits I (geoAt K I)) ≡ true
-    → Shows I (blockSize (geoAt K I) * K) (superBytes (geoAt K I) (dataAt (geoAt K I) + setBits I (geoAt K I)))
-top-shown K I o b z c =
-    subst (λ (u : ℕ). Shows I (blockSize (geoAt K I) * K) (superBytes (geoAt K I) u)) (eqb-true _ _ c) (rest-shown K I o b z)
+pub top-shown : (M : Mount) (I : List ℕ) → openRefusal M I ≡ 0 → Bytes I → zeroFrom I (codeSize (M .code) * M .K + 18) (codeSize (M .code) - 18) ≡ true
+    → eqb (usedCount (geoAt M I) I) (dataAt (geoAt M I) + setBits I (geoAt M I)) ≡ true
+    → Shows I (codeSize (M .code) * M .K) (superBytes (geoAt M I) (dataAt (geoAt M I) + setBits I (geoAt M I)))
+top-shown M I o b z c =
+    subst (λ (u : ℕ). Shows I (codeSize (M .code) * M .K) (superBytes (geoAt M I) u)) (eqb-true _ _ c) (rest-shown M I o b z)
 
 -- On a volume both tests pass.
 module _ (g : Geo) (I : List ℕ) (d : ℕ) (t : Tree d) (v : Volume g I d t) where
-  pub volume-rest : zeroFrom I (blockBytes * g .K + 18) (blockBytes - 18) ≡ true
-  volume-rest = rest-passes g I (dataAt g + setBits I g) (v .laid .sound) (v .laid .top)
+  pub volume-rest : zeroFrom I (blockSize g * g .K + 18) (blockSize g - 18) ≡ true
+  volume-rest = zeros-pass I (blockSize g - 18) (blockSize g * g .K + 18) (rest-zeros g I (blockSize g * g .K) (dataAt g + setBits I g) (v .laid .top))
 
   pub volume-count : eqb (usedCount g I) (dataAt g + setBits I g) ≡ true
   volume-count = eq-eqb _ _ (used-set g I d t v)

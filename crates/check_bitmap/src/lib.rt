@@ -15,9 +15,6 @@ ghost use Rattle.check_bitmap.specs.Tally.{markBytes, agreed};
 // The bytes of a superblock that hold something: signature, version, size code, block count, used count.
 const HEAD: usize = 18;
 
-// The bits that one bitmap block holds.
-const BITMAP_SIZE: u32 = 4096;
-
 // Whether the rest of the superblock is zero.
 pub fn rest_clear(img: &[u8], s: SuperBlock) -> bool
     requires { ⌜ Fit s (now img) ⌝ }
@@ -64,7 +61,7 @@ pub fn count_right(img: &[u8], s: SuperBlock) -> bool
     let a = s.bitmap;
     let d = s.area;
     let from = block::offset(a);
-    let limit = BITMAP_SIZE * (d.0 - a.0);
+    let limit = super_block::BITMAP_SIZE * (d.0 - a.0);
     let set = bits::count(img, from, limit);
     let used = s.alloc_count(img);
     used == d.0 + set

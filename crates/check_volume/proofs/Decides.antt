@@ -27,13 +27,13 @@ use Rattle.super_block.specs.Super.{geoOf, Fit}
 use Rattle.read_dir.specs.Walk.{walk}
 use Rattle.check_bitmap.specs.Tally.{markBytes, markLong, agreed}
 use Rattle.check_bitmap.proofs.Marks.{agrees-sound, agrees-complete}
-use Rattle.check_volume.specs.Survey.{survey}
-use Rattle.check_volume.specs.Marks.{Marks, Beyond, seenOf, Answers, MarksAnswer}
-use Rattle.check_volume.specs.Steps.{openDir, through, entryCheck, dirCheck}
-use Rattle.check_volume.specs.Whole.{bitsAre, bitsOf, whole}
-use Rattle.check_volume.proofs.Remaining.{Check, goes-last, step-no, step-yes}
-use Rattle.check_volume.proofs.WalkedDirs.{dir-steps}
-use Rattle.check_volume.proofs.Wholes.{bits-told, bits-pass, claimsOf, claimed-past}
+use Rattle.thm_survey.specs.Survey.{survey, seenOf}
+use Rattle.check_chain.specs.Marks.{Marks, Beyond, Answers, MarksAnswer}
+use Rattle.thm_survey.specs.Steps.{openDir, through, entryCheck, dirCheck}
+use Rattle.thm_survey.specs.Whole.{bitsAre, bitsOf, whole}
+use Rattle.check_chain.proofs.Remaining.{Check, goes-last, step-no, step-yes}
+use Rattle.thm_survey.proofs.WalkedDirs.{dir-steps}
+use Rattle.thm_survey.proofs.Wholes.{bits-told, bits-pass, claimsOf, claimed-past}
 
 -- ---- the tree
 

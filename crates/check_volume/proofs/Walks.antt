@@ -3,16 +3,13 @@ use mathlib.Core.Path.{_≡_, sym, ap, _∙_, subst}
 use mathlib.Core.Bool.{Bool, true, false}
 use mathlib.Core.Option.{none}
 use mathlib.Core.List.{List}
-use Prim.Native.Nat.{ℕ, suc, _-_, _*_, _≤_, _<_}
+use Prim.Native.Nat.{ℕ, suc, _-_, _*_, _≤_}
 use native.Mathlib.Omega.{arith}
-use lib.Dec.{leb}
 use lib.ListN.{length}
-use borrow.Author.Tests.{le-leb, lt-leb}
 use Rattle.wire.specs.Pick.{pick}
 use Rattle.wire.proofs.Picks.{pick-true, pick-false}
 use Rattle.block.specs.declared.Addr.{Addr}
 use Rattle.model.specs.Tree.{then}
-use Rattle.model.specs.Volume.{fileLimit, blocksFor}
 use Rattle.model.proofs.Lists.{then-some, then-none}
 use Rattle.super_block.specs.declared.SuperBlock.{SuperBlock}
 use Rattle.super_block.specs.Super.{Fit}
@@ -28,16 +25,13 @@ use Rattle.read_dir.specs.declared.Step.{Step}
 use Rattle.read_dir.specs.declared.Step.the-variants as step
 use Rattle.read_dir.proofs.Along.{start-walk}
 use Rattle.check_names.specs.Filter.{clear}
-use Rattle.check_volume.specs.Survey.{cellsOf, chainOf}
-use Rattle.check_volume.specs.Marks.{seenOf, MarksAnswer}
-use Rattle.check_volume.specs.Steps.{openDir, through, isTotal, entryCheck, subCheck}
-use Rattle.check_volume.proofs.Claims.{beyond-refl}
-use Rattle.check_volume.proofs.Remaining.{Check, Goes, goes-refl, goes-from, goes-end, goes-stop, goes-no, goes-yes, goes-last, step-no, step-yes}
-use Rattle.check_volume.proofs.WalkedDirs.{sub-steps, sub-none, file-steps, device-steps}
-
--- the same check in other words
-checks-as : (D n : ℕ) (f g : Check) (W Z : List ℕ) (r : Bool) → ((seen : List ℕ) → g seen ≡ f seen) → MarksAnswer D n f W Z r → MarksAnswer D n g W Z r
-checks-as D n f g W Z r e q = goes-last D n g f W W Z r (goes-from D n g f f W W e (goes-refl D n f W)) q
+use Rattle.thm_survey.specs.Survey.{chainOf, seenOf}
+use Rattle.check_chain.specs.Marks.{MarksAnswer}
+use Rattle.thm_survey.specs.Steps.{openDir, through, isTotal, entryCheck, subCheck}
+use Rattle.check_chain.proofs.Claims.{beyond-refl}
+use Rattle.check_chain.proofs.Remaining.{checks-as, Check, Goes, goes-refl, goes-end, goes-stop, goes-no, goes-yes, goes-last, step-no, step-yes}
+use Rattle.thm_survey.proofs.WalkedDirs.{sub-steps, sub-none, file-steps, device-steps}
+use Rattle.check_chain.proofs.Chains.{fileOf}
 
 -- a filter that comes back as it was is still clear, and as long
 pub still-clear : (F G : List ℕ) → F ≡ G → G ≡ clear → F ≡ clear
@@ -48,20 +42,6 @@ kept-filter F G H e h = e ∙ h
 
 pub kept-long : (F G H : List ℕ) → F ≡ G → G ≡ H → length F ≡ length H
 kept-long F G H e h = ap length (e ∙ h)
-
--- ---- a file's chain
-
-module _ (D n : ℕ) (I : List ℕ) (a size : ℕ) (W : List ℕ) where
-  abbrev pub fileOf : Check
-  fileOf seen = pick (leb size fileLimit) (seenOf (cellsOf 512 D n I (blocksFor 512 size) a seen)) none
-
-  pub file-large : fileLimit < size → MarksAnswer D n fileOf W W false
-  file-large h = record { beyond = beyond-refl D n W; answer = λ seen m. pick-false _ _ (lt-leb size fileLimit h) }
-
-  pub file-cells : size ≤ fileLimit → (k : ℕ) (Z : List ℕ) (r : Bool) → k ≡ blocksFor 512 size → MarksAnswer D n (λ seen. seenOf (cellsOf 512 D n I k a seen)) W Z r → MarksAnswer D n fileOf W Z r
-  file-cells h k Z r e q =
-      checks-as D n (λ seen. seenOf (cellsOf 512 D n I k a seen)) fileOf W Z r
-      (λ seen. pick-true _ _ (le-leb size fileLimit h) ∙ ap (λ (j : ℕ). seenOf (cellsOf 512 D n I j a seen)) (sym e)) q
 
 -- ---- a directory's entries
 

@@ -17,7 +17,7 @@ use Rattle.model.proofs.Opens.{when-true, when-false, or-false}
 use Rattle.model.proofs.Replies.{given-none, given-some, and-then-ok, and-then-no}
 use Rattle.block.specs.Block.{next}
 use Rattle.super_block.specs.declared.SuperBlock.{SuperBlock}
-use Rattle.super_block.specs.Super.{geoOf, Fit}
+use Rattle.super_block.specs.Super.{mountOf, geoOf, Fit}
 use Rattle.super_block.proofs.Fits.{well-volume}
 use Rattle.bitmap_block.specs.Bitmap.{clears, Room}
 use Rattle.bitmap_block.proofs.Stores.{volume-clears, volume-room}
@@ -91,7 +91,7 @@ module _ (s : SuperBlock) (I : List ℕ) (p : Spot) (k : ℕ) (needs : k ≡ nee
       subst (SpotIn 512 (s .area .0) (s .blocks) len) (sym e)
       (spot-lies 512 (s .area .0) (s .blocks) I len (s .blocks - s .area .0) a (subst (λ (q : Spot). 1 ≤ needed q) e (omega arith)))
 
-  pub spot-room : (b : Bool) → WellFormed (s .addr .0) I → s .blocks ≡ countAt (s .addr .0) I → b ≡ ltb (length (clears (geoOf s) I)) k → b ≡ false → Room (geoOf s) I (needed p)
+  pub spot-room : (b : Bool) → WellFormed (mountOf s) I → s .blocks ≡ countAt (mountOf s) I → b ≡ ltb (length (clears (geoOf s) I)) k → b ≡ false → Room (geoOf s) I (needed p)
   spot-room b w e q h =
       let v = well-volume s I w e in
       let r = ltb-false (length (clears (geoOf s) I)) k (sym q ∙ h) in

@@ -16,7 +16,7 @@ ghost use lib.ListN.{length, take};
 ghost use Rattle.block.specs.Block.{blockBytes};
 ghost use Rattle.model.specs.Geometry.{countAt};
 ghost use Rattle.model.specs.Volume.{WellFormed, maxDepth};
-ghost use Rattle.super_block.specs.Super.{geoOf, Fit};
+ghost use Rattle.super_block.specs.Super.{mountOf, geoOf, Fit};
 ghost use Rattle.dir_entry.specs.Entry.{isDir};
 ghost use Rattle.own_entry.specs.Own.{OwnIn};
 ghost use Rattle.create_store.specs.Create.{spotFor};
@@ -27,9 +27,6 @@ ghost use Rattle.create.specs.Post.{sitedSays, SitedIn, createdSays};
 
 // The longest name.
 const NAME_LIMIT: usize = 255;
-
-// The root is at depth 0.
-const MAX_DEPTH: u32 = 16;
 
 // Where a new entry goes in its directory.
 enum Sited {
@@ -56,7 +53,7 @@ fn too_deep(kind: Kind, depth: u32) -> bool
     ensures { λ r. ⌜ r ≡ (isDir kind && leb maxDepth depth) ⌝ }
 {
     match kind {
-        Kind::Dir => MAX_DEPTH <= depth,
+        Kind::Dir => limits::MAX_DEPTH <= depth,
         Kind::File => false,
         Kind::Device => false,
     }
@@ -65,8 +62,8 @@ fn too_deep(kind: Kind, depth: u32) -> bool
 // The spot of a name of len bytes in the directory h: all that the stores need is known before the first of them.
 fn site_at(img: &[u8], s: SuperBlock, h: Holding, len: usize) -> Sited
     requires { ⌜ Fit s (now img) ⌝ }
-    requires { ⌜ WellFormed (s .addr .0) (now img) ⌝ }
-    requires { ⌜ s .blocks ≡ countAt (s .addr .0) (now img) ⌝ }
+    requires { ⌜ WellFormed (mountOf s) (now img) ⌝ }
+    requires { ⌜ s .blocks ≡ countAt (mountOf s) (now img) ⌝ }
     requires { ⌜ len ≤ 255 ⌝ }
     ensures { λ r. ⌜ sitedSays (holdOf h) r ≡ siteAt (geoOf s) (now (img .entry)) (holdOf h) (spotFor blockBytes (s .area .0) (s .blocks) (now (img .entry)) (h .dir .0) len) ⌝ }
     ensures { λ r. ⌜ SitedIn s (now (img .entry)) len r ⌝ }
@@ -86,8 +83,8 @@ fn site_at(img: &[u8], s: SuperBlock, h: Holding, len: usize) -> Sited
 // The site of a new name in the directory h.
 fn site_in(img: &[u8], s: SuperBlock, h: Holding, kind: Kind, name: &[u8]) -> Sited
     requires { ⌜ Fit s (now img) ⌝ }
-    requires { ⌜ WellFormed (s .addr .0) (now img) ⌝ }
-    requires { ⌜ s .blocks ≡ countAt (s .addr .0) (now img) ⌝ }
+    requires { ⌜ WellFormed (mountOf s) (now img) ⌝ }
+    requires { ⌜ s .blocks ≡ countAt (mountOf s) (now img) ⌝ }
     requires { ⌜ length (now name) ≤ 255 ⌝ }
     ensures { λ r. ⌜ sitedSays (holdOf h) r ≡ siteIn (geoOf s) (now (img .entry)) kind (now (name .entry)) (holdOf h) ⌝ }
     ensures { λ r. ⌜ SitedIn s (now (img .entry)) (length (now (name .entry))) r ⌝ }
@@ -114,8 +111,8 @@ fn create_in(
     time: u64,
 ) -> Created
     requires { ⌜ Fit s (now img) ⌝ }
-    requires { ⌜ WellFormed (s .addr .0) (now img) ⌝ }
-    requires { ⌜ s .blocks ≡ countAt (s .addr .0) (now img) ⌝ }
+    requires { ⌜ WellFormed (mountOf s) (now img) ⌝ }
+    requires { ⌜ s .blocks ≡ countAt (mountOf s) (now img) ⌝ }
     requires { ⌜ length (now name) ≤ 255 ⌝ }
     requires { ⌜ OwnIn (now img) (h .own) ⌝ }
     ensures { λ r. ⌜ createdSays r ≡ freshOf (geoOf s) (now (img .entry)) (siteIn (geoOf s) (now (img .entry)) kind (now (name .entry)) (holdOf h)) ⌝ }
@@ -143,8 +140,8 @@ pub fn create(
     time: u64,
 ) -> Created
     requires { ⌜ Fit s (now img) ⌝ }
-    requires { ⌜ WellFormed (s .addr .0) (now img) ⌝ }
-    requires { ⌜ s .blocks ≡ countAt (s .addr .0) (now img) ⌝ }
+    requires { ⌜ WellFormed (mountOf s) (now img) ⌝ }
+    requires { ⌜ s .blocks ≡ countAt (mountOf s) (now img) ⌝ }
     requires { ⌜ len ≤ length (now full) ⌝ }
     requires { ⌜ length (now full) ≤ pathLimit ⌝ }
     ensures { λ r. ⌜ createdSays r ≡ createdOn (geoOf s) (now (img .entry)) kind (take len (now (full .entry))) ⌝ }

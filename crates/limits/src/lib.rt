@@ -1,12 +1,16 @@
-// What all calls share: the refusals with their numbers, the limits of a volume, and how many blocks a file has.
+// What all calls share: the refusals with their numbers, the limits of a volume, how many blocks a file has and how many bytes a block.
 use block::LinkedBlock;
 ghost use mathlib.Core.Path.{_≡_};
+ghost use Prim.Native.Nat.{_-_, _<_, min};
 ghost use Rattle.block.specs.Block.{blockBytes};
 ghost use Rattle.limits.specs.Refusals.{refusalNumber};
 ghost use Rattle.model.specs.Volume.{blocksFor};
 
 // The most bytes of a file.
 pub const FILE_LIMIT: u32 = 2_147_483_647;
+
+// The most levels of directories below the root, which is at depth 0.
+pub const MAX_DEPTH: u32 = 16;
 
 // A block's data bytes, as a file's size is counted.
 const CAPACITY: u32 = LinkedBlock::CAPACITY as u32;
@@ -19,6 +23,15 @@ pub fn blocks_for(size: u32) -> u32
         return 1;
     }
     (size - 1) / CAPACITY + 1
+}
+
+// How many of k bytes stand in a block from data byte o on.
+pub fn run_of(o: usize, k: usize) -> usize
+    requires { ⌜ o < 508 ⌝ }
+    ensures { λ r. ⌜ r ≡ min k (508 - o) ⌝ }
+{
+    let room = LinkedBlock::CAPACITY - o;
+    if k < room { k } else { room }
 }
 
 // Why a call is refused, in the order of the rules R.
@@ -57,6 +70,12 @@ pub enum Refusal {
     ShortWork,
     // 17; the number 18 is not used
     Damaged,
+}
+
+// The answer of a call that gives nothing back but a refusal.
+pub enum Answer {
+    Success,
+    Refused(Refusal),
 }
 
 impl Refusal {

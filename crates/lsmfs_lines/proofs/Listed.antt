@@ -16,6 +16,7 @@ use Rattle.wire.proofs.Numbers.{length-bytes}
 use Rattle.wire.proofs.Picks.{either, pick-true, pick-false}
 use Rattle.model.specs.Render.{Shows}
 use Rattle.model.specs.Steps.{Bytes}
+use Rattle.model.proofs.Areas.{row-inside}
 use Rattle.model.proofs.Commit.{shows-one, shows-two}
 use Rattle.model.proofs.Entries.{be-shown, be-fits}
 use Rattle.dir_entry.specs.declared.DirEntry.{DirEntry}
@@ -129,13 +130,13 @@ text-records cap b w p =
 
 -- ---- the entries of a directory are such
 
-item-plain : (D n : ℕ) (I : List ℕ) → Bytes I → 512 * n ≤ length I → (e : DirEntry) (a o : ℕ) (x : List ℕ) → Item 512 D n I e a o x → Plain e x
+item-plain : (B D n : ℕ) (I : List ℕ) → Bytes I → n * B ≤ length I → (e : DirEntry) (a o : ℕ) (x : List ℕ) → Item B D n I e a o x → Plain e x
 unfolding entryAt
-item-plain D n I b h e a o x i =
-    let t = slot-stands 512 I a o e (i .stands) in
-    let q : ℕ = placeAt 512 a o in
+item-plain B D n I b h e a o x i =
+    let t = slot-stands B I a o e (i .stands) in
+    let q : ℕ = placeAt B a o in
     record {
-      len = ap length (i .name) ∙ length-name I q (e .len) (omega (arith, i .below, t .ends));
+      len = ap length (i .name) ∙ length-name I q (e .len) (omega (arith, row-inside B n (length I) a h (i .below), t .ends));
       short = subst (λ (v : ℕ). v < 256) (ap (λ (y : DirEntry). y .len) (sym (t .is))) (b (q + 17));
       size = subst (λ (v : ℕ). v < 2 ^ 32) (ap (λ (y : DirEntry). y .size) (sym (t .is))) (be-fits 4 I (q + 5) b);
       time = subst (λ (v : ℕ). v < 2 ^ 64) (ap (λ (y : DirEntry). y .time) (sym (t .is))) (be-fits 8 I (q + 9) b);
@@ -153,12 +154,12 @@ each-skip P (suc i) (item e a o x w) p = each-skip P i w (p .1)
 each-skip P (suc i) finished p = tt
 each-skip P (suc i) damaged p = tt
 
-pub directory-plain : (D n : ℕ) (I : List ℕ) (dir i : ℕ) → Bytes I → 512 * n ≤ length I → Each (λ e a o x. Plain e x) (skip i (walk 512 D n I dir))
-directory-plain D n I dir i b h =
-    each-skip (λ e a o x. Plain e x) i (walk 512 D n I dir)
-    (each-map (Item 512 D n I) (λ e a o x. Plain e x) (item-plain D n I b h) (walk 512 D n I dir) (chain-each 512 D n I (n - D) dir))
+pub directory-plain : (B D n : ℕ) (I : List ℕ) (dir i : ℕ) → Bytes I → n * B ≤ length I → Each (λ e a o x. Plain e x) (skip i (walk B D n I dir))
+directory-plain B D n I dir i b h =
+    each-skip (λ e a o x. Plain e x) i (walk B D n I dir)
+    (each-map (Item B D n I) (λ e a o x. Plain e x) (item-plain B D n I b h) (walk B D n I dir) (chain-each B D n I (n - D) dir))
 
 -- So the text of the records that a listing gives of any directory, from entry number i on, is the lines of these entries.
-pub text-directory : (D n : ℕ) (I : List ℕ) (dir i cap : ℕ) → Bytes I → 512 * n ≤ length I
-    → textOf (recordsFrom cap 0 (skip i (walk 512 D n I dir))) ≡ linesFrom cap 0 (skip i (walk 512 D n I dir))
-text-directory D n I dir i cap b h = text-records cap 0 (skip i (walk 512 D n I dir)) (directory-plain D n I dir i b h)
+pub text-directory : (B D n : ℕ) (I : List ℕ) (dir i cap : ℕ) → Bytes I → n * B ≤ length I
+    → textOf (recordsFrom cap 0 (skip i (walk B D n I dir))) ≡ linesFrom cap 0 (skip i (walk B D n I dir))
+text-directory B D n I dir i cap b h = text-records cap 0 (skip i (walk B D n I dir)) (directory-plain B D n I dir i b h)

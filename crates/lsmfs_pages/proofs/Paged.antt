@@ -16,11 +16,10 @@ use Rattle.wire.proofs.Picks.{either, pick-true, pick-false}
 use Rattle.model.specs.Answers.{Reply, accepted, refused, andThen, when, firstOf, given}
 use Rattle.limits.specs.Refusals.{refusalNumber}
 use Rattle.limits.specs.declared.Refusal.{Refusal}
-use Rattle.model.specs.Geometry.{geoAt, openRefusal}
+use Rattle.model.specs.Geometry.{Mount, openRefusal}
 use Rattle.model.specs.Steps.{Bytes}
+use Rattle.model.proofs.Opens.{opens-sound}
 use Rattle.model.proofs.Replies.{given-accepted}
-use Rattle.super_block.specs.Super.{superBlock}
-use Rattle.super_block.proofs.Fits.{opened-fit, placed}
 use Rattle.read_dir.specs.declared.Listed.{Listed}
 use Rattle.read_dir.specs.declared.Listed.the-variants as listed
 use Rattle.read_dir.specs.Walk.{Walk, item, finished, damaged, walk}
@@ -51,24 +50,24 @@ unfolding firstOf
 first-alone zero = refl
 first-alone (suc k) = refl
 
-root-call : (K : ℕ) (I : List ℕ) → pathCall K I root root ≡ openRefusal K I
+root-call : (M : Mount) (I : List ℕ) → pathCall M I root root ≡ openRefusal M I
 unfolding pathCall pick when
-root-call K I = ap (λ (b : Bool). firstOf (openRefusal K I ∷ (when 4 b ∷ []))) (root-good root) ∙ first-alone (openRefusal K I)
+root-call M I = ap (λ (b : Bool). firstOf (openRefusal M I ∷ (when 4 b ∷ []))) (root-good root) ∙ first-alone (openRefusal M I)
 
 -- ---- what a listing of it answers and gives
 
-module _ (K : ℕ) (I : List ℕ) (i cap : ℕ) where
-  root-reply : listReply K I root root i cap ≡ given (openRefusal K I) (countsOf (listFrom cap 0 i (rootFrom K I i)))
+module _ (M : Mount) (I : List ℕ) (i cap : ℕ) where
+  root-reply : listReply M I root root i cap ≡ given (openRefusal M I) (countsOf (listFrom cap 0 i (rootFrom M I i)))
   unfolding listReply listOn andThen
   root-reply =
-      ap (λ (k : ℕ). given k (andThen (openDir (size K I) (area K I) (end K I) I (realPath root root)) (λ a. countsOf (listFrom cap 0 i (skip i (walk (size K I) (area K I) (end K I) I a))))))
-      (root-call K I)
-      ∙ ap (λ (r : Reply ℕ). given (openRefusal K I) (andThen r (λ a. countsOf (listFrom cap 0 i (skip i (walk (size K I) (area K I) (end K I) I a))))))
-      (root-opened (size K I) (area K I) (end K I) I)
+      ap (λ (k : ℕ). given k (andThen (openDir (size M I) (area M I) (end M I) I (realPath root root)) (λ a. countsOf (listFrom cap 0 i (skip i (walk (size M I) (area M I) (end M I) I a))))))
+      (root-call M I)
+      ∙ ap (λ (r : Reply ℕ). given (openRefusal M I) (andThen r (λ a. countsOf (listFrom cap 0 i (skip i (walk (size M I) (area M I) (end M I) I a))))))
+      (root-opened (size M I) (area M I) (end M I) I)
 
-  root-records : recordsOn (size K I) (area K I) (end K I) I (realPath root root) i cap ≡ recordsFrom cap 0 (rootFrom K I i)
+  root-records : recordsOn (size M I) (area M I) (end M I) I (realPath root root) i cap ≡ recordsFrom cap 0 (rootFrom M I i)
   unfolding recordsOn
-  root-records = ap (recordsAt (size K I) (area K I) (end K I) I i cap) (root-opened (size K I) (area K I) (end K I) I)
+  root-records = ap (recordsAt (size M I) (area M I) (end M I) I i cap) (root-opened (size M I) (area M I) (end M I) I)
 
 counts-records : (x : Listed) (b j : ℕ) → accepted (record { bytes = b; next = j }) ≡ countsOf x → x ≡ listed.Records b j
 counts-records (listed.Records c k) b j e =
@@ -104,23 +103,23 @@ told-bytes cap b i damaged c j p q = absurd (let z : _≡_ {A = ℕ} 0 1 = cc in
 
 -- ---- a page
 
-module _ (K : ℕ) (I : List ℕ) (i : ℕ) (rs rs₁ : List ℕ) (b : Bytes I) (n j : ℕ) (l : Lists K I root root i rs (listing.Records n j) rs₁) where
+module _ (M : Mount) (I : List ℕ) (i : ℕ) (rs rs₁ : List ℕ) (b : Bytes I) (n j : ℕ) (l : Lists M I root root i rs (listing.Records n j) rs₁) where
   abbrev records : List ℕ
-  records = recordsFrom (length rs) 0 (rootFrom K I i)
+  records = recordsFrom (length rs) 0 (rootFrom M I i)
 
-  opened : (openRefusal K I ≡ 0) × (accepted (record { bytes = n; next = j }) ≡ countsOf (listFrom (length rs) 0 i (rootFrom K I i)))
+  opened : (openRefusal M I ≡ 0) × (accepted (record { bytes = n; next = j }) ≡ countsOf (listFrom (length rs) 0 i (rootFrom M I i)))
   opened =
-      let r = given-accepted (openRefusal K I) (countsOf (listFrom (length rs) 0 i (rootFrom K I i))) (record { bytes = n; next = j }) (sym (l .answer ∙ root-reply K I i (length rs))) in
+      let r = given-accepted (openRefusal M I) (countsOf (listFrom (length rs) 0 i (rootFrom M I i))) (record { bytes = n; next = j }) (sym (l .answer ∙ root-reply M I i (length rs))) in
       (r .0, sym (r .1))
 
-  told : listFrom (length rs) 0 i (rootFrom K I i) ≡ listed.Records n j
-  told = counts-records (listFrom (length rs) 0 i (rootFrom K I i)) n j (opened .1)
+  told : listFrom (length rs) 0 i (rootFrom M I i) ≡ listed.Records n j
+  told = counts-records (listFrom (length rs) 0 i (rootFrom M I i)) n j (opened .1)
 
-  inside : 512 * end K I ≤ length I
-  inside = placed (opened-fit K I (superBlock (geoAt K I)) (opened .0) refl) .inside
+  inside : end M I * size M I ≤ length I
+  inside = opens-sound M I (opened .0) .0 .inside-image
 
   counted : (n ≡ 0 + length records) × (0 ≤ length rs → n ≤ length rs)
-  counted = told-bytes (length rs) 0 i (rootFrom K I i) n j (directory-plain (area K I) (end K I) I (area K I) i b inside) told
+  counted = told-bytes (length rs) 0 i (rootFrom M I i) n j (directory-plain (size M I) (area M I) (end M I) I (area M I) i b inside) told
 
   records-fit : n ≤ length rs
   records-fit = counted .1 (omega arith)
@@ -128,8 +127,8 @@ module _ (K : ℕ) (I : List ℕ) (i : ℕ) (rs rs₁ : List ℕ) (b : Bytes I) 
   given-records : rs₁ ≡ splice rs 0 records
   given-records =
       l .buffer
-      ∙ ap (λ (r : Reply Counts). onReply r (splice rs 0 (recordsOn (size K I) (area K I) (end K I) I (realPath root root) i (length rs))) rs) (sym (l .answer))
-      ∙ ap (splice rs 0) (root-records K I i (length rs))
+      ∙ ap (λ (r : Reply Counts). onReply r (splice rs 0 (recordsOn (size M I) (area M I) (end M I) I (realPath root root) i (length rs))) rs) (sym (l .answer))
+      ∙ ap (splice rs 0) (root-records M I i (length rs))
 
   records-taken : take n rs₁ ≡ records
   records-taken =
@@ -137,23 +136,23 @@ module _ (K : ℕ) (I : List ℕ) (i : ℕ) (rs rs₁ : List ℕ) (b : Bytes I) 
       let h : 0 + n ≤ length rs = omega (arith, records-fit) in
       ap (take n) given-records ∙ ap (λ (k : ℕ). take k (splice rs 0 records)) (sym (zero-add n)) ∙ take-stored rs 0 records n e h
 
-  text-taken : textOf (take n rs₁) ≡ pageText K I i (length rs)
+  text-taken : textOf (take n rs₁) ≡ pageText M I i (length rs)
   unfolding pageText
-  text-taken = ap textOf records-taken ∙ text-directory (area K I) (end K I) I (area K I) i (length rs) b inside
+  text-taken = ap textOf records-taken ∙ text-directory (size M I) (area M I) (end M I) I (area M I) i (length rs) b inside
 
-  page-accepted : pageReply K I i (length rs) ≡ accepted (record { bytes = length (pageText K I i (length rs)); next = j })
+  page-accepted : pageReply M I i (length rs) ≡ accepted (record { bytes = length (pageText M I i (length rs)); next = j })
   unfolding pageReply given
   page-accepted =
-      ap (λ (k : ℕ). given k (textCounts (listFrom (length rs) 0 i (rootFrom K I i)) (pageText K I i (length rs)))) (opened .0)
-      ∙ ap (λ (x : Listed). textCounts x (pageText K I i (length rs))) told
+      ap (λ (k : ℕ). given k (textCounts (listFrom (length rs) 0 i (rootFrom M I i)) (pageText M I i (length rs)))) (opened .0)
+      ∙ ap (λ (x : Listed). textCounts x (pageText M I i (length rs))) told
 
-  page-written : (o o₁ : List ℕ) (r : ℕ) → o₁ ≡ splice o 0 (textOf (take n rs₁)) → r ≡ length (textOf (take n rs₁)) → Pages K I i (length rs) o o₁ (listing.Records r j)
+  page-written : (o o₁ : List ℕ) (r : ℕ) → o₁ ≡ splice o 0 (textOf (take n rs₁)) → r ≡ length (textOf (take n rs₁)) → Pages M I i (length rs) o o₁ (listing.Records r j)
   page-written o o₁ r e f =
-      let q : r ≡ length (pageText K I i (length rs)) = f ∙ ap length text-taken in
+      let q : r ≡ length (pageText M I i (length rs)) = f ∙ ap length text-taken in
       record {
         answer = ap (λ (k : ℕ). accepted (the-counts k)) q ∙ sym page-accepted;
         buffer =
-            e ∙ ap (splice o 0) text-taken ∙ ap (λ (y : Reply Counts). onReply y (splice o 0 (pageText K I i (length rs))) o) (sym page-accepted);
+            e ∙ ap (splice o 0) text-taken ∙ ap (λ (y : Reply Counts). onReply y (splice o 0 (pageText M I i (length rs))) o) (sym page-accepted);
       }
     where
       the-counts : ℕ → Counts
@@ -168,20 +167,20 @@ refused-counts (suc k) m x t e = e
 
 -- ---- from the listing's answer l to the page's
 
-module _ (K : ℕ) (I : List ℕ) (i : ℕ) (rs rs₁ : List ℕ) (b : Bytes I) where
-  pub answer-within : (l : Listing) → Lists K I root root i rs l rs₁ → length rs₁ ≡ length rs → PageFits (length rs₁) l
-  answer-within (listing.Records n j) a e = omega (arith, records-fit K I i rs rs₁ b n j a)
+module _ (M : Mount) (I : List ℕ) (i : ℕ) (rs rs₁ : List ℕ) (b : Bytes I) where
+  pub answer-within : (l : Listing) → Lists M I root root i rs l rs₁ → length rs₁ ≡ length rs → PageFits (length rs₁) l
+  answer-within (listing.Records n j) a e = omega (arith, records-fit M I i rs rs₁ b n j a)
   answer-within (listing.Refused x) a e = tt
 
-  pub answer-turned : (l : Listing) (o o₁ : List ℕ) (q : Listing) → Lists K I root root i rs l rs₁ → Turned l rs₁ o o₁ q → Pages K I i (length rs) o o₁ q
+  pub answer-turned : (l : Listing) (o o₁ : List ℕ) (q : Listing) → Lists M I root root i rs l rs₁ → Turned l rs₁ o o₁ q → Pages M I i (length rs) o o₁ q
   unfolding pageReply
   answer-turned (listing.Records n j) o o₁ q a (e, f) =
-      subst (λ (y : Listing). Pages K I i (length rs) o o₁ y) (sym f) (page-written K I i rs rs₁ b n j a o o₁ (length (textOf (take n rs₁))) e refl)
+      subst (λ (y : Listing). Pages M I i (length rs) o o₁ y) (sym f) (page-written M I i rs rs₁ b n j a o o₁ (length (textOf (take n rs₁))) e refl)
   answer-turned (listing.Refused x) o o₁ q a (e, f) =
-      let r = refused-counts (openRefusal K I) (refusalNumber x) (listFrom (length rs) 0 i (rootFrom K I i)) (pageText K I i (length rs)) (a .answer ∙ root-reply K I i (length rs)) in
+      let r = refused-counts (openRefusal M I) (refusalNumber x) (listFrom (length rs) 0 i (rootFrom M I i)) (pageText M I i (length rs)) (a .answer ∙ root-reply M I i (length rs)) in
       record {
         answer = ap listSays f ∙ r;
-        buffer = e ∙ ap (λ (y : Reply Counts). onReply y (splice o 0 (pageText K I i (length rs))) o) r;
+        buffer = e ∙ ap (λ (y : Reply Counts). onReply y (splice o 0 (pageText M I i (length rs))) o) r;
       }
 
 -- ---- the arms of a match on it

@@ -5,7 +5,7 @@ use Prim.Native.Nat.{ℕ, _≤_}
 use lib.ListN.{length, take}
 use Rattle.wire.specs.Be.{splice}
 use Rattle.model.specs.Answers.{Reply, accepted, refused, given}
-use Rattle.model.specs.Geometry.{openRefusal}
+use Rattle.model.specs.Geometry.{Mount, openRefusal}
 use Rattle.read_dir.specs.declared.Listed.{Listed}
 use Rattle.read_dir.specs.declared.Listed.the-variants as listed
 use Rattle.read_dir.specs.Walk.{Walk, item, finished, damaged, walk}
@@ -17,12 +17,12 @@ use Rattle.lsmfs_lines.specs.Line.{lineOf}
 use Rattle.lsmfs_lines.specs.Text.{textOf, linesFrom}
 
 -- F11: the entries of the root, which begins in block D, from number i on.
-abbrev pub rootFrom : ℕ → List ℕ → ℕ → Walk
-rootFrom K I i = skip i (walk (size K I) (area K I) (end K I) I (area K I))
+abbrev pub rootFrom : Mount → List ℕ → ℕ → Walk
+rootFrom M I i = skip i (walk (size M I) (area M I) (end M I) I (area M I))
 
 -- C16: a line for each of them whose record a page has room for
-unfoldable pub pageText : ℕ → List ℕ → ℕ → ℕ → List ℕ
-pageText K I i cap = linesFrom cap 0 (rootFrom K I i)
+unfoldable pub pageText : Mount → List ℕ → ℕ → ℕ → List ℕ
+pageText M I i cap = linesFrom cap 0 (rootFrom M I i)
 
 -- all of them
 unfoldable pub allLines : Walk → List ℕ
@@ -35,13 +35,13 @@ abbrev pub textCounts : Listed → List ℕ → Reply Counts
 textCounts (listed.Records b j) t = accepted (record { bytes = length t; next = j })
 textCounts listed.Damaged t = refused 17
 
-unfoldable pub pageReply : ℕ → List ℕ → ℕ → ℕ → Reply Counts
-pageReply K I i cap = given (openRefusal K I) (textCounts (listFrom cap 0 i (rootFrom K I i)) (pageText K I i cap))
+unfoldable pub pageReply : Mount → List ℕ → ℕ → ℕ → Reply Counts
+pageReply M I i cap = given (openRefusal M I) (textCounts (listFrom cap 0 i (rootFrom M I i)) (pageText M I i cap))
 
 -- The answer q: how many bytes of text, and the number of the entry after them; the text at the buffer's start, whose rest stays.
-pub record Pages (K : ℕ) (I : List ℕ) (i cap : ℕ) (buf out : List ℕ) (q : Listing) : Type 0 where
-  pub answer : listSays q ≡ pageReply K I i cap
-  pub buffer : out ≡ onReply (pageReply K I i cap) (splice buf 0 (pageText K I i cap)) buf
+pub record Pages (M : Mount) (I : List ℕ) (i cap : ℕ) (buf out : List ℕ) (q : Listing) : Type 0 where
+  pub answer : listSays q ≡ pageReply M I i cap
+  pub buffer : out ≡ onReply (pageReply M I i cap) (splice buf 0 (pageText M I i cap)) buf
 
 -- A listing's answer, whose bytes are among cap; and the answer q that has the text of its records rs in their place.
 abbrev pub PageFits : ℕ → Listing → Type 0

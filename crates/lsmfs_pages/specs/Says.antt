@@ -5,6 +5,7 @@ use mathlib.Core.List.{List, [], _∷_}
 use Prim.Native.Nat.{ℕ}
 use lib.ListN.{length}
 use Rattle.wire.specs.Be.{splice}
+use Rattle.model.specs.Geometry.{Mount}
 use Rattle.model.specs.Answers.{Reply, accepted, refused, firstOf}
 use Rattle.model.specs.Volume.{WellFormed}
 use Rattle.limits.specs.Refusals.{refusalNumber}
@@ -31,13 +32,13 @@ OnPage (accepted c) buf out text i s = Told buf out text (c .next) s
 OnPage (refused n) buf out text i s = Told buf out (refusedLine n) i s
 
 -- the number that the check refuses with
-abbrev pub checkNumber : ℕ → List ℕ → ℕ
-checkNumber K I = firstOf (checkCall K I 16 ∷ (17 ∷ []))
+abbrev pub checkNumber : Mount → List ℕ → ℕ
+checkNumber M I = firstOf (checkCall M I 16 ∷ (17 ∷ []))
 
 -- C16: an input that goes on past the buffer is refused as no image, then what the whole check refuses is refused with its
 -- number; a well-formed volume has its root listed, from entry number i on.
-pub record Says (K : ℕ) (I : List ℕ) (more : Bool) (i : ℕ) (buf out : List ℕ) (s : Said) : Type 0 where
+pub record Says (M : Mount) (I : List ℕ) (more : Bool) (i : ℕ) (buf out : List ℕ) (s : Said) : Type 0 where
   pub long : more ≡ true → Told buf out (refusedLine 1) i s
-  pub refuses : more ≡ false → (checkCall K I 16 ≡ 0 → WellFormed K I → ⊥) → Told buf out (refusedLine (checkNumber K I)) i s
-  pub lists : more ≡ false → checkCall K I 16 ≡ 0 → WellFormed K I
-      → OnPage (pageReply K I i 1024) buf out (pageText K I i 1024) i s
+  pub refuses : more ≡ false → (checkCall M I 16 ≡ 0 → WellFormed M I → ⊥) → Told buf out (refusedLine (checkNumber M I)) i s
+  pub lists : more ≡ false → checkCall M I 16 ≡ 0 → WellFormed M I
+      → OnPage (pageReply M I i 1024) buf out (pageText M I i 1024) i s

@@ -1,10 +1,11 @@
 // What the listing program writes, made in a lent buffer: a page of the root's lines at a time, or why an image is refused. The
 // program itself reads the image and writes these bytes, which no contract can say.
 use call_read::Listing;
-use call_volume::Answer;
+use limits::Answer;
 use limits::Refusal;
 ghost use Prim.Native.Nat.{_*_, _≤_};
 ghost use lib.ListN.{length};
+ghost use Rattle.model.specs.Geometry.{mount};
 ghost use Rattle.limits.specs.Refusals.{refusalNumber};
 ghost use Rattle.lsmfs_lines.specs.Line.{refusedLine};
 ghost use Rattle.lsmfs_pages.specs.Page.{Pages, PageFits, Turned};
@@ -33,7 +34,7 @@ fn in_text(l: Listing, records: &[u8], out: &mut [u8]) -> Listing
 // name has: how many bytes of text, and the number of the entry after them. Refusals: 1, 2, 3, 17.
 pub fn page(img: &[u8], k: u32, i: u32, out: &mut [u8]) -> Listing
     requires { ⌜ 3072 ≤ length (now out) ⌝ }
-    ensures { λ r. ⌜ Pages k (now (img .entry)) i 1024 (now (out .entry)) (now (out .exit)) r ⌝ }
+    ensures { λ r. ⌜ Pages (mount k) (now (img .entry)) i 1024 (now (out .entry)) (now (out .exit)) r ⌝ }
 {
     let mut records = [0u8; 1024];
     let l = mfs::list(img, k, b"/", b"/", i, &mut records);
@@ -65,7 +66,7 @@ fn page_said(out: &mut [u8], l: Listing, i: u32) -> Said
 // after them. 16 bytes of work buffer have a bit for each block. Refusals: 1, 2, 3, 16, 17.
 pub fn say(img: &[u8], k: u32, more: bool, i: u32, out: &mut [u8]) -> Said
     requires { ⌜ 3072 ≤ length (now out) ⌝ }
-    ensures { λ s. ⌜ Says k (now (img .entry)) more i (now (out .entry)) (now (out .exit)) s ⌝ }
+    ensures { λ s. ⌜ Says (mount k) (now (img .entry)) more i (now (out .entry)) (now (out .exit)) s ⌝ }
 {
     if more {
         return refused(out, Refusal::BadImage, i);

@@ -5,37 +5,37 @@ use call_read::InfoOut;
 use call_read::Listing;
 use call_read::OpenOut;
 use call_room::RoomOut;
-use call_volume::Answer;
 use call_volume::Space;
-use file::Handle;
-use file::ReadOut;
-use file::SeekFrom;
-use file::Sought;
-use file::WriteOut;
+use handle::CountedOut;
+use handle::Handle;
+use handle::SeekFrom;
+use handle::Sought;
+use limits::Answer;
+ghost use Rattle.model.specs.Geometry.{mount};
 ghost use Rattle.call_read.specs.Reading.{Opens, Informs, Lists, Reads};
 ghost use Rattle.call_room.specs.Room.{Asks};
-ghost use Rattle.file.specs.Post.{SoughtIs};
+ghost use Rattle.handle.specs.Post.{SoughtIs};
 ghost use Rattle.call_change.specs.Changing.{CreatesFile, CreatesDir, Deletes, Writes};
 ghost use Rattle.call_volume.specs.Checking.{Checks};
 ghost use Rattle.call_volume.specs.Format.{Formats, Uses};
 
 // Makes the whole image a volume with an empty root directory. Refusals: 1, 3.
 pub fn format(img: &mut [u8], k: u32) -> Answer
-    ensures { λ r. ⌜ Formats k (now (img .entry)) r (now (img .exit)) ⌝ }
+    ensures { λ r. ⌜ Formats (mount k) (now (img .entry)) r (now (img .exit)) ⌝ }
 {
     call_volume::format(img, k)
 }
 
 // How much of the volume is used. Refusals: 1, 2, 3, 17.
 pub fn usage(img: &[u8], k: u32) -> Space
-    ensures { λ r. ⌜ Uses k (now (img .entry)) r ⌝ }
+    ensures { λ r. ⌜ Uses (mount k) (now (img .entry)) r ⌝ }
 {
     call_volume::usage(img, k)
 }
 
 // Whether so many blocks are free within reach, and how many bytes of the bitmap were read to tell. Refusals: 1, 2, 3.
 pub fn room(img: &[u8], k: u32, count: u32) -> RoomOut
-    ensures { λ r. ⌜ Asks k (now (img .entry)) count r ⌝ }
+    ensures { λ r. ⌜ Asks (mount k) (now (img .entry)) count r ⌝ }
 {
     call_room::room(img, k, count)
 }
@@ -43,35 +43,35 @@ pub fn room(img: &[u8], k: u32, count: u32) -> RoomOut
 // Whether the image is a well-formed volume, W1 to W5. One bit a block is marked in the work buffer, and is zero again afterwards.
 // Refusals: 1, 2, 3, 16, 17.
 pub fn check(img: &[u8], k: u32, work: &mut [u8]) -> Answer
-    ensures { λ r. ⌜ Checks k (now (img .entry)) (now (work .entry)) r (now (work .exit)) ⌝ }
+    ensures { λ r. ⌜ Checks (mount k) (now (img .entry)) (now (work .entry)) r (now (work .exit)) ⌝ }
 {
     call_volume::check(img, k, work)
 }
 
 // Opens the file at a path. Refusals: 1, 2, 3, 4, 5, 6, 17, 10.
 pub fn open(img: &[u8], k: u32, cwd: &[u8], path: &[u8]) -> OpenOut
-    ensures { λ o. ⌜ Opens k (now (img .entry)) (now (cwd .entry)) (now (path .entry)) o ⌝ }
+    ensures { λ o. ⌜ Opens (mount k) (now (img .entry)) (now (cwd .entry)) (now (path .entry)) o ⌝ }
 {
     call_read::open(img, k, cwd, path)
 }
 
 // Kind, size, time and name of what stands at a path. Refusals: 1, 2, 3, 4, 5, 6, 17.
 pub fn info(img: &[u8], k: u32, cwd: &[u8], path: &[u8]) -> InfoOut
-    ensures { λ o. ⌜ Informs k (now (img .entry)) (now (cwd .entry)) (now (path .entry)) o ⌝ }
+    ensures { λ o. ⌜ Informs (mount k) (now (img .entry)) (now (cwd .entry)) (now (path .entry)) o ⌝ }
 {
     call_read::info(img, k, cwd, path)
 }
 
 // Lists the directory at a path from entry number i on, into buf. Refusals: 1, 2, 3, 4, 5, 6, 17.
 pub fn list(img: &[u8], k: u32, cwd: &[u8], path: &[u8], i: u32, buf: &mut [u8]) -> Listing
-    ensures { λ r. ⌜ Lists k (now (img .entry)) (now (cwd .entry)) (now (path .entry)) i (now (buf .entry)) r (now (buf .exit)) ⌝ }
+    ensures { λ r. ⌜ Lists (mount k) (now (img .entry)) (now (cwd .entry)) (now (path .entry)) i (now (buf .entry)) r (now (buf .exit)) ⌝ }
 {
     call_read::list(img, k, cwd, path, i, buf)
 }
 
 // Reads from the handle's position on into buf. Refusals: 1, 2, 3, 11, 17; a refused read hands back the very handle.
-pub fn read(img: &[u8], k: u32, handle: Handle, buf: &mut [u8]) -> ReadOut
-    ensures { λ o. ⌜ Reads k (now (img .entry)) handle (now (buf .entry)) (now (buf .exit)) o ⌝ }
+pub fn read(img: &[u8], k: u32, handle: Handle, buf: &mut [u8]) -> CountedOut
+    ensures { λ o. ⌜ Reads (mount k) (now (img .entry)) handle (now (buf .entry)) (now (buf .exit)) o ⌝ }
 {
     call_read::read(img, k, handle, buf)
 }
@@ -92,7 +92,7 @@ pub fn create_file(
     time: u64,
     work: &mut [u8],
 ) -> OpenOut
-    ensures { λ o. ⌜ CreatesFile k (now (img .entry)) (now (work .entry)) (now (cwd .entry)) (now (path .entry)) time o (now (img .exit)) (now (work .exit)) ⌝ }
+    ensures { λ o. ⌜ CreatesFile (mount k) (now (img .entry)) (now (work .entry)) (now (cwd .entry)) (now (path .entry)) time o (now (img .exit)) (now (work .exit)) ⌝ }
 {
     call_change::create_file(img, k, cwd, path, time, work)
 }
@@ -106,14 +106,14 @@ pub fn create_dir(
     time: u64,
     work: &mut [u8],
 ) -> Answer
-    ensures { λ r. ⌜ CreatesDir k (now (img .entry)) (now (work .entry)) (now (cwd .entry)) (now (path .entry)) time r (now (img .exit)) (now (work .exit)) ⌝ }
+    ensures { λ r. ⌜ CreatesDir (mount k) (now (img .entry)) (now (work .entry)) (now (cwd .entry)) (now (path .entry)) time r (now (img .exit)) (now (work .exit)) ⌝ }
 {
     call_change::create_dir(img, k, cwd, path, time, work)
 }
 
 // Deletes the file, the device or the empty directory at a path. Refusals: 1, 2, 3, 16, 17, 4, 5, 6, 14.
 pub fn delete(img: &mut [u8], k: u32, cwd: &[u8], path: &[u8], time: u64, work: &mut [u8]) -> Answer
-    ensures { λ r. ⌜ Deletes k (now (img .entry)) (now (work .entry)) (now (cwd .entry)) (now (path .entry)) time r (now (img .exit)) (now (work .exit)) ⌝ }
+    ensures { λ r. ⌜ Deletes (mount k) (now (img .entry)) (now (work .entry)) (now (cwd .entry)) (now (path .entry)) time r (now (img .exit)) (now (work .exit)) ⌝ }
 {
     call_change::delete(img, k, cwd, path, time, work)
 }
@@ -126,8 +126,8 @@ pub fn write(
     buf: &[u8],
     time: u64,
     work: &mut [u8],
-) -> WriteOut
-    ensures { λ o. ⌜ Writes k (now (img .entry)) (now (work .entry)) handle (now (buf .entry)) time o (now (img .exit)) (now (work .exit)) ⌝ }
+) -> CountedOut
+    ensures { λ o. ⌜ Writes (mount k) (now (img .entry)) (now (work .entry)) handle (now (buf .entry)) time o (now (img .exit)) (now (work .exit)) ⌝ }
 {
     call_change::write(img, k, handle, buf, time, work)
 }

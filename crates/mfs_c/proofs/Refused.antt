@@ -4,25 +4,26 @@ use mathlib.Core.Path.{_≡_, refl, _∙_}
 use mathlib.Core.List.{List}
 use Prim.Native.Nat.{ℕ, zero, suc}
 use native.Mathlib.Omega.{arith}
+use Rattle.model.specs.Geometry.{Mount}
 use Rattle.model.specs.Answers.{Reply, accepted, refused, reply, settle}
 use Rattle.limits.specs.Refusals.{refusalNumber}
 use Rattle.limits.specs.declared.Refusal.{Refusal}
 use Rattle.limits.proofs.Numbers.{number-some}
 use Rattle.dir_entry.specs.Entry.{kindByte}
-use Rattle.file.specs.declared.Handle.{Handle}
-use Rattle.file.specs.declared.SeekFrom.{SeekFrom}
-use Rattle.file.specs.declared.Counted.{Counted}
-use Rattle.file.specs.declared.Counted.the-variants as counted
-use Rattle.file.specs.Post.{CountedIs}
-use Rattle.file.specs.Written.{countedSays}
+use Rattle.handle.specs.declared.Handle.{Handle}
+use Rattle.handle.specs.declared.SeekFrom.{SeekFrom}
+use Rattle.handle.specs.declared.Counted.{Counted}
+use Rattle.handle.specs.declared.Counted.the-variants as counted
+use Rattle.file_read.specs.Post.{CountedIs}
+use Rattle.write.specs.Written.{countedSays}
 use Rattle.wire.specs.Pick.{pick}
 use Rattle.bitmap_room.specs.declared.Told.{Told}
 use Rattle.call_room.specs.Room.{roomSays}
-use Rattle.call_volume.specs.declared.Answer.{Answer}
-use Rattle.call_volume.specs.declared.Answer.the-variants as answer
+use Rattle.limits.specs.declared.Answer.{Answer}
+use Rattle.limits.specs.declared.Answer.the-variants as answer
 use Rattle.call_read.specs.declared.Listing.{Listing}
 use Rattle.call_read.specs.declared.Listing.the-variants as listing
-use Rattle.call_volume.specs.Says.{says, onAnswer, Sizes, spaceSays, soughtSays}
+use Rattle.call_volume.specs.Says.{says, onAnswer, Sizes, spaceSays}
 use Rattle.call_volume.specs.Format.{Formats}
 use Rattle.call_read.specs.Reading.{About, Counts, infoSays, listSays, ListIs}
 use Rattle.thm_calls.proofs.Changing.{create-file-kept, create-dir-kept, delete-kept, write-kept}
@@ -72,39 +73,39 @@ unfolding reply settle
 format-image zero j x y e = let z : _≡_ {A = ℕ} 0 1 = cc in absurd (omega arith)
 format-image (suc k) j x y e = refl
 
-pub format-c-kept : (K : ℕ) (I : List ℕ) (c : ℕ) (J : List ℕ) → FormatsC K I c J → (c ≡ 0 → ⊥) → J ≡ I
-format-c-kept K I c J a n = go (a .answer) (a .code) (a .call)
+pub format-c-kept : (M : Mount) (I : List ℕ) (c : ℕ) (J : List ℕ) → FormatsC M I c J → (c ≡ 0 → ⊥) → J ≡ I
+format-c-kept M I c J a n = go (a .answer) (a .code) (a .call)
   where
-    go : (r : Answer) → c ≡ told (says r) → Formats K I r J → J ≡ I
+    go : (r : Answer) → c ≡ told (says r) → Formats M I r J → J ≡ I
     go answer.Success e f = absurd (n e)
     go (answer.Refused x) e f = f .image ∙ format-image _ (refusalNumber x) _ I (f .answer)
 
-pub usage-c-kept : (K : ℕ) (I : List ℕ) (size used free c size' used' free' : ℕ)
-    → UsesC K I size used free c size' used' free' → (c ≡ 0 → ⊥) → (size' ≡ size) × (used' ≡ used) × (free' ≡ free)
-usage-c-kept K I size used free c size' used' free' a n =
+pub usage-c-kept : (M : Mount) (I : List ℕ) (size used free c size' used' free' : ℕ)
+    → UsesC M I size used free c size' used' free' → (c ≡ 0 → ⊥) → (size' ≡ size) × (used' ≡ used) × (free' ≡ free)
+usage-c-kept M I size used free c size' used' free' a n =
     let r = spaceSays (a .answer) in (
       kept r (λ (s : Sizes). s .size) size size' c (a .code) n (a .sizes),
       kept r (λ (s : Sizes). s .used) used used' c (a .code) n (a .useds),
       kept r (λ (s : Sizes). s .free) free free' c (a .code) n (a .frees),
     )
 
-pub room-c-kept : (K : ℕ) (I : List ℕ) (k enough bytes c enough' bytes' : ℕ)
-    → AsksC K I k enough bytes c enough' bytes' → (c ≡ 0 → ⊥) → (enough' ≡ enough) × (bytes' ≡ bytes)
-room-c-kept K I k enough bytes c enough' bytes' a n =
+pub room-c-kept : (M : Mount) (I : List ℕ) (k enough bytes c enough' bytes' : ℕ)
+    → AsksC M I k enough bytes c enough' bytes' → (c ≡ 0 → ⊥) → (enough' ≡ enough) × (bytes' ≡ bytes)
+room-c-kept M I k enough bytes c enough' bytes' a n =
     let r = roomSays (a .answer) in (
       kept r (λ (t : Told). pick (t .enough) 1 0) enough enough' c (a .code) n (a .enoughs),
       kept r (λ (t : Told). t .bytes) bytes bytes' c (a .code) n (a .reads),
     )
 
-pub open-c-kept : (K : ℕ) (I cwd p ns x : List ℕ) (len c : ℕ) (ns' x' : List ℕ) (len' : ℕ)
-    → OpensC K I cwd p ns x len c ns' x' len' → (c ≡ 0 → ⊥) → (ns' ≡ ns) × (x' ≡ x) × (len' ≡ len)
-open-c-kept K I cwd p ns x len c ns' x' len' a n = handle-out-kept _ ns x len c ns' x' len' (a .out) n
+pub open-c-kept : (M : Mount) (I cwd p ns x : List ℕ) (len c : ℕ) (ns' x' : List ℕ) (len' : ℕ)
+    → OpensC M I cwd p ns x len c ns' x' len' → (c ≡ 0 → ⊥) → (ns' ≡ ns) × (x' ≡ x) × (len' ≡ len)
+open-c-kept M I cwd p ns x len c ns' x' len' a n = handle-out-kept _ ns x len c ns' x' len' (a .out) n
 
-pub info-c-kept : (K : ℕ) (I cwd p : List ℕ) (kind size time : ℕ) (x : List ℕ) (len c kind' size' time' : ℕ) (x' : List ℕ) (len' : ℕ)
-    → InformsC K I cwd p kind size time x len c kind' size' time' x' len'
+pub info-c-kept : (M : Mount) (I cwd p : List ℕ) (kind size time : ℕ) (x : List ℕ) (len c kind' size' time' : ℕ) (x' : List ℕ) (len' : ℕ)
+    → InformsC M I cwd p kind size time x len c kind' size' time' x' len'
     → (c ≡ 0 → ⊥)
     → (kind' ≡ kind) × (size' ≡ size) × (time' ≡ time) × (x' ≡ x) × (len' ≡ len)
-info-c-kept K I cwd p kind size time x len c kind' size' time' x' len' a n =
+info-c-kept M I cwd p kind size time x len c kind' size' time' x' len' a n =
     let r = infoSays (a .answer) in (
       kept r (λ (s : About). kindByte (s .kind)) kind kind' c (a .code) n (a .kinds),
       kept r (λ (s : About). s .size) size size' c (a .code) n (a .sizes),
@@ -118,9 +119,9 @@ list-buffer r rs buf out (listing.Records b i) c h e n = absurd (n e)
 list-buffer (accepted m) rs buf out (listing.Refused x) c h e n = let z : _≡_ {A = ℕ} 0 1 = cc (h .answer) in absurd (omega arith)
 list-buffer (refused k) rs buf out (listing.Refused x) c h e n = h .buffer
 
-pub list-c-kept : (K : ℕ) (I cwd p : List ℕ) (i : ℕ) (buf : List ℕ) (bytes next c : ℕ) (out : List ℕ) (bytes' next' : ℕ)
-    → ListsC K I cwd p i buf bytes next c out bytes' next' → (c ≡ 0 → ⊥) → (out ≡ buf) × (bytes' ≡ bytes) × (next' ≡ next)
-list-c-kept K I cwd p i buf bytes next c out bytes' next' a n =
+pub list-c-kept : (M : Mount) (I cwd p : List ℕ) (i : ℕ) (buf : List ℕ) (bytes next c : ℕ) (out : List ℕ) (bytes' next' : ℕ)
+    → ListsC M I cwd p i buf bytes next c out bytes' next' → (c ≡ 0 → ⊥) → (out ≡ buf) × (bytes' ≡ bytes) × (next' ≡ next)
+list-c-kept M I cwd p i buf bytes next c out bytes' next' a n =
     let r = listSays (a .answer) in (
       list-buffer _ _ buf out (a .answer) c (a .call) (a .code) n,
       kept r (λ (m : Counts). m .bytes) bytes bytes' c (a .code) n (a .counts),
@@ -132,39 +133,39 @@ read-buffer : (k : ℕ) (h g : Handle) (vs buf out : List ℕ) (a : Counted) (c 
 read-buffer k h g vs buf out (counted.Bytes j) c r e n = absurd (n e)
 read-buffer k h g vs buf out (counted.Refused x) c r e n = r .kept
 
-pub read-c-kept : (K : ℕ) (I ns x : List ℕ) (len : ℕ) (buf : List ℕ) (bytes c : ℕ) (ns' out : List ℕ) (bytes' : ℕ)
-    → ReadsC K I ns x len buf bytes c ns' out bytes' → (c ≡ 0 → ⊥) → (ns' ≡ ns) × (out ≡ buf) × (bytes' ≡ bytes)
-read-c-kept K I ns x len buf bytes c ns' out bytes' a n =
+pub read-c-kept : (M : Mount) (I ns x : List ℕ) (len : ℕ) (buf : List ℕ) (bytes c : ℕ) (ns' out : List ℕ) (bytes' : ℕ)
+    → ReadsC M I ns x len buf bytes c ns' out bytes' → (c ≡ 0 → ⊥) → (ns' ≡ ns) × (out ≡ buf) × (bytes' ≡ bytes)
+read-c-kept M I ns x len buf bytes c ns' out bytes' a n =
     let k = count-out-kept _ _ ns bytes c ns' bytes' (a .told) n in
     (k .0, read-buffer _ _ _ _ buf out (a .answer .answer) c (a .call) (a .told .code) n, k .1)
 
 pub seek-c-kept : (ns x : List ℕ) (len : ℕ) (from : SeekFrom) (c : ℕ) (ns' : List ℕ) → SeeksC ns x len from c ns' → (c ≡ 0 → ⊥) → ns' ≡ ns
 seek-c-kept ns x len from c ns' a n =
-    let r = soughtSays (a .answer .answer) in
+    let r = says (a .answer .answer) in
     kept r (λ (u : Unit {0}). numbersOf (a .answer .handle)) ns ns' c (a .code) n (a .numbers)
 
-pub create-file-c-kept : (K : ℕ) (I W cwd p : List ℕ) (time : ℕ) (ns x : List ℕ) (len c : ℕ) (J Z ns' x' : List ℕ) (len' : ℕ)
-    → CreatesFileC K I W cwd p time ns x len c J Z ns' x' len' → (c ≡ 0 → ⊥) → (J ≡ I) × (ns' ≡ ns) × (x' ≡ x) × (len' ≡ len)
-create-file-c-kept K I W cwd p time ns x len c J Z ns' x' len' a n =
+pub create-file-c-kept : (M : Mount) (I W cwd p : List ℕ) (time : ℕ) (ns x : List ℕ) (len c : ℕ) (J Z ns' x' : List ℕ) (len' : ℕ)
+    → CreatesFileC M I W cwd p time ns x len c J Z ns' x' len' → (c ≡ 0 → ⊥) → (J ≡ I) × (ns' ≡ ns) × (x' ≡ x) × (len' ≡ len)
+create-file-c-kept M I W cwd p time ns x len c J Z ns' x' len' a n =
     let o = a .answer in
     let r = on-answer (o .handle) (o .answer) c (a .out .code) n in
     let k = handle-out-kept _ ns x len c ns' x' len' (a .out) n in
-    (create-file-kept K I W cwd p time J Z o (a .call) (r .0) (r .1) .0, k .0, k .1, k .2)
+    (create-file-kept M I W cwd p time J Z o (a .call) (r .0) (r .1) .0, k .0, k .1, k .2)
 
-pub create-dir-c-kept : (K : ℕ) (I W cwd p : List ℕ) (time c : ℕ) (J Z : List ℕ) → CreatesDirC K I W cwd p time c J Z → (c ≡ 0 → ⊥) → J ≡ I
-create-dir-c-kept K I W cwd p time c J Z a n =
+pub create-dir-c-kept : (M : Mount) (I W cwd p : List ℕ) (time c : ℕ) (J Z : List ℕ) → CreatesDirC M I W cwd p time c J Z → (c ≡ 0 → ⊥) → J ≡ I
+create-dir-c-kept M I W cwd p time c J Z a n =
     let r = plain (a .answer) c (a .code) n in
-    create-dir-kept K I W cwd p time J Z (a .answer) (a .call) (r .0) (r .1)
+    create-dir-kept M I W cwd p time J Z (a .answer) (a .call) (r .0) (r .1)
 
-pub delete-c-kept : (K : ℕ) (I W cwd p : List ℕ) (time c : ℕ) (J Z : List ℕ) → DeletesC K I W cwd p time c J Z → (c ≡ 0 → ⊥) → J ≡ I
-delete-c-kept K I W cwd p time c J Z a n =
+pub delete-c-kept : (M : Mount) (I W cwd p : List ℕ) (time c : ℕ) (J Z : List ℕ) → DeletesC M I W cwd p time c J Z → (c ≡ 0 → ⊥) → J ≡ I
+delete-c-kept M I W cwd p time c J Z a n =
     let r = plain (a .answer) c (a .code) n in
-    delete-kept K I W cwd p time J Z (a .answer) (a .call) (r .0) (r .1)
+    delete-kept M I W cwd p time J Z (a .answer) (a .call) (r .0) (r .1)
 
-pub write-c-kept : (K : ℕ) (I W ns x : List ℕ) (len : ℕ) (buf : List ℕ) (time bytes c : ℕ) (J Z ns' : List ℕ) (bytes' : ℕ)
-    → WritesC K I W ns x len buf time bytes c J Z ns' bytes' → (c ≡ 0 → ⊥) → (J ≡ I) × (ns' ≡ ns) × (bytes' ≡ bytes)
-write-c-kept K I W ns x len buf time bytes c J Z ns' bytes' a n =
+pub write-c-kept : (M : Mount) (I W ns x : List ℕ) (len : ℕ) (buf : List ℕ) (time bytes c : ℕ) (J Z ns' : List ℕ) (bytes' : ℕ)
+    → WritesC M I W ns x len buf time bytes c J Z ns' bytes' → (c ≡ 0 → ⊥) → (J ≡ I) × (ns' ≡ ns) × (bytes' ≡ bytes)
+write-c-kept M I W ns x len buf time bytes c J Z ns' bytes' a n =
     let o = a .answer in
     let r = counts (o .answer) c (a .told .code) n in
     let k = count-out-kept _ _ ns bytes c ns' bytes' (a .told) n in
-    (write-kept K I W _ buf time o J Z (a .call) (r .0) (r .1) .0, k .0, k .1)
+    (write-kept M I W _ buf time o J Z (a .call) (r .0) (r .1) .0, k .0, k .1)

@@ -9,25 +9,24 @@ use mir.Facts.{toZ-ofZ}
 use mathlib.Core.Bool.{Bool, true, false}
 use Rattle.wire.specs.Pick.{pick}
 use Rattle.wire.proofs.Picks.{pick-true, pick-false}
+use Rattle.model.specs.Geometry.{Mount}
 use Rattle.limits.specs.Refusals.{refusalNumber}
 use Rattle.limits.specs.declared.Refusal.{Refusal}
 use Rattle.dir_entry.specs.Entry.{kindByte}
-use Rattle.file.specs.declared.Handle.{Handle}
-use Rattle.file.specs.declared.SeekFrom.{SeekFrom}
-use Rattle.file.specs.declared.Outcome.the-variants as outcome
-use Rattle.file.specs.declared.Sought.{Sought}
-use Rattle.file.specs.declared.Counted.{Counted}
-use Rattle.file.specs.declared.Counted.the-variants as counted
-use Rattle.file.specs.declared.ReadOut.{ReadOut}
-use Rattle.file.specs.declared.WriteOut.{WriteOut}
-use Rattle.file.specs.Post.{SoughtIs}
-use Rattle.file.specs.Written.{countedSays}
+use Rattle.handle.specs.declared.Handle.{Handle}
+use Rattle.handle.specs.declared.SeekFrom.{SeekFrom}
+use Rattle.limits.specs.declared.Answer.the-variants as answer
+use Rattle.handle.specs.declared.Sought.{Sought}
+use Rattle.handle.specs.declared.Counted.{Counted}
+use Rattle.handle.specs.declared.Counted.the-variants as counted
+use Rattle.handle.specs.declared.CountedOut.{CountedOut}
+use Rattle.handle.specs.Post.{SoughtIs}
+use Rattle.write.specs.Written.{countedSays}
 use Rattle.bitmap_room.specs.declared.Told.{Told}
 use Rattle.call_room.specs.declared.RoomOut.{RoomOut}
 use Rattle.call_room.specs.declared.RoomOut.the-variants as room
 use Rattle.call_room.specs.Room.{Asks}
-use Rattle.call_volume.specs.declared.Answer.{Answer}
-use Rattle.call_volume.specs.declared.Answer.the-variants as answer
+use Rattle.limits.specs.declared.Answer.{Answer}
 use Rattle.call_volume.specs.declared.Space.{Space}
 use Rattle.call_volume.specs.declared.Space.the-variants as space
 use Rattle.call_read.specs.declared.OpenOut.{OpenOut}
@@ -46,11 +45,11 @@ code-refused a r c e f = rw e f
 
 -- ---- the values of an answer, each into its out parameter; a refusal leaves them
 
-module _ (K : ℕ) (I : List ℕ) (size used free : ℕ) (a : Space) (call : Uses K I a) where
-  pub usage-refused : (r : Refusal) (c : ℕ) → a ≡ space.Refused r → c ≡ refusalNumber r → UsesC K I size used free c size used free
+module _ (M : Mount) (I : List ℕ) (size used free : ℕ) (a : Space) (call : Uses M I a) where
+  pub usage-refused : (r : Refusal) (c : ℕ) → a ≡ space.Refused r → c ≡ refusalNumber r → UsesC M I size used free c size used free
   usage-refused r c e f = record { answer = space.Refused r; call = rw e at call; code = f; sizes = refl; useds = refl; frees = refl }
 
-  pub usage-told : (s u f : ℕ) → a ≡ space.Bytes s u f → UsesC K I size used free 0 s u f
+  pub usage-told : (s u f : ℕ) → a ≡ space.Bytes s u f → UsesC M I size used free 0 s u f
   usage-told s u f e = record { answer = space.Bytes s u f; call = rw e at call; code = refl; sizes = refl; useds = refl; frees = refl }
 
 pub flag-yes : (b : Bool) → b ≡ true → _≡_ {A = ℕ} 1 (pick b 1 0)
@@ -59,11 +58,11 @@ flag-yes b e = sym (pick-true 1 0 e)
 pub flag-no : (b : Bool) → b ≡ false → _≡_ {A = ℕ} 0 (pick b 1 0)
 flag-no b e = sym (pick-false 1 0 e)
 
-module _ (K : ℕ) (I : List ℕ) (k enough bytes : ℕ) (a : RoomOut) (call : Asks K I k a) where
-  pub room-refused : (r : Refusal) (c : ℕ) → a ≡ room.Refused r → c ≡ refusalNumber r → AsksC K I k enough bytes c enough bytes
+module _ (M : Mount) (I : List ℕ) (k enough bytes : ℕ) (a : RoomOut) (call : Asks M I k a) where
+  pub room-refused : (r : Refusal) (c : ℕ) → a ≡ room.Refused r → c ≡ refusalNumber r → AsksC M I k enough bytes c enough bytes
   room-refused r c e f = record { answer = room.Refused r; call = rw e at call; code = f; enoughs = refl; reads = refl }
 
-  pub room-told : (t : Told) (n : ℕ) → a ≡ room.Known t → n ≡ pick (t .enough) 1 0 → AsksC K I k enough bytes 0 n (t .bytes)
+  pub room-told : (t : Told) (n : ℕ) → a ≡ room.Known t → n ≡ pick (t .enough) 1 0 → AsksC M I k enough bytes 0 n (t .bytes)
   room-told t n e f = record { answer = room.Known t; call = rw e at call; code = refl; enoughs = f; reads = refl }
 
 module _ (o : OpenOut) (ns x : List ℕ) (len : ℕ) where
@@ -73,8 +72,8 @@ module _ (o : OpenOut) (ns x : List ℕ) (len : ℕ) where
   pub handle-given : (ms : List ℕ) → o .answer ≡ answer.Success → ms ≡ numbersOf (o .handle) → HandleOut (openSays o) ns x len 0 ms (o .handle .name) (o .handle .len)
   handle-given ms e f = rw e (record { code = refl; numbers = f; name = refl; long = refl })
 
-module _ (K : ℕ) (I cwd p : List ℕ) (kind size time : ℕ) (x : List ℕ) (len : ℕ) (o : InfoOut) (call : Informs K I cwd p o) where
-  pub info-refused : (r : Refusal) (c : ℕ) → o .answer ≡ answer.Refused r → c ≡ refusalNumber r → InformsC K I cwd p kind size time x len c kind size time x len
+module _ (M : Mount) (I cwd p : List ℕ) (kind size time : ℕ) (x : List ℕ) (len : ℕ) (o : InfoOut) (call : Informs M I cwd p o) where
+  pub info-refused : (r : Refusal) (c : ℕ) → o .answer ≡ answer.Refused r → c ≡ refusalNumber r → InformsC M I cwd p kind size time x len c kind size time x len
   info-refused r c e f =
       record {
         answer = o;
@@ -88,7 +87,7 @@ module _ (K : ℕ) (I cwd p : List ℕ) (kind size time : ℕ) (x : List ℕ) (l
       }
 
   pub info-told : (b : ℕ) → o .answer ≡ answer.Success → b ≡ kindByte (o .kind)
-      → InformsC K I cwd p kind size time x len 0 b (o .size) (o .time) (o .name) (o .len)
+      → InformsC M I cwd p kind size time x len 0 b (o .size) (o .time) (o .name) (o .len)
   info-told b e f =
       record {
         answer = o;
@@ -101,11 +100,11 @@ module _ (K : ℕ) (I cwd p : List ℕ) (kind size time : ℕ) (x : List ℕ) (l
         long = rw e refl;
       }
 
-module _ (K : ℕ) (I cwd p : List ℕ) (i : ℕ) (buf : List ℕ) (bytes next : ℕ) (a : Listing) (out : List ℕ) (call : Lists K I cwd p i buf a out) where
-  pub list-refused : (r : Refusal) (c : ℕ) → a ≡ listing.Refused r → c ≡ refusalNumber r → ListsC K I cwd p i buf bytes next c out bytes next
+module _ (M : Mount) (I cwd p : List ℕ) (i : ℕ) (buf : List ℕ) (bytes next : ℕ) (a : Listing) (out : List ℕ) (call : Lists M I cwd p i buf a out) where
+  pub list-refused : (r : Refusal) (c : ℕ) → a ≡ listing.Refused r → c ≡ refusalNumber r → ListsC M I cwd p i buf bytes next c out bytes next
   list-refused r c e f = record { answer = a; call = call; code = rw e f; counts = rw e refl; nexts = rw e refl }
 
-  pub list-told : (b n : ℕ) → a ≡ listing.Records b n → ListsC K I cwd p i buf bytes next 0 out b n
+  pub list-told : (b n : ℕ) → a ≡ listing.Records b n → ListsC M I cwd p i buf bytes next 0 out b n
   list-told b n e = record { answer = a; call = call; code = rw e refl; counts = rw e refl; nexts = rw e refl }
 
 module _ (a : Counted) (h : Handle) (ns : List ℕ) (bytes : ℕ) where
@@ -118,19 +117,19 @@ module _ (a : Counted) (h : Handle) (ns : List ℕ) (bytes : ℕ) where
 -- ---- the calls through a handle, which is made of its numbers and its name
 
 module _ (ns x : List ℕ) (len : ℕ) (h : Handle) (made : h ≡ handleOf ns x len) where
-  pub reads-c : (K : ℕ) (I buf : List ℕ) (bytes : ℕ) (o : ReadOut) (c : ℕ) (ms out : List ℕ) (b : ℕ)
-      → Reads K I h buf out o → CountOut (countedSays (o .answer)) (o .handle) ns bytes c ms b → ReadsC K I ns x len buf bytes c ms out b
-  reads-c K I buf bytes o c ms out b call given = record { answer = o; call = rw made at call; told = given }
+  pub reads-c : (M : Mount) (I buf : List ℕ) (bytes : ℕ) (o : CountedOut) (c : ℕ) (ms out : List ℕ) (b : ℕ)
+      → Reads M I h buf out o → CountOut (countedSays (o .answer)) (o .handle) ns bytes c ms b → ReadsC M I ns x len buf bytes c ms out b
+  reads-c M I buf bytes o c ms out b call given = record { answer = o; call = rw made at call; told = given }
 
-  pub writes-c : (K : ℕ) (I W buf : List ℕ) (time bytes : ℕ) (o : WriteOut) (c : ℕ) (J Z ms : List ℕ) (b : ℕ)
-      → Writes K I W h buf time o J Z → CountOut (countedSays (o .answer)) (o .handle) ns bytes c ms b → WritesC K I W ns x len buf time bytes c J Z ms b
-  writes-c K I W buf time bytes o c J Z ms b call given = record { answer = o; call = rw made at call; told = given }
+  pub writes-c : (M : Mount) (I W buf : List ℕ) (time bytes : ℕ) (o : CountedOut) (c : ℕ) (J Z ms : List ℕ) (b : ℕ)
+      → Writes M I W h buf time o J Z → CountOut (countedSays (o .answer)) (o .handle) ns bytes c ms b → WritesC M I W ns x len buf time bytes c J Z ms b
+  writes-c M I W buf time bytes o c J Z ms b call given = record { answer = o; call = rw made at call; told = given }
 
   module _ (from : SeekFrom) (o : Sought) (call : SoughtIs h from o) where
-    pub seek-refused : (r : Refusal) (c : ℕ) → o .answer ≡ outcome.Refused r → c ≡ refusalNumber r → SeeksC ns x len from c ns
+    pub seek-refused : (r : Refusal) (c : ℕ) → o .answer ≡ answer.Refused r → c ≡ refusalNumber r → SeeksC ns x len from c ns
     seek-refused r c e f = record { answer = o; call = rw made at call; code = rw e f; numbers = rw e refl }
 
-    pub seek-moved : (ms : List ℕ) → o .answer ≡ outcome.Success → ms ≡ numbersOf (o .handle) → SeeksC ns x len from 0 ms
+    pub seek-moved : (ms : List ℕ) → o .answer ≡ answer.Success → ms ≡ numbersOf (o .handle) → SeeksC ns x len from 0 ms
     seek-moved ms e f = record { answer = o; call = rw made at call; code = rw e refl; numbers = rw e f }
 
 -- A signed distance is handed on by its bits, from which the same number is read.

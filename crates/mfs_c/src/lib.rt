@@ -4,18 +4,18 @@ use block::Addr;
 use call_read::Listing;
 use call_read::OpenOut;
 use call_room::RoomOut;
-use call_volume::Answer;
 use call_volume::Space;
-use file::Counted;
-use file::Handle;
-use file::Outcome;
-use file::SeekFrom;
+use handle::Counted;
+use handle::Handle;
+use handle::SeekFrom;
+use limits::Answer;
 use limits::Refusal;
 ghost use mathlib.Core.Path.{_≡_};
 ghost use Rattle.wire.specs.Pick.{pick};
+ghost use Rattle.model.specs.Geometry.{mount};
 ghost use Rattle.limits.specs.Refusals.{refusalNumber};
-ghost use Rattle.file.specs.declared.SeekFrom.the-variants as from;
-ghost use Rattle.file.specs.Written.{countedSays};
+ghost use Rattle.handle.specs.declared.SeekFrom.the-variants as from;
+ghost use Rattle.write.specs.Written.{countedSays};
 ghost use Rattle.call_volume.specs.Says.{says};
 ghost use Rattle.call_read.specs.Reading.{openSays};
 ghost use Rattle.mfs_c.specs.Exports.{abiVersion, told, handleOf, numbersOf, FormatsC, UsesC, ChecksC, HandleOut, OpensC, InformsC, ListsC, CountOut, ReadsC, SeeksC, CreatesFileC, CreatesDirC, DeletesC, WritesC, AsksC};
@@ -103,7 +103,7 @@ fn give_count(answer: Counted, h: Handle, number: &mut [u32; 4], bytes: &mut usi
 // Formats the whole image. Refusals: 1, 3.
 #[no_mangle]
 pub extern "C" fn mfs_c_format(img: &mut [u8], k: u32) -> u32
-    ensures { λ c. ⌜ FormatsC k (now (img .entry)) c (now (img .exit)) ⌝ }
+    ensures { λ c. ⌜ FormatsC (mount k) (now (img .entry)) c (now (img .exit)) ⌝ }
 {
     code_of(mfs::format(img, k))
 }
@@ -117,7 +117,7 @@ pub extern "C" fn mfs_c_usage(
     used: &mut u64,
     free: &mut u64,
 ) -> u32
-    ensures { λ c. ⌜ UsesC k (now (img .entry)) (now (size .entry)) (now (used .entry)) (now (free .entry)) c (now (size .exit)) (now (used .exit)) (now (free .exit)) ⌝ }
+    ensures { λ c. ⌜ UsesC (mount k) (now (img .entry)) (now (size .entry)) (now (used .entry)) (now (free .entry)) c (now (size .exit)) (now (used .exit)) (now (free .exit)) ⌝ }
 {
     let space = mfs::usage(img, k);
     match space {
@@ -151,7 +151,7 @@ pub extern "C" fn mfs_c_room(
     enough: &mut u32,
     bytes: &mut u32,
 ) -> u32
-    ensures { λ c. ⌜ AsksC k (now (img .entry)) count (now (enough .entry)) (now (bytes .entry)) c (now (enough .exit)) (now (bytes .exit)) ⌝ }
+    ensures { λ c. ⌜ AsksC (mount k) (now (img .entry)) count (now (enough .entry)) (now (bytes .entry)) c (now (enough .exit)) (now (bytes .exit)) ⌝ }
 {
     let known = mfs::room(img, k, count);
     match known {
@@ -167,7 +167,7 @@ pub extern "C" fn mfs_c_room(
 // The whole check. Refusals: 1, 2, 3, 16, 17.
 #[no_mangle]
 pub extern "C" fn mfs_c_check(img: &[u8], k: u32, work: &mut [u8]) -> u32
-    ensures { λ c. ⌜ ChecksC k (now (img .entry)) (now (work .entry)) c (now (work .exit)) ⌝ }
+    ensures { λ c. ⌜ ChecksC (mount k) (now (img .entry)) (now (work .entry)) c (now (work .exit)) ⌝ }
 {
     code_of(mfs::check(img, k, work))
 }
@@ -183,7 +183,7 @@ pub extern "C" fn mfs_c_open(
     name: &mut [u8; 255],
     len: &mut usize,
 ) -> u32
-    ensures { λ c. ⌜ OpensC k (now (img .entry)) (now (cwd .entry)) (now (path .entry)) (now (number .entry)) (now (name .entry)) (now (len .entry)) c (now (number .exit)) (now (name .exit)) (now (len .exit)) ⌝ }
+    ensures { λ c. ⌜ OpensC (mount k) (now (img .entry)) (now (cwd .entry)) (now (path .entry)) (now (number .entry)) (now (name .entry)) (now (len .entry)) c (now (number .exit)) (now (name .exit)) (now (len .exit)) ⌝ }
 {
     give_handle(mfs::open(img, k, cwd, path), number, name, len)
 }
@@ -201,7 +201,7 @@ pub extern "C" fn mfs_c_info(
     name: &mut [u8; 255],
     len: &mut usize,
 ) -> u32
-    ensures { λ c. ⌜ InformsC k (now (img .entry)) (now (cwd .entry)) (now (path .entry)) (now (kind .entry)) (now (size .entry)) (now (time .entry)) (now (name .entry)) (now (len .entry)) c (now (kind .exit)) (now (size .exit)) (now (time .exit)) (now (name .exit)) (now (len .exit)) ⌝ }
+    ensures { λ c. ⌜ InformsC (mount k) (now (img .entry)) (now (cwd .entry)) (now (path .entry)) (now (kind .entry)) (now (size .entry)) (now (time .entry)) (now (name .entry)) (now (len .entry)) c (now (kind .exit)) (now (size .exit)) (now (time .exit)) (now (name .exit)) (now (len .exit)) ⌝ }
 {
     let out = mfs::info(img, k, cwd, path);
     let answer = out.answer;
@@ -232,7 +232,7 @@ pub extern "C" fn mfs_c_list(
     bytes: &mut usize,
     next: &mut u32,
 ) -> u32
-    ensures { λ c. ⌜ ListsC k (now (img .entry)) (now (cwd .entry)) (now (path .entry)) i (now (buf .entry)) (now (bytes .entry)) (now (next .entry)) c (now (buf .exit)) (now (bytes .exit)) (now (next .exit)) ⌝ }
+    ensures { λ c. ⌜ ListsC (mount k) (now (img .entry)) (now (cwd .entry)) (now (path .entry)) i (now (buf .entry)) (now (bytes .entry)) (now (next .entry)) c (now (buf .exit)) (now (bytes .exit)) (now (next .exit)) ⌝ }
 {
     let listed = mfs::list(img, k, cwd, path, i, buf);
     match listed {
@@ -256,7 +256,7 @@ pub extern "C" fn mfs_c_read(
     buf: &mut [u8],
     bytes: &mut usize,
 ) -> u32
-    ensures { λ c. ⌜ ReadsC k (now (img .entry)) (now (number .entry)) (now (name .entry)) len (now (buf .entry)) (now (bytes .entry)) c (now (number .exit)) (now (buf .exit)) (now (bytes .exit)) ⌝ }
+    ensures { λ c. ⌜ ReadsC (mount k) (now (img .entry)) (now (number .entry)) (now (name .entry)) len (now (buf .entry)) (now (bytes .entry)) c (now (number .exit)) (now (buf .exit)) (now (bytes .exit)) ⌝ }
 {
     let given = handle_of(number, name, len);
     let out = mfs::read(img, k, given, buf);
@@ -273,8 +273,8 @@ fn seek(number: &mut [u32; 4], name: &[u8; 255], len: usize, from: SeekFrom) -> 
     let out = mfs::seek(given, from);
     let answer = out.answer;
     match answer {
-        Outcome::Refused(r) => code(r),
-        Outcome::Success => {
+        Answer::Refused(r) => code(r),
+        Answer::Success => {
             let h = out.handle;
             *number = numbers_of(h);
             0
@@ -334,7 +334,7 @@ pub extern "C" fn mfs_c_create_file(
     name: &mut [u8; 255],
     len: &mut usize,
 ) -> u32
-    ensures { λ c. ⌜ CreatesFileC k (now (img .entry)) (now (work .entry)) (now (cwd .entry)) (now (path .entry)) time (now (number .entry)) (now (name .entry)) (now (len .entry)) c (now (img .exit)) (now (work .exit)) (now (number .exit)) (now (name .exit)) (now (len .exit)) ⌝ }
+    ensures { λ c. ⌜ CreatesFileC (mount k) (now (img .entry)) (now (work .entry)) (now (cwd .entry)) (now (path .entry)) time (now (number .entry)) (now (name .entry)) (now (len .entry)) c (now (img .exit)) (now (work .exit)) (now (number .exit)) (now (name .exit)) (now (len .exit)) ⌝ }
 {
     give_handle(
         mfs::create_file(img, k, cwd, path, time, work),
@@ -354,7 +354,7 @@ pub extern "C" fn mfs_c_create_dir(
     time: u64,
     work: &mut [u8],
 ) -> u32
-    ensures { λ c. ⌜ CreatesDirC k (now (img .entry)) (now (work .entry)) (now (cwd .entry)) (now (path .entry)) time c (now (img .exit)) (now (work .exit)) ⌝ }
+    ensures { λ c. ⌜ CreatesDirC (mount k) (now (img .entry)) (now (work .entry)) (now (cwd .entry)) (now (path .entry)) time c (now (img .exit)) (now (work .exit)) ⌝ }
 {
     code_of(mfs::create_dir(img, k, cwd, path, time, work))
 }
@@ -369,7 +369,7 @@ pub extern "C" fn mfs_c_delete(
     time: u64,
     work: &mut [u8],
 ) -> u32
-    ensures { λ c. ⌜ DeletesC k (now (img .entry)) (now (work .entry)) (now (cwd .entry)) (now (path .entry)) time c (now (img .exit)) (now (work .exit)) ⌝ }
+    ensures { λ c. ⌜ DeletesC (mount k) (now (img .entry)) (now (work .entry)) (now (cwd .entry)) (now (path .entry)) time c (now (img .exit)) (now (work .exit)) ⌝ }
 {
     code_of(mfs::delete(img, k, cwd, path, time, work))
 }
@@ -387,7 +387,7 @@ pub extern "C" fn mfs_c_write(
     work: &mut [u8],
     bytes: &mut usize,
 ) -> u32
-    ensures { λ c. ⌜ WritesC k (now (img .entry)) (now (work .entry)) (now (number .entry)) (now (name .entry)) len (now (buf .entry)) time (now (bytes .entry)) c (now (img .exit)) (now (work .exit)) (now (number .exit)) (now (bytes .exit)) ⌝ }
+    ensures { λ c. ⌜ WritesC (mount k) (now (img .entry)) (now (work .entry)) (now (number .entry)) (now (name .entry)) len (now (buf .entry)) time (now (bytes .entry)) c (now (img .exit)) (now (work .exit)) (now (number .exit)) (now (bytes .exit)) ⌝ }
 {
     let given = handle_of(number, name, len);
     let out = mfs::write(img, k, given, buf, time, work);

@@ -11,7 +11,7 @@ use Rattle.bits.specs.Bit.{bit}
 use Rattle.block.specs.Block.{blockBytes}
 use Rattle.model.specs.Tree.{Tree}
 use Rattle.model.specs.Render.{blocks, count}
-use Rattle.model.specs.Geometry.{Geo, blockSize, mapAt, dataAt, reach, mapBits, setBits, geo, Sound}
+use Rattle.model.specs.Geometry.{mount, Geo, blockSize, mapAt, dataAt, reach, mapBits, setBits, geo, Sound}
 use Rattle.model.specs.Volume.{Laid, Volume}
 use Rattle.model.proofs.Counts.{ones-length}
 
@@ -20,7 +20,7 @@ pub size-large : (g : Geo) → 512 ≤ blockSize g
 size-large g = let h : 1 ≤ 2 ^ (g .code) = one-le-pow (g .code) 2 (lit< tt) in omega arith
 
 -- sound numbers are those of K and n
-pub sound-geo : (g : Geo) (len : ℕ) → Sound g len → g ≡ geo (g .K) (g .n)
+pub sound-geo : (g : Geo) (len : ℕ) → Sound g len → g ≡ geo (mount (g .K)) (g .n)
 sound-geo g len s = λ i. record { K = g .K; n = g .n; version = s .known .0 i; code = s .known .1 i }
 
 pub record Area (g : Geo) : Type 0 where
@@ -29,7 +29,7 @@ pub record Area (g : Geo) : Type 0 where
   pub reached : dataAt g + reach g ≤ g .n
   pub enough : g .n ≤ dataAt g + mapBits g
 
-area-geo : (K n : ℕ) → 2 ≤ n - (K + 2) → Area (geo K n)
+area-geo : (K n : ℕ) → 2 ≤ n - (K + 2) → Area (geo (mount K) n)
 unfolding dataAt reach
 area-geo K n h = record { maps = omega arith; some-data = omega arith; reached = omega arith; enough = omega arith }
 

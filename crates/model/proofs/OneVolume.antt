@@ -1,4 +1,4 @@
--- One volume for an image and K: the superblock shows the numbers and the used count, and with them there is one tree.
+-- One volume for an image and a mount: the superblock shows the numbers and the used count, and with them there is one tree.
 use mathlib.Core.Path.{_≡_, refl, sym, ap, _∙_, subst}
 use mathlib.Core.List.{List, [], _∷_, _++_}
 use Prim.Native.Nat.{ℕ, _+_, _-_, _*_, _^_, _≤_, _<_}
@@ -9,12 +9,11 @@ use Rattle.wire.specs.Be.{bytes}
 use Rattle.wire.specs.Pick.{same}
 use Rattle.wire.proofs.Numbers.{length-bytes}
 use Rattle.wire.proofs.Picks.{same-refl}
-use Rattle.block.specs.Block.{blockBytes}
 use Rattle.model.specs.Tree.{Tree, find}
 use Rattle.model.specs.Render.{blocks, Shows, padded}
-use Rattle.model.specs.Geometry.{Geo, blockSize, dataAt, setBits, signature, superBytes, geo, geoAt, countAt, usedCount, Sound, openRefusal}
+use Rattle.model.specs.Geometry.{Mount, Geo, blockSize, mounted, dataAt, setBits, signature, topMark, superBytes, geoAt, countAt, usedCount, Sound, openRefusal}
 use Rattle.model.specs.Volume.{Laid, Volume, WellFormed, maxDepth}
-use Rattle.model.proofs.Areas.{few, area, sound-geo, volume-bits, volume-laid}
+use Rattle.model.proofs.Areas.{few, area, size-large, block-inside, volume-bits, volume-laid}
 use Rattle.model.proofs.Commit.{shows-one, shows-two}
 use Rattle.model.proofs.Entries.{be-shown}
 use Rattle.model.proofs.Opens.{sound-opens}
@@ -53,21 +52,16 @@ shown-part I k l h s =
     (λ i q. getD-take (length l) (drop k I) i 0 (omega arith) ∙ getD-drop k I i 0 ∙ s i (omega arith))
 
 module _ (g : Geo) (I : List ℕ) (d : ℕ) (t : Tree d) (u : ℕ) (l : Laid g I d t u) where
-  size-is : blockSize g ≡ blockBytes
-  size-is = ap (λ (c : ℕ). blockBytes * 2 ^ c) (l .sound .known .1)
-
   top-is : TopReads I (blockSize g * g .K) g u
   top-is = top-reads I (blockSize g * g .K) g u (l .top)
 
-  laid-count : countAt (g .K) I ≡ g .n
+  laid-count : countAt (mounted g) I ≡ g .n
   unfolding countAt
-  laid-count =
-      be-shown I (blockBytes * g .K + 10) 4 (g .n) (omega (arith, few g (length I) (l .sound)))
-      (subst (λ (z : ℕ). Shows I (z * g .K + 10) (bytes 4 (g .n))) size-is (top-is .count))
+  laid-count = be-shown I (blockSize g * g .K + 10) 4 (g .n) (omega (arith, few g (length I) (l .sound))) (top-is .count)
 
-  -- The numbers are those that the superblock at K says.
-  laid-geo : g ≡ geoAt (g .K) I
-  laid-geo = sound-geo g (length I) (l .sound) ∙ ap (geo (g .K)) (sym laid-count)
+  -- The numbers are those that the superblock says.
+  laid-geo : g ≡ geoAt (mounted g) I
+  laid-geo = λ i. record { K = g .K; n = sym laid-count i; version = l .sound .known .0 i; code = g .code }
 
   -- So is the used count, where four bytes hold it.
   laid-used : u < 2 ^ 32 → usedCount g I ≡ u
@@ -75,32 +69,34 @@ module _ (g : Geo) (I : List ℕ) (d : ℕ) (t : Tree d) (u : ℕ) (l : Laid g I
   laid-used h = be-shown I (blockSize g * g .K + 14) 4 u h (top-is .used)
 
   -- An image that lays out a tree gives none of refusals 1, 2, 3.
-  laid-opens : openRefusal (g .K) I ≡ 0
+  laid-opens : openRefusal (mounted g) I ≡ 0
   laid-opens =
-      let s : Sound (geoAt (g .K) I) (length I) = subst (λ (h : Geo). Sound h (length I)) laid-geo (l .sound) in
-      let m : Shows I (blockSize g * g .K) (signature ++ (2 ∷ (0 ∷ [])))
-      = subst (λ (h : Geo). Shows I (blockSize g * g .K) (signature ++ (h .version ∷ (h .code ∷ [])))) laid-geo (top-is .mark) in
-      let n : Shows I (blockBytes * g .K) (signature ++ (2 ∷ (0 ∷ []))) = subst (λ (z : ℕ). Shows I (z * g .K) (signature ++ (2 ∷ (0 ∷ [])))) size-is m in
-      let p : take 10 (drop (blockBytes * g .K) I) ≡ signature ++ (2 ∷ (0 ∷ []))
-      = shown-part I (blockBytes * g .K) (signature ++ (2 ∷ (0 ∷ []))) (omega (arith, s .inside-image, s .room)) n in
-      sound-opens (g .K) I s (ap (λ (x : List ℕ). same x (signature ++ (2 ∷ (0 ∷ [])))) p ∙ same-refl (signature ++ (2 ∷ (0 ∷ []))))
+      let M : Mount = mounted g in
+      let s : Sound (geoAt M I) (length I) = subst (λ (h : Geo). Sound h (length I)) laid-geo (l .sound) in
+      let m : Shows I (blockSize g * g .K) (topMark M)
+      = subst (λ (v : ℕ). Shows I (blockSize g * g .K) (signature ++ (v ∷ (g .code ∷ [])))) (l .sound .known .0) (top-is .mark) in
+      let b : blockSize g * g .K + blockSize g ≤ length I
+      = block-inside g (length I) (l .sound) (g .K) (omega (arith, l .sound .room)) in
+      let p : take 10 (drop (blockSize g * g .K) I) ≡ topMark M
+      = shown-part I (blockSize g * g .K) (topMark M) (omega (arith, b, size-large g)) m in
+      sound-opens M I s (ap (λ (x : List ℕ). same x (topMark M)) p ∙ same-refl (topMark M))
 
 -- ---- one volume
 
--- The numbers of an image with its superblock at K, whatever tree is laid out by them.
-geo-one : (g h : Geo) (I : List ℕ) (d e : ℕ) (t : Tree d) (s : Tree e) (u w : ℕ) → Laid g I d t u → Laid h I e s w → g .K ≡ h .K → g ≡ h
-geo-one g h I d e t s u w l m k = laid-geo g I d t u l ∙ ap (λ (z : ℕ). geoAt z I) k ∙ sym (laid-geo h I e s w m)
+-- The numbers of an image with its mount, whatever tree is laid out by them.
+geo-one : (g h : Geo) (I : List ℕ) (d e : ℕ) (t : Tree d) (s : Tree e) (u w : ℕ) → Laid g I d t u → Laid h I e s w → mounted g ≡ mounted h → g ≡ h
+geo-one g h I d e t s u w l m k = laid-geo g I d t u l ∙ ap (λ (z : Mount). geoAt z I) k ∙ sym (laid-geo h I e s w m)
 
 -- The numbers and the tree of a well-formed image.
-pub well-formed-one : (K : ℕ) (I : List ℕ) (v w : WellFormed K I) → (v .numbers ≡ w .numbers) × (v .tree ≡ w .tree)
-well-formed-one K I v w =
+pub well-formed-one : (M : Mount) (I : List ℕ) (v w : WellFormed M I) → (v .numbers ≡ w .numbers) × (v .tree ≡ w .tree)
+well-formed-one M I v w =
     let e : v .numbers ≡ w .numbers = geo-one _ _ I _ _ _ _ _ _ (v .volume .laid) (w .volume .laid) (v .here ∙ sym (w .here)) in
     let l : Volume (w .numbers) I maxDepth (v .tree) = subst (λ (g : Geo). Volume g I maxDepth (v .tree)) e (v .volume) in
     (e, laid-one (w .numbers) I maxDepth (v .tree) (w .tree) _ _ (l .laid) (w .volume .laid))
 
--- Its numbers are those that the superblock at K says.
-pub well-formed-geo : (K : ℕ) (I : List ℕ) (v : WellFormed K I) → v .numbers ≡ geoAt K I
-well-formed-geo K I v = laid-geo _ I maxDepth (v .tree) _ (v .volume .laid) ∙ ap (λ (k : ℕ). geoAt k I) (v .here)
+-- Its numbers are those that the superblock says.
+pub well-formed-geo : (M : Mount) (I : List ℕ) (v : WellFormed M I) → v .numbers ≡ geoAt M I
+well-formed-geo M I v = laid-geo _ I maxDepth (v .tree) _ (v .volume .laid) ∙ ap (λ (k : Mount). geoAt k I) (v .here)
 
 -- ---- the used count
 
@@ -125,5 +121,5 @@ module _ (g : Geo) (I : List ℕ) (d : ℕ) (t : Tree d) (v : Volume g I d t) wh
 -- ---- opening
 
 -- A well-formed image gives none of refusals 1, 2, 3.
-pub well-formed-opens : (K : ℕ) (I : List ℕ) → WellFormed K I → openRefusal K I ≡ 0
-well-formed-opens K I v = subst (λ (k : ℕ). openRefusal k I ≡ 0) (v .here) (laid-opens _ I maxDepth (v .tree) _ (v .volume .laid))
+pub well-formed-opens : (M : Mount) (I : List ℕ) → WellFormed M I → openRefusal M I ≡ 0
+well-formed-opens M I v = subst (λ (k : Mount). openRefusal k I ≡ 0) (v .here) (laid-opens _ I maxDepth (v .tree) _ (v .volume .laid))

@@ -2,16 +2,17 @@
 use mathlib.Core.Path.{_≡_, refl, ap, _∙_}
 use mathlib.Core.Bool.{Bool, true, false, not, _||_}
 use mathlib.Core.Logic.{_⊎_, inl, inr}
-use mathlib.Core.List.{List, [], _∷_, _++_}
+use mathlib.Core.List.{List, [], _∷_}
 use Prim.Native.Nat.{ℕ, zero, suc, _+_, _*_, _/_, _%_, _≤_, _<_}
+use native.Mathlib.Nat.{one-le-pow, div-le-self, le-div-iff-mul-le}
 use native.Mathlib.Omega.{arith}
+use lib.Dec.{lit<}
 use lib.ListN.{length, take, drop}
 use borrow.Author.Tests.{ltb-false, leb-false, eqb-true, eqb-false, not-false, le-ltb, lt-leb, eq-eqb, ne-eqb}
 use Rattle.wire.specs.Pick.{same}
 use Rattle.wire.proofs.Picks.{either, not-both, pick-true, pick-false}
-use Rattle.block.specs.Block.{blockBytes}
 use Rattle.model.specs.Answers.{when, firstOf}
-use Rattle.model.specs.Geometry.{Geo, blockSize, mapSize, rest, signature, geo, geoAt, formatGeo, countAt, imageLimit, Sound, badImage, badMark, badCount, openRefusal, formatRefusal}
+use Rattle.model.specs.Geometry.{Mount, Geo, blockSize, codeSize, topMark, badCode, mapSize, rest, geo, geoAt, formatGeo, countAt, imageLimit, Sound, badImage, badMark, badCount, openRefusal, formatRefusal}
 
 -- ---- tests
 
@@ -78,10 +79,23 @@ passed k b ks h e = let z = first-of-zero (when k b) ks e in (when-none k b h (z
 
 -- ---- what the tests say
 
+-- The size code is known exactly where 2 does not hold of it.
+good-code : (M : Mount) → badCode M ≡ false → M .code ≡ 0
+unfolding badCode
+good-code M e = omega (arith, ltb-false 0 (M .code) e)
+
+pub code-good : (M : Mount) → M .code ≡ 0 → badCode M ≡ false
+unfolding badCode
+code-good M e = le-ltb 0 (M .code) (omega arith)
+
+-- a block has bytes, whatever its size code
+some-size : (c : ℕ) → 0 < codeSize c
+some-size c = omega (arith, one-le-pow c 2 (lit< tt))
+
 -- 1 does not hold: the image has bytes, in whole blocks, within the limit, and a block after K+1.
-pub good-image : (K len : ℕ) → badImage K len ≡ false → (1 ≤ len) × (len % 512 ≡ 0) × (len ≤ imageLimit) × (K + 2 < len / 512)
+pub good-image : (M : Mount) (len : ℕ) → badImage M len ≡ false → (1 ≤ len) × (len % codeSize (M .code) ≡ 0) × (len ≤ imageLimit) × (M .K + 2 < len / codeSize (M .code))
 unfolding badImage
-good-image K len e =
+good-image M len e =
     let a = or-false _ _ e in
     let b = or-false _ _ (a .1) in
     let c = or-false _ _ (b .1) in
@@ -92,19 +106,21 @@ good-image K len e =
     some-bytes zero h = absurd (h refl)
     some-bytes (suc k) h = omega arith
 
-pub image-good : (K len : ℕ) → len % 512 ≡ 0 → len ≤ imageLimit → K + 2 < len / 512 → badImage K len ≡ false
+pub image-good : (M : Mount) (len : ℕ) → len % codeSize (M .code) ≡ 0 → len ≤ imageLimit → M .K + 2 < len / codeSize (M .code)
+    → badImage M len ≡ false
 unfolding badImage
-image-good K len w l b =
-    false-or (ne-eqb len 0 (λ z. omega arith)) (false-or (ap not (eq-eqb (len % blockBytes) 0 w)) (false-or (le-ltb imageLimit len l) (lt-leb (len / blockBytes) (K + 2) b)))
+image-good M len w l b =
+    false-or (ne-eqb len 0 (λ z. omega (arith, b, div-le-self len (codeSize (M .code)))))
+    (false-or (ap not (eq-eqb (len % codeSize (M .code)) 0 w)) (false-or (le-ltb imageLimit len l) (lt-leb (len / codeSize (M .code)) (M .K + 2) b)))
 
--- 2 does not hold: signature, version and size code stand at block K.
-good-mark : (K : ℕ) (I : List ℕ) → badMark K I ≡ false → same (take 10 (drop (blockBytes * K) I)) (signature ++ (2 ∷ (0 ∷ []))) ≡ true
+-- 2 does not hold: signature, version and size code stand at block M.
+good-mark : (M : Mount) (I : List ℕ) → badMark M I ≡ false → same (take 10 (drop (codeSize (M .code) * M .K) I)) (topMark M) ≡ true
 unfolding badMark
-good-mark K I e = not-false _ e
+good-mark M I e = not-false _ e
 
-pub mark-good : (K : ℕ) (I : List ℕ) → same (take 10 (drop (blockBytes * K) I)) (signature ++ (2 ∷ (0 ∷ []))) ≡ true → badMark K I ≡ false
+pub mark-good : (M : Mount) (I : List ℕ) → same (take 10 (drop (codeSize (M .code) * M .K) I)) (topMark M) ≡ true → badMark M I ≡ false
 unfolding badMark
-mark-good K I e = ap not e
+mark-good M I e = ap not e
 
 -- 3 does not hold: n is inside the image, N is 2 at least, and its remainder is not 1.
 pub good-count : (g : Geo) (len : ℕ) → badCount g len ≡ false → (g .n ≤ len / blockSize g) × (2 ≤ rest g) × (rest g % (mapSize g + 1) ≡ 1 → ⊥)
@@ -120,79 +136,101 @@ count-good g len i r m = false-or (le-ltb _ _ i) (false-or (le-ltb _ _ r) (ne-eq
 
 -- ---- opening: which refusal, by the tests
 
-module _ (K : ℕ) (I : List ℕ) where
-  pub open-1 : badImage K (length I) ≡ true → openRefusal K I ≡ 1
+module _ (M : Mount) (I : List ℕ) (z : badCode M ≡ false) where
+  pub open-1 : badImage M (length I) ≡ true → openRefusal M I ≡ 1
   unfolding openRefusal
-  open-1 a = refuses 1 _ (omega arith) a
+  open-1 a = passes 2 _ z ∙ refuses 1 _ (omega arith) a
 
-  pub open-2 : badImage K (length I) ≡ false → badMark K I ≡ true → openRefusal K I ≡ 2
+  pub open-2 : badImage M (length I) ≡ false → badMark M I ≡ true → openRefusal M I ≡ 2
   unfolding openRefusal
-  open-2 a b = passes 1 _ a ∙ refuses 2 _ (omega arith) b
+  open-2 a b = passes 2 _ z ∙ passes 1 _ a ∙ refuses 2 _ (omega arith) b
 
-  pub open-3 : badImage K (length I) ≡ false → badMark K I ≡ false → badCount (geoAt K I) (length I) ≡ true → openRefusal K I ≡ 3
+  pub open-3 : badImage M (length I) ≡ false → badMark M I ≡ false → badCount (geoAt M I) (length I) ≡ true → openRefusal M I ≡ 3
   unfolding openRefusal
-  open-3 a b c = passes 1 _ a ∙ passes 2 _ b ∙ refuses 3 _ (omega arith) c
+  open-3 a b c = passes 2 _ z ∙ passes 1 _ a ∙ passes 2 _ b ∙ refuses 3 _ (omega arith) c
 
-  pub open-0 : badImage K (length I) ≡ false → badMark K I ≡ false → badCount (geoAt K I) (length I) ≡ false → openRefusal K I ≡ 0
+  pub open-0 : badImage M (length I) ≡ false → badMark M I ≡ false → badCount (geoAt M I) (length I) ≡ false → openRefusal M I ≡ 0
   unfolding openRefusal
-  open-0 a b c = passes 1 _ a ∙ passes 2 _ b ∙ passes 3 _ c ∙ first-of-none
+  open-0 a b c = passes 2 _ z ∙ passes 1 _ a ∙ passes 2 _ b ∙ passes 3 _ c ∙ first-of-none
 
-  -- None of the three tests holds where there is no refusal.
-  opened : openRefusal K I ≡ 0 → (badImage K (length I) ≡ false) × (badMark K I ≡ false) × (badCount (geoAt K I) (length I) ≡ false)
-  unfolding openRefusal
-  opened e =
-      let a = passed 1 _ _ (omega arith) e in
-      let b = passed 2 _ _ (omega arith) (a .1) in
-      let c = passed 3 _ _ (omega arith) (b .1) in
-      (a .0, b .0, c .0)
+-- None of the four tests holds where there is no refusal.
+record Passed (M : Mount) (I : List ℕ) : Type 0 where
+  code : badCode M ≡ false
+  image : badImage M (length I) ≡ false
+  mark : badMark M I ≡ false
+  count : badCount (geoAt M I) (length I) ≡ false
+
+opened : (M : Mount) (I : List ℕ) → openRefusal M I ≡ 0 → Passed M I
+unfolding openRefusal
+opened M I e =
+    let z = passed 2 _ _ (omega arith) e in
+    let a = passed 1 _ _ (omega arith) (z .1) in
+    let b = passed 2 _ _ (omega arith) (a .1) in
+    let c = passed 3 _ _ (omega arith) (b .1) in
+    record { code = z .0; image = a .0; mark = b .0; count = c .0 }
 
 -- ---- sound numbers
 
--- The two tests of the numbers pass exactly where the numbers are sound.
-tests-sound : (K n len : ℕ) → badImage K len ≡ false → badCount (geo K n) len ≡ false → Sound (geo K n) len
-tests-sound K n len a b =
-    let i = good-image K len a in
-    let c = good-count (geo K n) len b in
-    record { known = (refl, refl); whole = i .1; limit = i .2; inside-image = omega arith; room = c .1; remainder = c .2 }
+-- The tests of the numbers pass exactly where the numbers are sound.
+tests-sound : (M : Mount) (n len : ℕ) → badCode M ≡ false → badImage M len ≡ false → badCount (geo M n) len ≡ false → Sound (geo M n) len
+tests-sound M n len z a b =
+    let i = good-image M len a in
+    let c = good-count (geo M n) len b in
+    record {
+      known = (refl, good-code M z);
+      whole = i .1;
+      limit = i .2;
+      inside-image = le-div-iff-mul-le (some-size (M .code)) .0 (c .0);
+      room = c .1;
+      remainder = c .2;
+    }
 
-sound-image : (K n len : ℕ) → Sound (geo K n) len → badImage K len ≡ false
-sound-image K n len s = image-good K len (s .whole) (s .limit) (omega (arith, s .inside-image, s .room))
+sound-inside : (M : Mount) (n len : ℕ) → Sound (geo M n) len → n ≤ len / codeSize (M .code)
+sound-inside M n len s = le-div-iff-mul-le (some-size (M .code)) .1 (s .inside-image)
 
-sound-count : (K n len : ℕ) → Sound (geo K n) len → badCount (geo K n) len ≡ false
-sound-count K n len s = count-good (geo K n) len (omega (arith, s .inside-image)) (s .room) (s .remainder)
+sound-image : (M : Mount) (n len : ℕ) → Sound (geo M n) len → badImage M len ≡ false
+sound-image M n len s = image-good M len (s .whole) (s .limit) (omega (arith, sound-inside M n len s, s .room))
 
--- A call on a volume gives none of 1, 2, 3 exactly where the numbers at K are sound and the mark stands there.
-pub opens-sound : (K : ℕ) (I : List ℕ) → openRefusal K I ≡ 0
-    → Sound (geoAt K I) (length I) × (same (take 10 (drop (blockBytes * K) I)) (signature ++ (2 ∷ (0 ∷ []))) ≡ true)
-opens-sound K I e = let t = opened K I e in (tests-sound K (countAt K I) (length I) (t .0) (t .2), good-mark K I (t .1))
+sound-count : (M : Mount) (n len : ℕ) → Sound (geo M n) len → badCount (geo M n) len ≡ false
+sound-count M n len s = count-good (geo M n) len (sound-inside M n len s) (s .room) (s .remainder)
 
-pub sound-opens : (K : ℕ) (I : List ℕ) → Sound (geoAt K I) (length I) → same (take 10 (drop (blockBytes * K) I)) (signature ++ (2 ∷ (0 ∷ []))) ≡ true
-    → openRefusal K I ≡ 0
-sound-opens K I s m = open-0 K I (sound-image K (countAt K I) (length I) s) (mark-good K I m) (sound-count K (countAt K I) (length I) s)
+-- A call on a volume gives none of 1, 2, 3 exactly where the numbers of the mount are sound and the mark stands there.
+pub opens-sound : (M : Mount) (I : List ℕ) → openRefusal M I ≡ 0
+    → Sound (geoAt M I) (length I) × (same (take 10 (drop (codeSize (M .code) * M .K) I)) (topMark M) ≡ true)
+opens-sound M I e =
+    let t = opened M I e in
+    (tests-sound M (countAt M I) (length I) (t .code) (t .image) (t .count), good-mark M I (t .mark))
+
+pub sound-opens : (M : Mount) (I : List ℕ) → Sound (geoAt M I) (length I) → same (take 10 (drop (codeSize (M .code) * M .K) I)) (topMark M) ≡ true
+    → openRefusal M I ≡ 0
+sound-opens M I s m =
+    open-0 M I (code-good M (s .known .1)) (sound-image M (countAt M I) (length I) s) (mark-good M I m) (sound-count M (countAt M I) (length I) s)
 
 -- ---- format
 
-module _ (K len : ℕ) where
-  pub format-1 : badImage K len ≡ true → formatRefusal K len ≡ 1
-  unfolding formatRefusal
-  format-1 a = refuses 1 _ (omega arith) a
+module _ (M : Mount) (len : ℕ) where
+  module _ (z : badCode M ≡ false) where
+    pub format-1 : badImage M len ≡ true → formatRefusal M len ≡ 1
+    unfolding formatRefusal
+    format-1 a = passes 2 _ z ∙ refuses 1 _ (omega arith) a
 
-  pub format-3 : badImage K len ≡ false → badCount (formatGeo K len) len ≡ true → formatRefusal K len ≡ 3
-  unfolding formatRefusal
-  format-3 a b = passes 1 _ a ∙ refuses 3 _ (omega arith) b
+    pub format-3 : badImage M len ≡ false → badCount (formatGeo M len) len ≡ true → formatRefusal M len ≡ 3
+    unfolding formatRefusal
+    format-3 a b = passes 2 _ z ∙ passes 1 _ a ∙ refuses 3 _ (omega arith) b
 
-  pub format-0 : badImage K len ≡ false → badCount (formatGeo K len) len ≡ false → formatRefusal K len ≡ 0
-  unfolding formatRefusal
-  format-0 a b = passes 1 _ a ∙ passes 3 _ b ∙ first-of-none
+    pub format-0 : badImage M len ≡ false → badCount (formatGeo M len) len ≡ false → formatRefusal M len ≡ 0
+    unfolding formatRefusal
+    format-0 a b = passes 2 _ z ∙ passes 1 _ a ∙ passes 3 _ b ∙ first-of-none
 
-  -- None of the two tests holds where there is no refusal.
-  format-passed : formatRefusal K len ≡ 0 → (badImage K len ≡ false) × (badCount (formatGeo K len) len ≡ false)
+  -- None of the three tests holds where there is no refusal.
+  format-passed : formatRefusal M len ≡ 0 → (badCode M ≡ false) × (badImage M len ≡ false) × (badCount (formatGeo M len) len ≡ false)
   unfolding formatRefusal
   format-passed e =
-      let a = passed 1 _ _ (omega arith) e in
+      let z = passed 2 _ _ (omega arith) e in
+      let a = passed 1 _ _ (omega arith) (z .1) in
       let b = passed 3 _ _ (omega arith) (a .1) in
-      (a .0, b .0)
+      (z .0, a .0, b .0)
 
   -- Format gives no refusal exactly where the numbers that it writes are sound.
-  pub format-sound : formatRefusal K len ≡ 0 → Sound (formatGeo K len) len
-  format-sound e = let t = format-passed e in tests-sound K (len / blockBytes) len (t .0) (t .1)
+  pub format-sound : formatRefusal M len ≡ 0 → Sound (formatGeo M len) len
+  format-sound e = let t = format-passed e in tests-sound M (len / codeSize (M .code)) len (t .0) (t .1) (t .2)

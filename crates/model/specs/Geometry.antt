@@ -12,6 +12,20 @@ use Rattle.block.specs.Block.{blockBytes}
 use Rattle.model.specs.Render.{padded}
 use Rattle.model.specs.Answers.{when, firstOf}
 
+-- F1: where a caller says that the volume is: the superblock's block, and the code of the size in which blocks are counted.
+pub record Mount : Type 0 where
+  pub K : ℕ
+  pub code : ℕ
+
+-- The mount of a caller who names K alone: size code 0, the only one there is.
+abbrev pub mount : ℕ → Mount
+mount K = record { K = K; code = 0 }
+
+-- F1: the bytes of a block by its size code, 512 for code 0. No law asks for that number, so that a code for larger blocks would
+-- change this alone.
+abbrev pub codeSize : ℕ → ℕ
+codeSize c = blockBytes * 2 ^ c
+
 -- F1, F2: K is the superblock's block; n, version and size code are the superblock's own.
 pub record Geo : Type 0 where
   pub K : ℕ
@@ -19,9 +33,12 @@ pub record Geo : Type 0 where
   pub version : ℕ
   pub code : ℕ
 
--- F1: 512 bytes for size code 0. No law asks for that number, so that a code for larger blocks would change this alone.
 abbrev pub blockSize : Geo → ℕ
-blockSize g = blockBytes * 2 ^ (g .code)
+blockSize g = codeSize (g .code)
+
+-- the mount of a volume with these numbers
+abbrev pub mounted : Geo → Mount
+mounted g = record { K = g .K; code = g .code }
 
 -- The indexes whose bits one bitmap block holds: 4096.
 abbrev pub mapSize : Geo → ℕ
@@ -61,16 +78,20 @@ signature = 77 ∷ 79 ∷ 82 ∷ 79 ∷ 83 ∷ 32 ∷ 70 ∷ 83 ∷ []
 unfoldable pub superBytes : Geo → ℕ → List ℕ
 superBytes g u = padded (blockSize g) (signature ++ (g .version ∷ (g .code ∷ (bytes 4 (g .n) ++ bytes 4 u))))
 
--- F2: the numbers with the superblock at K and n blocks: version 2 and size code 0, the only ones there are.
-abbrev pub geo : ℕ → ℕ → Geo
-geo K n = record { K = K; n = n; version = 2; code = 0 }
+-- F2: the numbers of n blocks at a mount: version 2, the only one there is.
+abbrev pub geo : Mount → ℕ → Geo
+geo M n = record { K = M .K; n = n; version = 2; code = M .code }
+
+-- F2: the ten bytes that a superblock of that mount begins with: signature, version, size code.
+abbrev pub topMark : Mount → List ℕ
+topMark M = signature ++ (2 ∷ (M .code ∷ []))
 
 -- What the image's superblock says: n, and the used count.
-unfoldable pub countAt : ℕ → List ℕ → ℕ
-countAt K I = be 4 I (blockBytes * K + 10)
+unfoldable pub countAt : Mount → List ℕ → ℕ
+countAt M I = be 4 I (codeSize (M .code) * M .K + 10)
 
-abbrev pub geoAt : ℕ → List ℕ → Geo
-geoAt K I = geo K (countAt K I)
+abbrev pub geoAt : Mount → List ℕ → Geo
+geoAt M I = geo M (countAt M I)
 
 unfoldable pub usedCount : Geo → List ℕ → ℕ
 usedCount g I = be 4 I (blockSize g * g .K + 14)
@@ -94,25 +115,34 @@ pub record Sound (g : Geo) (len : ℕ) : Type 0 where
 
 -- ---- refusals 1, 2, 3
 
+-- R2, of what the caller says: a size code that is not known. (No call can name one.)
+unfoldable pub badCode : Mount → Bool
+badCode M = ltb 0 (M .code)
+
 -- R1, of an image of len bytes
-unfoldable pub badImage : ℕ → ℕ → Bool
-badImage K len = eqb len 0 || (not (eqb (len % blockBytes) 0) || (ltb imageLimit len || leb (len / blockBytes) (K + 2)))
+unfoldable pub badImage : Mount → ℕ → Bool
+badImage M len =
+    eqb len 0 || (not (eqb (len % codeSize (M .code)) 0) || (ltb imageLimit len || leb (len / codeSize (M .code)) (M .K + 2)))
 
 -- R2: signature, version and size code are the first ten bytes of block K
-unfoldable pub badMark : ℕ → List ℕ → Bool
-badMark K I = not (same (take 10 (drop (blockBytes * K) I)) (signature ++ (2 ∷ (0 ∷ []))))
+unfoldable pub badMark : Mount → List ℕ → Bool
+badMark M I = not (same (take 10 (drop (codeSize (M .code) * M .K) I)) (topMark M))
 
 -- R3, of an image of len bytes
 unfoldable pub badCount : Geo → ℕ → Bool
 badCount g len = ltb (len / blockSize g) (g .n) || (ltb (rest g) 2 || eqb (rest g % (mapSize g + 1)) 1)
 
 -- O3, O5: 1, 2, 3, what every call on a volume gives first; 0 where it gives none of them.
-unfoldable pub openRefusal : ℕ → List ℕ → ℕ
-openRefusal K I = firstOf (when 1 (badImage K (length I)) ∷ (when 2 (badMark K I) ∷ (when 3 (badCount (geoAt K I) (length I)) ∷ [])))
+unfoldable pub openRefusal : Mount → List ℕ → ℕ
+openRefusal M I =
+    firstOf (when 2 (badCode M) ∷ (when 1 (badImage M (length I)) ∷ (when 2 (badMark M I)
+    ∷ (when 3 (badCount (geoAt M I) (length I)) ∷ []))))
 
--- C1, O2: format asks nothing of what stands in block K, and n is the image's number of blocks; so 2 is not among its refusals.
-abbrev pub formatGeo : ℕ → ℕ → Geo
-formatGeo K len = geo K (len / blockBytes)
+-- C1, O2: format asks nothing of what stands in block K, and n is the image's number of blocks; so it gives 2 for the caller's size
+-- code alone.
+abbrev pub formatGeo : Mount → ℕ → Geo
+formatGeo M len = geo M (len / codeSize (M .code))
 
-unfoldable pub formatRefusal : ℕ → ℕ → ℕ
-formatRefusal K len = firstOf (when 1 (badImage K len) ∷ (when 3 (badCount (formatGeo K len) len) ∷ []))
+unfoldable pub formatRefusal : Mount → ℕ → ℕ
+formatRefusal M len =
+    firstOf (when 2 (badCode M) ∷ (when 1 (badImage M len) ∷ (when 3 (badCount (formatGeo M len) len) ∷ [])))

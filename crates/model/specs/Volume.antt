@@ -9,7 +9,7 @@ use Rattle.bits.specs.Bit.{bit}
 use Rattle.text.specs.Text.{isName}
 use Rattle.model.specs.Tree.{Name, Cell, Node, file, device, sub, Entry, Block, Below, Tree, called, used, Packed}
 use Rattle.model.specs.Render.{blocksAt, render, blocks, count, Shows, ShowsAll}
-use Rattle.model.specs.Geometry.{Geo, blockSize, mapAt, dataAt, mapBits, setBits, superBytes, Sound}
+use Rattle.model.specs.Geometry.{Mount, Geo, blockSize, mounted, mapAt, dataAt, mapBits, setBits, superBytes, Sound}
 
 -- every element has P
 abbrev pub All : {A : Type 0} → (A → Type 0) → List A → Type 0
@@ -113,9 +113,9 @@ pub record Volume (g : Geo) (I : List ℕ) (d : ℕ) (t : Tree d) : Type 0 where
 abbrev pub maxDepth : ℕ
 maxDepth = 16
 
--- W1 to W5 as the one word that public contracts cite: the image, with its superblock at K, is a well-formed volume.
-pub record WellFormed (K : ℕ) (I : List ℕ) : Type 0 where
+-- W1 to W5 as the one word that public contracts cite: the image, mounted as the caller says, is a well-formed volume.
+pub record WellFormed (M : Mount) (I : List ℕ) : Type 0 where
   pub numbers : Geo
-  pub here : numbers .K ≡ K
+  pub here : mounted numbers ≡ M
   pub tree : Tree maxDepth
   pub volume : Volume numbers I maxDepth tree

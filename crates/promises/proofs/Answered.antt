@@ -6,14 +6,12 @@ use Rattle.model.specs.Answers.{accepted, refused}
 use Rattle.model.proofs.Replies.{not-accepted, accepted-one}
 use Rattle.limits.specs.declared.Refusal.{Refusal}
 use Rattle.limits.specs.Refusals.{refusalNumber}
-use Rattle.file.specs.declared.Outcome.{Outcome}
-use Rattle.file.specs.declared.Outcome.the-variants as outcome
-use Rattle.file.specs.declared.Counted.{Counted}
-use Rattle.file.specs.declared.Counted.the-variants as counted
-use Rattle.file.specs.Written.{countedSays}
-use Rattle.call_volume.specs.declared.Answer.{Answer}
-use Rattle.call_volume.specs.declared.Answer.the-variants as answer
-use Rattle.call_volume.specs.Says.{says, soughtSays, onAnswer}
+use Rattle.limits.specs.declared.Answer.{Answer}
+use Rattle.limits.specs.declared.Answer.the-variants as answer
+use Rattle.handle.specs.declared.Counted.{Counted}
+use Rattle.handle.specs.declared.Counted.the-variants as counted
+use Rattle.write.specs.Written.{countedSays}
+use Rattle.call_volume.specs.Says.{says, onAnswer}
 
 pub answer-is : (r : Answer) → (r ≡ answer.Success) ⊎ ((x : Refusal) × (r ≡ answer.Refused x))
 answer-is answer.Success = inl refl
@@ -57,7 +55,3 @@ refusal-said (answer.Refused x) j e = (x, refl)
 pub count-refused : (c : Counted) (j : ℕ) → countedSays c ≡ refused j → (x : Refusal) × (c ≡ counted.Refused x)
 count-refused (counted.Bytes k) j e = absurd (not-refused k j e)
 count-refused (counted.Refused x) j e = (x, refl)
-
-pub sought-refused : (r : Outcome) (j : ℕ) → soughtSays r ≡ refused j → (x : Refusal) × (r ≡ outcome.Refused x)
-sought-refused outcome.Success j e = absurd (not-refused tt j e)
-sought-refused (outcome.Refused x) j e = (x, refl)

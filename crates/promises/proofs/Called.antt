@@ -7,21 +7,21 @@ use Rattle.promises.proofs.Answered.{value-said, success-said, count-sa
 pub calls-are-exact : CallsAreExact
 calls-are-exact =
     record {
-      create-file = λ K I W cwd p now o J Z c b clock h s.
+      create-file = λ M I W cwd p now o J Z c b clock h s.
           let e = value-said (o .answer) (o .handle) h s in
-          let w = create-file-before K I W cwd p now J Z o c b e in
-          (w, create-file-tree K I W cwd p now J Z o c w clock e);
-      create-dir = λ K I W cwd p now r J Z c b clock s.
+          let w = create-file-before M I W cwd p now J Z o c b e in
+          (w, create-file-tree M I W cwd p now J Z o c w clock e);
+      create-dir = λ M I W cwd p now r J Z c b clock s.
           let e = success-said r s in
-          let w = create-dir-before K I W cwd p now J Z r c b e in
-          (w, create-dir-tree K I W cwd p now J Z r c w clock e);
-      delete = λ K I W cwd p now r J Z c b clock s.
+          let w = create-dir-before M I W cwd p now J Z r c b e in
+          (w, create-dir-tree M I W cwd p now J Z r c w clock e);
+      delete = λ M I W cwd p now r J Z c b clock s.
           let e = success-said r s in
-          let w = delete-before K I W cwd p now J Z r c b e in
-          (w, delete-tree K I W cwd p now J Z r c w clock e);
-      write = λ K I W h buf now o J Z c b clock k s.
+          let w = delete-before M I W cwd p now J Z r c b e in
+          (w, delete-tree M I W cwd p now J Z r c w clock e);
+      write = λ M I W h buf now o J Z c b clock k s.
           let e = count-said (o .answer) k s in
-          let w = write-before K I W h buf now o J Z c k b e in
-          let m = write-tree K I W h buf now o J Z c k w clock e in
+          let w = write-before M I W h buf now o J Z c k b e in
+          let m = write-tree M I W h buf now o J Z c k w clock e in
           (w, m .0, m .1, m .2);
     }

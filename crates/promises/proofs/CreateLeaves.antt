@@ -10,7 +10,7 @@ use lib.Seq.{take-append-seam}
 use Rattle.model.specs.Answers.{Reply, accepted, refused, andThen}
 use Rattle.model.specs.Tree.{Name, Cell, Node, file, device, sub, Entry, Below, Tree, then, lookup, Absent, insert, inside, Some, find, blank, NoEntries}
 use Rattle.model.specs.Render.{blocksAt, cellsAt, padded}
-use Rattle.model.specs.Geometry.{blockSize, geoAt}
+use Rattle.model.specs.Geometry.{Mount, blockSize, geoAt}
 use Rattle.model.specs.Volume.{WellFormed, maxDepth}
 use Rattle.model.specs.Calls.{Occupied, fileOf, fileAt, DirAt, freeBlocks, entryRoom, entryBlock, dirBlock, fileEntry, emptyCell, created, dirAdded, createdDir}
 use Rattle.model.proofs.Edits.{find-edit}
@@ -25,8 +25,8 @@ use Rattle.path.proofs.FullPaths.{real-bytes}
 use Rattle.create.specs.Creating.{Fresh, siteOf, freshOf, createdOn}
 use Rattle.create.proofs.Trees.{created-block}
 use Rattle.thm_path.proofs.Resolves.{absent-none}
-use Rattle.call_volume.specs.declared.Answer.{Answer}
-use Rattle.call_volume.specs.declared.Answer.the-variants as answer
+use Rattle.limits.specs.declared.Answer.{Answer}
+use Rattle.limits.specs.declared.Answer.the-variants as answer
 use Rattle.call_read.specs.declared.OpenOut.{OpenOut}
 use Rattle.call_volume.specs.Says.{onAnswer}
 use Rattle.call_change.specs.Changing.{changeCall, createReply, freshHandle, CreatesFile, CreatesDir}
@@ -46,57 +46,57 @@ then-accepted (refused k) f b e = absurd (not-accepted k b e)
 
 -- ---- a file
 
-module _ (K : ℕ) (I W cwd p : List ℕ) (now : ℕ) (o : OpenOut) (J Z : List ℕ) (c : CreatesFile K I W cwd p now o J Z) where
+module _ (M : Mount) (I W cwd p : List ℕ) (now : ℕ) (o : OpenOut) (J Z : List ℕ) (c : CreatesFile M I W cwd p now o J Z) where
   -- the blocks that the handle holds
-  handle-is : (w : WellFormed K I) → o .answer ≡ answer.Success → (s : Some) → find maxDepth (wayOf cwd p) (w .tree) ≡ some s
-      → o .handle ≡ freshHandle (lastOf cwd p) (record { dir = blocksAt (s .1); block = entryBlock (geoAt K I) (lastOf cwd p) (s .1) (freeBlocks (geoAt K I) maxDepth (w .tree)) })
+  handle-is : (w : WellFormed M I) → o .answer ≡ answer.Success → (s : Some) → find maxDepth (wayOf cwd p) (w .tree) ≡ some s
+      → o .handle ≡ freshHandle (lastOf cwd p) (record { dir = blocksAt (s .1); block = entryBlock (geoAt M I) (lastOf cwd p) (s .1) (freeBlocks (geoAt M I) maxDepth (w .tree)) })
   unfolding createReply createdOn freshOf changeCall
   handle-is w e s f =
-      let said : accepted (o .handle) ≡ andThen (createReply kind.File K I (length W) cwd p) (λ y. accepted (freshHandle (lastOf cwd p) y))
+      let said : accepted (o .handle) ≡ andThen (createReply kind.File M I (length W) cwd p) (λ y. accepted (freshHandle (lastOf cwd p) y))
       = ap (λ (y : Answer). onAnswer y (o .handle)) (sym e) ∙ c .answer .answer in
-      let a = then-accepted (createReply kind.File K I (length W) cwd p) (freshHandle (lastOf cwd p)) (o .handle) (sym said) in
-      let b = given-accepted (changeCall K I (length W) cwd p) _ (a .0) (a .1) in
-      let site = then-accepted (siteOf (geoAt K I) I kind.File (realPath cwd p)) _ (a .0) (b .1) in
+      let a = then-accepted (createReply kind.File M I (length W) cwd p) (freshHandle (lastOf cwd p)) (o .handle) (sym said) in
+      let b = given-accepted (changeCall M I (length W) cwd p) _ (a .0) (a .1) in
+      let site = then-accepted (siteOf (geoAt M I) I kind.File (realPath cwd p)) _ (a .0) (b .1) in
       let good : badPath cwd p ≡ false = when-none 4 _ (omega arith) (sym (first-of-one _) ∙ first-of-zero _ _ (b .0) .1) in
-      let new = created-block (geoAt K I) I (w .tree) (volume-at K I w) kind.File (realPath cwd p) (real-bytes cwd p good) (site .0) (site .1) s f in
+      let new = created-block (geoAt M I) I (w .tree) (volume-at M I w) kind.File (realPath cwd p) (real-bytes cwd p good) (site .0) (site .1) s f in
       sym (a .2) ∙ ap (freshHandle (lastOf cwd p)) (one _ _ (sym (b .1) ∙ new))
     where
       one : (x y : Fresh) → accepted x ≡ accepted y → x ≡ y
       one x y z = cc
 
-  pub create-file-leaves : o .answer ≡ answer.Success → now < 2 ^ 64 → WellFormed K I → (v : WellFormed K J)
-      → (x : ℕ) × (a : ℕ) × (fileAt maxDepth (wayOf cwd p) (lastOf cwd p) (v .tree) ≡ some (0, now, emptyCell (geoAt K I) x ∷ []))
-      × DirAt maxDepth a (wayOf cwd p) (v .tree) × HandleOf a (lastOf cwd p) 0 (emptyCell (geoAt K I) x ∷ []) (o .handle)
+  pub create-file-leaves : o .answer ≡ answer.Success → now < 2 ^ 64 → WellFormed M I → (v : WellFormed M J)
+      → (x : ℕ) × (a : ℕ) × (fileAt maxDepth (wayOf cwd p) (lastOf cwd p) (v .tree) ≡ some (0, now, emptyCell (geoAt M I) x ∷ []))
+      × DirAt maxDepth a (wayOf cwd p) (v .tree) × HandleOf a (lastOf cwd p) 0 (emptyCell (geoAt M I) x ∷ []) (o .handle)
   unfolding created fileEntry fileOf cellsAt padded
   create-file-leaves e clock w v =
-      let m = create-file-tree K I W cwd p now J Z o c w clock e in
+      let m = create-file-tree M I W cwd p now J Z o c w clock e in
       let n : Name = lastOf cwd p in
       let s : Some = m .vacant .dir in
-      let free : List ℕ = freeBlocks (geoAt K I) maxDepth (w .tree) in
-      let x : ℕ = entryBlock (geoAt K I) n (s .1) free in
-      let cs : List Cell = emptyCell (geoAt K I) x ∷ [] in
+      let free : List ℕ = freeBlocks (geoAt M I) maxDepth (w .tree) in
+      let x : ℕ = entryBlock (geoAt M I) n (s .1) free in
+      let cs : List Cell = emptyCell (geoAt M I) x ∷ [] in
       let new : Entry (Below (s .0)) = fileEntry n now 0 cs in
-      let tree : v .tree ≡ created maxDepth (entryRoom (geoAt K I)) (wayOf cwd p) n now (dirBlock free) 0 cs (w .tree) = tree-after K I J w _ _ (m .makes) v in
-      let at = find-edit maxDepth (wayOf cwd p) (λ _. now) (λ _ bs. insert (entryRoom (geoAt K I)) (dirBlock free) (fileEntry n now 0 cs) bs) (w .tree) s (m .vacant .there) in
+      let tree : v .tree ≡ created maxDepth (entryRoom (geoAt M I)) (wayOf cwd p) n now (dirBlock free) 0 cs (w .tree) = tree-after M I J w _ _ (m .makes) v in
+      let at = find-edit maxDepth (wayOf cwd p) (λ _. now) (λ _ bs. insert (entryRoom (geoAt M I)) (dirBlock free) (fileEntry n now 0 cs) bs) (w .tree) s (m .vacant .there) in
       let old : DirAt maxDepth (blocksAt (s .1)) (wayOf cwd p) (w .tree) = record { dir = s; there = m .vacant .there; starts = refl } in
-      let packed = good-find (blockSize (geoAt K I)) maxDepth (wayOf cwd p) (w .tree) s (volume-at K I w .laid .good) (m .vacant .there) .packed in
+      let packed = good-find (blockSize (geoAt M I)) maxDepth (wayOf cwd p) (w .tree) s (volume-at M I w .laid .good) (m .vacant .there) .packed in
       let handle = handle-is w e s (m .vacant .there) in (
         x,
         blocksAt (s .1),
         ap (fileAt maxDepth (wayOf cwd p) n) tree
             ∙ file-at maxDepth (wayOf cwd p) n _ _ at
-            ∙ then-some (λ y. fileOf (y .time) (y .node)) (lookup-inserted (entryRoom (geoAt K I)) (dirBlock free) n new (called-own n new refl) (s .1) (m .vacant .free)),
-        subst (DirAt maxDepth (blocksAt (s .1)) (wayOf cwd p)) (sym tree) (created-there maxDepth (blocksAt (s .1)) (wayOf cwd p) (w .tree) old (entryRoom (geoAt K I)) n now (dirBlock free) 0 cs packed),
+            ∙ then-some (λ y. fileOf (y .time) (y .node)) (lookup-inserted (entryRoom (geoAt M I)) (dirBlock free) n new (called-own n new refl) (s .1) (m .vacant .free)),
+        subst (DirAt maxDepth (blocksAt (s .1)) (wayOf cwd p)) (sym tree) (created-there maxDepth (blocksAt (s .1)) (wayOf cwd p) (w .tree) old (entryRoom (geoAt M I)) n now (dirBlock free) 0 cs packed),
         subst (HandleOf (blocksAt (s .1)) n 0 cs) (sym handle) (record { dir = refl; name = take-append-seam n _; letters = refl; addr = refl; size = refl; position = omega arith }),
       )
 
   -- So an accepted create changes the image.
-  pub create-changes : WellFormed K I → now < 2 ^ 64 → o .answer ≡ answer.Success → J ≡ I → ⊥
+  pub create-changes : WellFormed M I → now < 2 ^ 64 → o .answer ≡ answer.Success → J ≡ I → ⊥
   unfolding then
   create-changes w clock e j =
-      let m = create-file-tree K I W cwd p now J Z o c w clock e in
-      let v : WellFormed K J = subst (WellFormed K) (sym j) w in
-      let same : v .tree ≡ w .tree = subst (λ (X : List ℕ). (u : WellFormed K X) → u .tree ≡ w .tree) (sym j) (λ u. well-formed-one K I u w .1) v in
+      let m = create-file-tree M I W cwd p now J Z o c w clock e in
+      let v : WellFormed M J = subst (WellFormed M) (sym j) w in
+      let same : v .tree ≡ w .tree = subst (λ (X : List ℕ). (u : WellFormed M X) → u .tree ≡ w .tree) (sym j) (λ u. well-formed-one M I u w .1) v in
       let before : fileAt maxDepth (wayOf cwd p) (lastOf cwd p) (w .tree) ≡ none
       = file-at maxDepth (wayOf cwd p) (lastOf cwd p) (w .tree) (m .vacant .dir) (m .vacant .there)
       ∙ ap (λ (y : Option (Entry (Below (m .vacant .dir .0)))). then y (λ z. fileOf (z .time) (z .node))) (absent-none (lastOf cwd p) (m .vacant .dir .1) (m .vacant .free)) in
@@ -137,21 +137,21 @@ dir-found cap w x now n (suc d) t h a =
     end zero y = refl
     end (suc k) y = refl
 
-module _ (K : ℕ) (I W cwd p : List ℕ) (now : ℕ) (r : Answer) (J Z : List ℕ) (c : CreatesDir K I W cwd p now r J Z) where
-  pub create-dir-leaves : r ≡ answer.Success → now < 2 ^ 64 → WellFormed K I → (v : WellFormed K J)
+module _ (M : Mount) (I W cwd p : List ℕ) (now : ℕ) (r : Answer) (J Z : List ℕ) (c : CreatesDir M I W cwd p now r J Z) where
+  pub create-dir-leaves : r ≡ answer.Success → now < 2 ^ 64 → WellFormed M I → (v : WellFormed M J)
       → (x : ℕ) × (s : DirAt maxDepth x (wayOf cwd p ++ (lastOf cwd p ∷ [])) (v .tree)) × NoEntries (s .dir .1)
       × (o : Occupied maxDepth (wayOf cwd p) (lastOf cwd p) (v .tree)) × (o .entry .time ≡ now)
   unfolding createdDir blank blocksAt
   create-dir-leaves e clock w v =
-      let m = create-dir-tree K I W cwd p now J Z r c w clock e in
+      let m = create-dir-tree M I W cwd p now J Z r c w clock e in
       let n : Name = lastOf cwd p in
       let s : Some = m .vacant .dir in
-      let cap : ℕ = entryRoom (geoAt K I) in
-      let free : List ℕ = freeBlocks (geoAt K I) maxDepth (w .tree) in
+      let cap : ℕ = entryRoom (geoAt M I) in
+      let free : List ℕ = freeBlocks (geoAt M I) maxDepth (w .tree) in
       let b : ℕ = dirBlock free in
-      let x : ℕ = entryBlock (geoAt K I) n (s .1) free in
+      let x : ℕ = entryBlock (geoAt M I) n (s .1) free in
       let u : Some = (s .0, dirAdded cap b x n now (s .0) (s .1)) in
-      let tree : v .tree ≡ createdDir maxDepth cap (wayOf cwd p) n now b x (w .tree) = tree-after K I J w _ _ (m .makes) v in
+      let tree : v .tree ≡ createdDir maxDepth cap (wayOf cwd p) n now b x (w .tree) = tree-after M I J w _ _ (m .makes) v in
       let at : find maxDepth (wayOf cwd p) (v .tree) ≡ some u
       = ap (find maxDepth (wayOf cwd p)) tree ∙ find-edit maxDepth (wayOf cwd p) (λ _. now) (dirAdded cap b x n now) (w .tree) s (m .vacant .there) in
       let new = dir-found cap b x now n (s .0) (s .1) (m .shallow) (m .vacant .free) in (

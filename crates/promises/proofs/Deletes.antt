@@ -13,7 +13,7 @@ use Rattle.wire.proofs.Picks.{either, not-both}
 use Rattle.model.specs.Answers.{Reply, accepted, refused, andThen, when, reply, given}
 use Rattle.model.specs.Tree.{Name, Node, file, device, sub, Entry, Block, Below, entriesOf, Absent, lookup, Some, NoEntries, Bare}
 use Rattle.model.specs.Render.{blocksAt}
-use Rattle.model.specs.Geometry.{blockSize, dataAt, geoAt}
+use Rattle.model.specs.Geometry.{Mount, blockSize, dataAt, geoAt}
 use Rattle.model.specs.Volume.{WellFormed, maxDepth}
 use Rattle.model.specs.Calls.{Vacant, Occupied}
 use Rattle.model.specs.Steps.{Bytes}
@@ -33,7 +33,7 @@ use Rattle.thm_path.proofs.Finds.{lookup-or, find-missing}
 use Rattle.thm_path.proofs.Holding.{hold-is, hold-some}
 use Rattle.delete.specs.Deleting.{Doomed, doomedIn, doomedOf, deletedOn}
 use Rattle.delete.proofs.OnVolume.{bare-accepted, full-refused}
-use Rattle.call_volume.specs.declared.Answer.{Answer}
+use Rattle.limits.specs.declared.Answer.{Answer}
 use Rattle.call_volume.specs.Says.{says}
 use Rattle.call_change.specs.Changing.{changeCall, Deletes}
 use Rattle.thm_calls.specs.Named.{wayOf, lastOf}
@@ -76,21 +76,21 @@ none-bare (suc d) (sub x) h b = not-both h (ap (λ (k : ℕ). ltb 0 k) (none-ent
 
 -- ---- the call
 
-module _ (K : ℕ) (I W : List ℕ) (b : Bytes I) (w : WellFormed K I) (long : markLong (geoAt K I) ≤ length W) (cwd p : List ℕ) where
+module _ (M : Mount) (I W : List ℕ) (b : Bytes I) (w : WellFormed M I) (long : markLong (geoAt M I) ≤ length W) (cwd p : List ℕ) where
   -- the check passes, and 4 alone is given before the way
-  pub change-is : changeCall K I (length W) cwd p ≡ pathRefusal cwd p
+  pub change-is : changeCall M I (length W) cwd p ≡ pathRefusal cwd p
   unfolding changeCall
-  change-is = first-of-tail _ _ (long-passes K I W w long b) ∙ first-of-one _
+  change-is = first-of-tail _ _ (long-passes M I W w long b) ∙ first-of-one _
 
   abbrev doomed : Reply Doomed
-  doomed = doomedOf (geoAt K I) I (realPath cwd p)
+  doomed = doomedOf (geoAt M I) I (realPath cwd p)
 
   -- what a delete does with what it finds
   abbrev onSpot : Spot → Reply (Unit {0})
   onSpot x = reply (when 14 (hasEntry (x .0 .0) (x .1 .node))) tt
 
   abbrev Said : Type 0
-  Said = deletedOn (geoAt K I) I (realPath cwd p) ≡ andThen (entryAt (wayOf cwd p) (lastOf cwd p) (w .tree)) onSpot
+  Said = deletedOn (geoAt M I) I (realPath cwd p) ≡ andThen (entryAt (wayOf cwd p) (lastOf cwd p) (w .tree)) onSpot
 
   -- a way that stops
   way-stops : (k : ℕ) → wayTo maxDepth (wayOf cwd p) (w .tree) ≡ refused k → Said
@@ -98,9 +98,9 @@ module _ (K : ℕ) (I W : List ℕ) (b : Bytes I) (w : WellFormed K I) (long : m
   way-stops k e =
       go (lastOf cwd p)
       (ap (λ (r : Reply Doomed). onName (lastOf cwd p) r)
-      (and-then-no k (doomedIn (geoAt K I) I (lastOf cwd p))
-      (hold-stops (geoAt K I) I (w .tree) _ (volume-at K I w .laid) (wayOf cwd p) k e)))
-      (at-stops (geoAt K I) I (w .tree) _ (volume-at K I w .laid) (realPath cwd p) k e)
+      (and-then-no k (doomedIn (geoAt M I) I (lastOf cwd p))
+      (hold-stops (geoAt M I) I (w .tree) _ (volume-at M I w .laid) (wayOf cwd p) k e)))
+      (at-stops (geoAt M I) I (w .tree) _ (volume-at M I w .laid) (realPath cwd p) k e)
     where
       go : (n : Name) → doomed ≡ onName n (refused k) → entryAt (wayOf cwd p) (lastOf cwd p) (w .tree) ≡ onName n (refused k)
           → Said
@@ -109,8 +109,8 @@ module _ (K : ℕ) (I W : List ℕ) (b : Bytes I) (w : WellFormed K I) (long : m
 
   -- a name that is not there
   nothing-in : (h : Hold)
-      → findIn (lastOf cwd p) (walk (blockSize (geoAt K I)) (dataAt (geoAt K I)) (geoAt K I .n) I (h .dir)) ≡ found.Missing
-      → doomedIn (geoAt K I) I (lastOf cwd p) h ≡ refused 5
+      → findIn (lastOf cwd p) (walk (blockSize (geoAt M I)) (dataAt (geoAt M I)) (geoAt M I .n) I (h .dir)) ≡ found.Missing
+      → doomedIn (geoAt M I) I (lastOf cwd p) h ≡ refused 5
   unfolding doomedIn
   nothing-in h e = rw e
 
@@ -119,17 +119,17 @@ module _ (K : ℕ) (I W : List ℕ) (b : Bytes I) (w : WellFormed K I) (long : m
   nothing-there v =
       let n : Name = lastOf cwd p in
       let s : Some = v .dir in
-      let laid = volume-at K I w .laid in
-      let h = hold-some (geoAt K I) I maxDepth (w .tree) _ (wayOf cwd p) laid s (v .there) in
-      let q : HeldAt (blockSize (geoAt K I)) maxDepth (wayOf cwd p) (w .tree) (h .0)
-      = hold-is (geoAt K I) I maxDepth (w .tree) _ (wayOf cwd p) laid (h .0) (h .1) in
+      let laid = volume-at M I w .laid in
+      let h = hold-some (geoAt M I) I maxDepth (w .tree) _ (wayOf cwd p) laid s (v .there) in
+      let q : HeldAt (blockSize (geoAt M I)) maxDepth (wayOf cwd p) (w .tree) (h .0)
+      = hold-is (geoAt M I) I maxDepth (w .tree) _ (wayOf cwd p) laid (h .0) (h .1) in
       let z : some s ≡ some (q .there) = sym (v .there) ∙ q .found in
       let y : s ≡ q .there = cc in
-      let found-from : ℕ → Found = λ a. findIn n (walk (blockSize (geoAt K I)) (dataAt (geoAt K I)) (geoAt K I .n) I a) in
+      let found-from : ℕ → Found = λ a. findIn n (walk (blockSize (geoAt M I)) (dataAt (geoAt M I)) (geoAt M I .n) I a) in
       let f : found-from (h .0 .dir) ≡ found.Missing
       = ap found-from (sym (ap (λ (x : Some). blocksAt (x .1)) y ∙ q .starts))
-      ∙ find-missing (geoAt K I) I maxDepth (w .tree) _ (wayOf cwd p) s laid (v .there) n (v .free) in
-      name-five n _ (and-then-ok (h .0) (doomedIn (geoAt K I) I n) (h .1) ∙ nothing-in (h .0) f)
+      ∙ find-missing (geoAt M I) I maxDepth (w .tree) _ (wayOf cwd p) s laid (v .there) n (v .free) in
+      name-five n _ (and-then-ok (h .0) (doomedIn (geoAt M I) I n) (h .1) ∙ nothing-in (h .0) f)
 
   name-absent : (s : Some) → wayTo maxDepth (wayOf cwd p) (w .tree) ≡ accepted s → Absent (lastOf cwd p) (s .1) → Said
   unfolding deletedOn
@@ -137,7 +137,7 @@ module _ (K : ℕ) (I W : List ℕ) (b : Bytes I) (w : WellFormed K I) (long : m
       let v : Vacant maxDepth (wayOf cwd p) (lastOf cwd p) (w .tree)
       = record { dir = s; there = way-found maxDepth (wayOf cwd p) (w .tree) s e; free = a } in
       and-then-no 5 (λ x. accepted tt) (nothing-there v)
-      ∙ sym (and-then-no 5 onSpot (at-missing (geoAt K I) I (w .tree) _ (volume-at K I w .laid) (realPath cwd p) s e a))
+      ∙ sym (and-then-no 5 onSpot (at-missing (geoAt M I) I (w .tree) _ (volume-at M I w .laid) (realPath cwd p) s e a))
 
   -- an entry that is there: 14, or it goes
   entry-there : (s : Some) → wayTo maxDepth (wayOf cwd p) (w .tree) ≡ accepted s → (e : Entry (Below (s .0)))
@@ -149,15 +149,15 @@ module _ (K : ℕ) (I W : List ℕ) (b : Bytes I) (w : WellFormed K I) (long : m
       o = record { dir = s; there = way-found maxDepth (wayOf cwd p) (w .tree) s m; entry = e; held = k }
 
       spot : andThen (entryAt (wayOf cwd p) (lastOf cwd p) (w .tree)) onSpot ≡ onSpot (s, e)
-      spot = and-then-ok (s, e) onSpot (at-entry (geoAt K I) I (w .tree) _ (volume-at K I w .laid) (realPath cwd p) s m e k)
+      spot = and-then-ok (s, e) onSpot (at-entry (geoAt M I) I (w .tree) _ (volume-at M I w .laid) (realPath cwd p) s m e k)
 
       go : (hasEntry (s .0) (e .node) ≡ true) ⊎ (hasEntry (s .0) (e .node) ≡ false) → Said
       go (inl h) =
           and-then-no 14 (λ x. accepted tt)
-          (full-refused (geoAt K I) I maxDepth (w .tree) (realPath cwd p) (volume-at K I w) o (none-bare (s .0) (e .node) h))
+          (full-refused (geoAt M I) I maxDepth (w .tree) (realPath cwd p) (volume-at M I w) o (none-bare (s .0) (e .node) h))
           ∙ sym (spot ∙ ap (λ (j : ℕ). reply j tt) (when-true 14 h) ∙ reply-suc 14 tt (omega arith))
       go (inr h) =
-          let x = bare-accepted (geoAt K I) I maxDepth (w .tree) (realPath cwd p) (volume-at K I w) o
+          let x = bare-accepted (geoAt M I) I maxDepth (w .tree) (realPath cwd p) (volume-at M I w) o
           (bare-none (s .0) (e .node) h) in
           and-then-ok (x .0) (λ x. accepted tt) (x .1) ∙ sym (spot ∙ reply-none tt (when-false 14 h))
 
@@ -174,8 +174,8 @@ module _ (K : ℕ) (I W : List ℕ) (b : Bytes I) (w : WellFormed K I) (long : m
       go (refused k) f = way-stops k f
 
   -- A delete is refused by 4, 5, 6 and 14 just where the tree says, and else accepted.
-  pub deletes : (now : ℕ) (r : Answer) (J Z : List ℕ) → Deletes K I W cwd p now r J Z → says r ≡ deleteAnswer cwd p (w .tree)
+  pub deletes : (now : ℕ) (r : Answer) (J Z : List ℕ) → Deletes M I W cwd p now r J Z → says r ≡ deleteAnswer cwd p (w .tree)
   unfolding deleteAnswer
   deletes now r J Z c =
-      c .answer ∙ ap (λ (k : ℕ). given k (deletedOn (geoAt K I) I (realPath cwd p))) change-is
+      c .answer ∙ ap (λ (k : ℕ). given k (deletedOn (geoAt M I) I (realPath cwd p))) change-is
       ∙ ap (given (pathRefusal cwd p)) deleted-says

@@ -7,15 +7,15 @@ use Prim.Native.Nat.{ℕ, _+_, _^_, _≤_, _<_}
 use native.Mathlib.Omega.{arith}
 use Rattle.wire.proofs.Picks.{either, not-both, pick-true, pick-false}
 use Rattle.model.specs.Tree.{Name, Entry, Block, any, entriesOf, called, holds, lessFirst, Absent, delete, Some, find}
-use Rattle.model.specs.Geometry.{blockSize, geoAt}
+use Rattle.model.specs.Geometry.{Mount, blockSize, geoAt}
 use Rattle.model.specs.Volume.{named, namedIn, WellFormed, maxDepth}
 use Rattle.model.specs.Calls.{Vacant, deleted}
 use Rattle.model.proofs.Edits.{find-edit}
 use Rattle.model.proofs.Full.{good-find}
 use Rattle.model.proofs.Lists.{any-there, lessFirst-here, lessFirst-there}
 use Rattle.model.proofs.Reached.{named-entries}
-use Rattle.call_volume.specs.declared.Answer.{Answer}
-use Rattle.call_volume.specs.declared.Answer.the-variants as answer
+use Rattle.limits.specs.declared.Answer.{Answer}
+use Rattle.limits.specs.declared.Answer.the-variants as answer
 use Rattle.call_change.specs.Changing.{Deletes}
 use Rattle.thm_calls.specs.Named.{wayOf, lastOf}
 use Rattle.thm_calls.proofs.Changing.{volume-at, tree-after, delete-tree}
@@ -72,15 +72,15 @@ module _ {X : Type 0} (n : Name) where
       (named-entries n (delete n bs) ∙ ap (named n) (delete-entries n bs) ∙ less-named (entriesOf bs) (omega (arith, h, named-entries n bs)))
 
 -- After an accepted delete the path names nothing, in a directory that is there: as D3 asks of the end of a sequence.
-pub delete-leaves : (K : ℕ) (I W cwd p : List ℕ) (now : ℕ) (r : Answer) (J Z : List ℕ) → Deletes K I W cwd p now r J Z → (w : WellFormed K I) → now < 2 ^ 64
-    → r ≡ answer.Success → (v : WellFormed K J) → Vacant maxDepth (wayOf cwd p) (lastOf cwd p) (v .tree)
+pub delete-leaves : (M : Mount) (I W cwd p : List ℕ) (now : ℕ) (r : Answer) (J Z : List ℕ) → Deletes M I W cwd p now r J Z → (w : WellFormed M I) → now < 2 ^ 64
+    → r ≡ answer.Success → (v : WellFormed M J) → Vacant maxDepth (wayOf cwd p) (lastOf cwd p) (v .tree)
 unfolding deleted
-delete-leaves K I W cwd p now r J Z c w clock e v =
-    let m = delete-tree K I W cwd p now J Z r c w clock e in
+delete-leaves M I W cwd p now r J Z c w clock e v =
+    let m = delete-tree M I W cwd p now J Z r c w clock e in
     let n : Name = lastOf cwd p in
     let s : Some = m .occupied .dir in
-    let g = good-find (blockSize (geoAt K I)) maxDepth (wayOf cwd p) (w .tree) s (volume-at K I w .laid .good) (m .occupied .there) in
-    let t = tree-after K I J w _ _ (m .makes) v in
+    let g = good-find (blockSize (geoAt M I)) maxDepth (wayOf cwd p) (w .tree) s (volume-at M I w .laid .good) (m .occupied .there) in
+    let t = tree-after M I J w _ _ (m .makes) v in
     record {
       dir = (s .0, delete n (s .1));
       there = ap (find maxDepth (wayOf cwd p)) t ∙ find-edit maxDepth (wayOf cwd p) (λ _. now) (λ e bs. delete n bs) (w .tree) s (m .occupied .there);

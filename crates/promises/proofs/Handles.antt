@@ -15,7 +15,7 @@ use Rattle.wire.proofs.Picks.{either, not-both, and-both, both-and}
 use Rattle.model.specs.Answers.{Reply, accepted, refused, andThen, when, reply, settle}
 use Rattle.model.specs.Tree.{Name, Cell, Node, file, Below, Tree, Some}
 use Rattle.model.specs.Render.{cellsAt, blocksAt}
-use Rattle.model.specs.Geometry.{Geo, blockSize, geoAt}
+use Rattle.model.specs.Geometry.{Mount, Geo, blockSize, geoAt}
 use Rattle.model.specs.Volume.{blocksFor, fileLimit, GoodBelow, Volume, WellFormed, maxDepth}
 use Rattle.model.specs.Calls.{Occupied, fileOf, fileAt, DirAt, pathTo, freeBlocks, fileEntry}
 use Rattle.model.specs.Steps.{Bytes}
@@ -28,19 +28,20 @@ use Rattle.model.proofs.Replies.{given-none, and-then-ok, and-then-no, reply-no
 use Rattle.limits.proofs.Numbers.{number-some}
 use Rattle.check_bitmap.specs.Tally.{markLong}
 use Rattle.thm_path.proofs.Resolves.{lookup-name}
-use Rattle.file.specs.declared.Handle.{Handle}
-use Rattle.file.specs.declared.Counted.{Counted}
-use Rattle.file.specs.declared.Counted.the-variants as counted
-use Rattle.file.specs.declared.ReadOut.{ReadOut}
-use Rattle.file.specs.declared.WriteOut.{WriteOut}
-use Rattle.file.specs.File.{nameOf, staleFields, moved, toRead, readRefusal, bytesRead}
-use Rattle.file.specs.Post.{CountedIs}
-use Rattle.file.specs.Writing.{Target, tooLong, blocksToAdd, targetOf, countOf}
-use Rattle.file.specs.OnTree.{FileIn, OnFile, Lost, toAdd}
-use Rattle.file.specs.Written.{countedSays}
-use Rattle.file.proofs.Seeks.{fresh}
-use Rattle.file.proofs.Aims.{aim-empty}
-use Rattle.file.proofs.Targets.{accepted-is, no-room, stale-is, long-is}
+use Rattle.handle.specs.declared.Handle.{Handle}
+use Rattle.handle.specs.declared.Counted.{Counted}
+use Rattle.handle.specs.declared.Counted.the-variants as counted
+use Rattle.handle.specs.declared.CountedOut.{CountedOut}
+use Rattle.handle.specs.Handles.{nameOf, staleFields, moved}
+use Rattle.file_read.specs.Read.{toRead, readRefusal, bytesRead}
+use Rattle.file_read.specs.Post.{CountedIs}
+use Rattle.write.specs.Writing.{Target, tooLong, blocksToAdd, targetOf, countOf}
+use Rattle.handle.specs.OnTree.{FileIn, OnFile, Lost}
+use Rattle.write.specs.OnTree.{toAdd}
+use Rattle.write.specs.Written.{countedSays}
+use Rattle.handle.proofs.Seeks.{fresh}
+use Rattle.write.proofs.Aims.{aim-empty}
+use Rattle.write.proofs.Targets.{accepted-is, no-room, stale-is, long-is}
 use Rattle.call_read.specs.Reading.{size, area, end, readCall, Reads}
 use Rattle.call_change.specs.Changing.{writeReply, Writes}
 use Rattle.thm_calls.specs.Handles.{HandleOf}
@@ -221,24 +222,24 @@ module _ (g : Geo) (I : List ℕ) (t : Tree maxDepth) (v : Volume g I maxDepth t
             )
         go (inr a) (inr c) (inl n) = on-file (some-len a) a c (n .0) (n .1) (either (tooLong h len))
 
-module _ (K : ℕ) (I W : List ℕ) (b : Bytes I) (w : WellFormed K I) (long : markLong (geoAt K I) ≤ length W) (h : Handle)
-    (buf : List ℕ) (now : ℕ) (o : WriteOut)
-    (J Z : List ℕ) (c : Writes K I W h buf now o J Z) where
+module _ (M : Mount) (I W : List ℕ) (b : Bytes I) (w : WellFormed M I) (long : markLong (geoAt M I) ≤ length W) (h : Handle)
+    (buf : List ℕ) (now : ℕ) (o : CountedOut)
+    (J Z : List ℕ) (c : Writes M I W h buf now o J Z) where
   -- the check passes
-  pub write-says : countedSays (o .answer) ≡ andThen (targetOf (geoAt K I) I h (length buf)) (λ t. accepted (length buf))
+  pub write-says : countedSays (o .answer) ≡ andThen (targetOf (geoAt M I) I h (length buf)) (λ t. accepted (length buf))
   unfolding writeReply countOf
   write-says =
       c .answer
       ∙ ap (λ (r : Reply Target). andThen r (λ t. accepted (length buf)))
-      (given-none (targetOf (geoAt K I) I h (length buf)) (long-passes K I W w long b))
+      (given-none (targetOf (geoAt M I) I h (length buf)) (long-passes M I W w long b))
 
   -- A write is refused by 13, 11, 10 and 9 just where the tree says, and else answers the buffer's length.
-  pub writes : countedSays (o .answer) ≡ reply (writeNumber (geoAt K I) h (length buf) (w .tree)) (length buf)
-  writes = write-says ∙ go (agreed (geoAt K I) I (w .tree) (volume-at K I w) h (length buf))
+  pub writes : countedSays (o .answer) ≡ reply (writeNumber (geoAt M I) h (length buf) (w .tree)) (length buf)
+  writes = write-says ∙ go (agreed (geoAt M I) I (w .tree) (volume-at M I w) h (length buf))
     where
-      go : Agreed (geoAt K I) I (w .tree) (volume-at K I w) h (length buf)
-          → andThen (targetOf (geoAt K I) I h (length buf)) (λ t. accepted (length buf)) ≡ reply
-          (writeNumber (geoAt K I) h (length buf) (w .tree)) (length buf)
+      go : Agreed (geoAt M I) I (w .tree) (volume-at M I w) h (length buf)
+          → andThen (targetOf (geoAt M I) I h (length buf)) (λ t. accepted (length buf)) ≡ reply
+          (writeNumber (geoAt M I) h (length buf) (w .tree)) (length buf)
       go (inl a) =
           and-then-no (a .0) (λ t. accepted (length buf)) (a .1)
           ∙ sym (ap (λ (k : ℕ). reply k (length buf)) (a .2) ∙ reply-suc (a .0) (length buf) (a .3))
@@ -265,21 +266,21 @@ module _ (h f : Handle) (vs l m : List ℕ) where
         a .kept ∙ sym (settle-suc k _ l some-number),
       )
 
-module _ (K : ℕ) (I : List ℕ) (w : WellFormed K I) (h : Handle) (q : List Name) (s : DirAt maxDepth (h .dir .0) q (w .tree))
+module _ (M : Mount) (I : List ℕ) (w : WellFormed M I) (h : Handle) (q : List Name) (s : DirAt maxDepth (h .dir .0) q (w .tree))
     (long : length (h .name) ≡ 255) where
   abbrev file-bytes : ℕ → List ℕ
   file-bytes len = bytesFrom (h .position) len (fileBy h (w .tree))
 
   -- the read's number and bytes are the tree's
   abbrev Shown : ℕ → Type 0
-  Shown len = ((readCall K I h len ≡ 0) × (readNumber h (w .tree) ≡ 0)
-      × (bytesRead (size K I) (area K I) (end K I) I h len ≡ file-bytes len))
-      ⊎ ((readCall K I h len ≡ 11) × (readNumber h (w .tree) ≡ 11))
+  Shown len = ((readCall M I h len ≡ 0) × (readNumber h (w .tree) ≡ 0)
+      × (bytesRead (size M I) (area M I) (end M I) I h len ≡ file-bytes len))
+      ⊎ ((readCall M I h len ≡ 11) × (readNumber h (w .tree) ≡ 11))
 
   -- 1, 2 and 3 are not given
-  call-is : (len : ℕ) → readCall K I h len ≡ readRefusal (size K I) (area K I) (end K I) I h len
+  call-is : (len : ℕ) → readCall M I h len ≡ readRefusal (size M I) (area M I) (end M I) I h len
   unfolding readCall
-  call-is len = first-of-tail _ _ (well-formed-opens K I w) ∙ first-of-one _
+  call-is len = first-of-tail _ _ (well-formed-opens M I w) ∙ first-of-one _
 
   on-file : staleFields h ≡ false → (f : OnFile maxDepth (w .tree) h) → staleBy h (fileBy h (w .tree)) ≡ 0 → (len : ℕ) → Shown len
   unfolding fileEntry readCall readNumber bytesFrom
@@ -294,14 +295,14 @@ module _ (K : ℕ) (I : List ℕ) (w : WellFormed K I) (h : Handle) (q : List Na
         position = c .place;
       } in
       let e : fileBy h (w .tree) ≡ some (h .size, f .file .time, f .file .cells)
-      = by-path (geoAt K I) I (w .tree) (volume-at K I w) h (f .path)
-      (path-is (geoAt K I) I maxDepth (w .tree) _ (h .dir .0) (f .path) (volume-at K I w .laid) (f .there))
-      ∙ in-file (geoAt K I) I (w .tree) (volume-at K I w) h (f .path) (f .there) (f .file) in
+      = by-path (geoAt M I) I (w .tree) (volume-at M I w) h (f .path)
+      (path-is (geoAt M I) I maxDepth (w .tree) _ (h .dir .0) (f .path) (volume-at M I w .laid) (f .there))
+      ∙ in-file (geoAt M I) I (w .tree) (volume-at M I w) h (f .path) (f .there) (f .file) in
       inl (
-        read-file K I w (f .path) (f .there .dir) (f .there .there) (nameOf h) _ (f .file .held) (h .size)
+        read-file M I w (f .path) (f .there .dir) (f .there .there) (nameOf h) _ (f .file .held) (h .size)
             (f .file .cells) refl h o len,
         passes 11 _ a ∙ first-of-one _ ∙ z,
-        read-bytes K I w (f .path) (f .there .dir) (f .there .there) (nameOf h) _ (f .file .held) (h .size)
+        read-bytes M I w (f .path) (f .there .dir) (f .there .there) (nameOf h) _ (f .file .held) (h .size)
             (f .file .cells) refl h o len
             ∙ ap (bytesFrom (h .position) len) (sym e),
       )
@@ -310,38 +311,38 @@ module _ (K : ℕ) (I : List ℕ) (w : WellFormed K I) (h : Handle) (q : List Na
   not-stale : FileThere (s .dir) h → staleBy h (fileBy h (w .tree)) ≡ 0
   unfolding fileOf
   not-stale x =
-      let p = path-is (geoAt K I) I maxDepth (w .tree) _ (h .dir .0) q (volume-at K I w .laid) s in
+      let p = path-is (geoAt M I) I maxDepth (w .tree) _ (h .dir .0) q (volume-at M I w .laid) s in
       let e : fileBy h (w .tree) ≡ some (h .size, x .0 .time, x .1)
-      = by-path (geoAt K I) I (w .tree) (volume-at K I w) h q p ∙ file-at maxDepth q (nameOf h) (w .tree) (s .dir) (s .there)
+      = by-path (geoAt M I) I (w .tree) (volume-at M I w) h q p ∙ file-at maxDepth q (nameOf h) (w .tree) (s .dir) (s .there)
       ∙ then-some (λ e. fileOf (e .time) (e .node)) (x .2)
       ∙ ap (λ (n : Node (Below (s .dir .0))). fileOf (x .0 .time) n) (x .3) in
-      ap (staleBy h) e ∙ stale-some (geoAt K I) I (w .tree) (volume-at K I w) h (h .size, x .0 .time, x .1)
+      ap (staleBy h) e ∙ stale-some (geoAt M I) I (w .tree) (volume-at M I w) h (h .size, x .0 .time, x .1)
       (both-and (eq-eqb (h .size) (h .size) refl) (eq-eqb (cellsAt (x .1)) (h .addr .0) (sym (x .4 .addr))))
 
   shown : (len : ℕ) → Shown len
   unfolding readNumber readRefusal
-  shown len = go (either (staleFields h)) (numbered (geoAt K I) I (w .tree) (volume-at K I w) h)
+  shown len = go (either (staleFields h)) (numbered (geoAt M I) I (w .tree) (volume-at M I w) h)
     where
       lost : staleFields h ≡ false → staleBy h (fileBy h (w .tree)) ≡ 11
-          → FileThere (s .dir) h ⊎ ((len : ℕ) → readRefusal (size K I) (area K I) (end K I) I h len ≡ 11) → Shown len
+          → FileThere (s .dir) h ⊎ ((len : ℕ) → readRefusal (size M I) (area M I) (end M I) I h len ≡ 11) → Shown len
       lost a e (inl x) = absurd (omega (arith, e, not-stale x))
       lost a e (inr r) = inr (call-is len ∙ r len, passes 11 _ a ∙ first-of-one _ ∙ e)
 
-      go : (staleFields h ≡ true) ⊎ (staleFields h ≡ false) → Numbered (geoAt K I) I (w .tree) (volume-at K I w) h → Shown len
+      go : (staleFields h ≡ true) ⊎ (staleFields h ≡ false) → Numbered (geoAt M I) I (w .tree) (volume-at M I w) h → Shown len
       go (inl a) n = inr (call-is len ∙ refuses 11 _ (omega arith) a, refuses 11 _ (omega arith) a)
       go (inr a) (inl n) = on-file a (n .0) (n .1) len
       go (inr a) (inr n) = lost a (n .1)
-          (handle-or (geoAt K I) I maxDepth (w .tree) _ q (s .dir) h (volume-at K I w .laid) (s .there) long (sym (s .starts)))
+          (handle-or (geoAt M I) I maxDepth (w .tree) _ q (s .dir) h (volume-at M I w .laid) (s .there) long (sym (s .starts)))
 
   -- A read is refused by 11 just where the tree says, and else gives the file's bytes from the position on.
-  pub reads : (buf out : List ℕ) (o : ReadOut) → Reads K I h buf out o
+  pub reads : (buf out : List ℕ) (o : CountedOut) → Reads M I h buf out o
       → (countedSays (o .answer) ≡ reply (readNumber h (w .tree)) (toRead h (length buf)))
       × (o .handle ≡ settle (readNumber h (w .tree)) (moved h (h .position + toRead h (length buf))) h)
       × (out ≡ settle (readNumber h (w .tree)) (splice buf 0 (bytesFrom (h .position) (length buf) (fileBy h (w .tree)))) buf)
-  reads buf out o c = go (shown (length buf)) (counts h (o .handle) vs buf out (readCall K I h (length buf)) (o .answer) c)
+  reads buf out o c = go (shown (length buf)) (counts h (o .handle) vs buf out (readCall M I h (length buf)) (o .answer) c)
     where
       vs : List ℕ
-      vs = bytesRead (size K I) (area K I) (end K I) I h (length buf)
+      vs = bytesRead (size M I) (area M I) (end M I) I h (length buf)
 
       Gives : List ℕ → ℕ → Type 0
       Gives bs k =
@@ -349,11 +350,11 @@ module _ (K : ℕ) (I : List ℕ) (w : WellFormed K I) (h : Handle) (q : List Na
           × (o .handle ≡ settle k (moved h (h .position + toRead h (length buf))) h)
           × (out ≡ settle k (splice buf 0 bs) buf)
 
-      go : Shown (length buf) → Counts h (o .handle) vs buf out (readCall K I h (length buf)) (o .answer)
+      go : Shown (length buf) → Counts h (o .handle) vs buf out (readCall M I h (length buf)) (o .answer)
           → Gives (file-bytes (length buf)) (readNumber h (w .tree))
       go (inl a) d =
-          let e : readCall K I h (length buf) ≡ readNumber h (w .tree) = a .0 ∙ sym (a .1) in
-          subst (Gives (file-bytes (length buf))) e (subst (λ (b : List ℕ). Gives b (readCall K I h (length buf))) (a .2) d)
+          let e : readCall M I h (length buf) ≡ readNumber h (w .tree) = a .0 ∙ sym (a .1) in
+          subst (Gives (file-bytes (length buf))) e (subst (λ (b : List ℕ). Gives b (readCall M I h (length buf))) (a .2) d)
       go (inr a) d = (
         d .0 ∙ ap (λ (k : ℕ). reply k (toRead h (length buf))) (a .0 ∙ sym (a .1)),
         d .1 ∙ ap (λ (k : ℕ). settle k (moved h (h .position + toRead h (length buf))) h) (a .0 ∙ sym (a .1)),

@@ -6,22 +6,21 @@ use mathlib.Core.Option.{Option, none, some}
 use mathlib.Core.List.{List, _++_, append-nil}
 use Prim.Native.Nat.{ℕ, zero, suc, _^_, _<_}
 use Rattle.model.specs.Tree.{Name, Cell, Node, sub, Entry, Below, Tree, called, lookup, Absent, insert, change, delete, Edit, edit, Some, find, blank, Bare}
-use Rattle.model.specs.Geometry.{blockSize, geoAt}
+use Rattle.model.specs.Geometry.{Mount, blockSize, geoAt}
 use Rattle.model.specs.Volume.{WellFormed, maxDepth}
-use Rattle.model.specs.Calls.{Vacant, fileAt, DirAt, fileEntry, created, dirAdded, createdDir, deleted, refiled, rewritten}
-use Rattle.model.specs.Calls.{TreeDeletes, TreeWrites}
+use Rattle.model.specs.Calls.{Vacant, fileAt, DirAt, fileEntry, created, dirAdded, createdDir, deleted, refiled, rewritten, TreeDeletes, TreeWrites}
 use Rattle.model.proofs.Dirs.{lookup-change}
 use Rattle.model.proofs.Edits.{refiled-name}
 use Rattle.model.proofs.Full.{good-find}
 use Rattle.model.proofs.Lists.{not-some}
 use Rattle.model.proofs.Others.{lookup-other}
 use Rattle.thm_path.proofs.Resolves.{absent-none}
-use Rattle.file.specs.declared.Handle.{Handle}
-use Rattle.file.specs.declared.Counted.the-variants as counted
-use Rattle.file.specs.declared.WriteOut.{WriteOut}
-use Rattle.file.specs.File.{nameOf}
-use Rattle.call_volume.specs.declared.Answer.{Answer}
-use Rattle.call_volume.specs.declared.Answer.the-variants as answer
+use Rattle.handle.specs.declared.Handle.{Handle}
+use Rattle.handle.specs.declared.Counted.the-variants as counted
+use Rattle.handle.specs.declared.CountedOut.{CountedOut}
+use Rattle.handle.specs.Handles.{nameOf}
+use Rattle.limits.specs.declared.Answer.{Answer}
+use Rattle.limits.specs.declared.Answer.the-variants as answer
 use Rattle.call_read.specs.declared.OpenOut.{OpenOut}
 use Rattle.call_change.specs.Changing.{CreatesFile, CreatesDir, Deletes, Writes}
 use Rattle.thm_calls.specs.Named.{wayOf, lastOf}
@@ -66,16 +65,16 @@ edit-read r leaf p n t g f c q m x = read-edit r m leaf maxDepth p q g f t at
         (λ e k. x (sym (j ∙ ap (λ (l : List Name). p ++ l) e ∙ append-nil p)) k))
 
 -- So such an edit touches nothing there.
-module _ (K : ℕ) (I J : List ℕ) (w : WellFormed K I) (v : WellFormed K J) (q : List Name) (m : Name) where
+module _ (M : Mount) (I J : List ℕ) (w : WellFormed M I) (v : WellFormed M J) (q : List Name) (m : Name) where
   untouched : fileAt maxDepth q m (v .tree) ≡ fileAt maxDepth q m (w .tree) → deviceAt maxDepth q m (v .tree) ≡ deviceAt maxDepth q m (w .tree)
-      → Untouched (blockSize (geoAt K I)) maxDepth (w .tree) (v .tree) I J q m
+      → Untouched (blockSize (geoAt M I)) maxDepth (w .tree) (v .tree) I J q m
   untouched f d =
       record {
         same-file = f;
         same-device = d;
-        same-bytes = λ z k cs h. cells-same (blockSize (geoAt K I)) I J cs
-            (cells-shown (geoAt K I) I maxDepth (w .tree) _ (volume-at K I w .laid) q m z k cs h)
-            (cells-shown (geoAt K J) J maxDepth (v .tree) _ (volume-at K J v .laid) q m z k cs (still z k cs h));
+        same-bytes = λ z k cs h. cells-same (blockSize (geoAt M I)) I J cs
+            (cells-shown (geoAt M I) I maxDepth (w .tree) _ (volume-at M I w .laid) q m z k cs h)
+            (cells-shown (geoAt M J) J maxDepth (v .tree) _ (volume-at M J v .laid) q m z k cs (still z k cs h));
       }
     where
       still : (z k : ℕ) (cs : List Cell) → (fileAt maxDepth q m (w .tree) ≡ some (z, k, cs)) ⊎ (deviceAt maxDepth q m (w .tree) ≡ some (z, k, cs))
@@ -84,7 +83,7 @@ module _ (K : ℕ) (I J : List ℕ) (w : WellFormed K I) (v : WellFormed K J) (q
       still z k cs (inr e) = inr (d ∙ e)
 
   edit-untouched : (p : List Name) (n : Name) (g : ℕ → ℕ) (f : Edit) → Local p n (w .tree) f → v .tree ≡ edit maxDepth p g f (w .tree) → (p ≡ q → n ≡ m → ⊥)
-      → Untouched (blockSize (geoAt K I)) maxDepth (w .tree) (v .tree) I J q m
+      → Untouched (blockSize (geoAt M I)) maxDepth (w .tree) (v .tree) I J q m
   edit-untouched p n g f c e x =
       untouched
       (ap (fileAt maxDepth q m) e ∙ file-is maxDepth q m _ ∙ edit-read asFile not-file p n (w .tree) g f c q m x ∙ sym (file-is maxDepth q m (w .tree)))
@@ -93,9 +92,9 @@ module _ (K : ℕ) (I J : List ℕ) (w : WellFormed K I) (v : WellFormed K J) (q
 -- ---- each call is such an edit
 
 -- a write
-module _ (K : ℕ) (I W : List ℕ) (h : Handle) (buf : List ℕ) (now : ℕ) (o : WriteOut) (J Z : List ℕ) (c : Writes K I W h buf now o J Z) (k : ℕ)
-    (e : o .answer ≡ counted.Bytes k) (clock : now < 2 ^ 64) (w : WellFormed K I) (v : WellFormed K J) (q : List Name) (m : Name) where
-  write-local : (p : List Name) (z : ℕ) (cs : List Cell) → TreeWrites (geoAt K I) maxDepth p (nameOf h) now (h .position) buf (w .tree) I J
+module _ (M : Mount) (I W : List ℕ) (h : Handle) (buf : List ℕ) (now : ℕ) (o : CountedOut) (J Z : List ℕ) (c : Writes M I W h buf now o J Z) (k : ℕ)
+    (e : o .answer ≡ counted.Bytes k) (clock : now < 2 ^ 64) (w : WellFormed M I) (v : WellFormed M J) (q : List Name) (m : Name) where
+  write-local : (p : List Name) (z : ℕ) (cs : List Cell) → TreeWrites (geoAt M I) maxDepth p (nameOf h) now (h .position) buf (w .tree) I J
       → Local p (nameOf h) (w .tree) (λ _ bs. change (nameOf h) (λ x. refiled now z cs (x .name) (x .time) (x .node)) bs)
   unfolding fileEntry refiled
   write-local p z cs a =
@@ -112,17 +111,17 @@ module _ (K : ℕ) (I W : List ℕ) (h : Handle) (buf : List ℕ) (now : ℕ) (o
       }
 
   -- S3, of a write
-  pub write-others : Another maxDepth (w .tree) h q m → Untouched (blockSize (geoAt K I)) maxDepth (w .tree) (v .tree) I J q m
+  pub write-others : Another maxDepth (w .tree) h q m → Untouched (blockSize (geoAt M I)) maxDepth (w .tree) (v .tree) I J q m
   unfolding rewritten
   write-others x =
-      let a = write-tree K I W h buf now o J Z c k w clock e in
-      edit-untouched K I J w v q m (a .0) (nameOf h) (λ j. j) _ (write-local (a .0) _ _ (a .2)) (tree-after K I J w _ _ (a .2 .makes) v)
+      let a = write-tree M I W h buf now o J Z c k w clock e in
+      edit-untouched M I J w v q m (a .0) (nameOf h) (λ j. j) _ (write-local (a .0) _ _ (a .2)) (tree-after M I J w _ _ (a .2 .makes) v)
       (λ y z. x (subst (λ (p : List Name). DirAt maxDepth (h .dir .0) p (w .tree)) y (a .1)) z)
 
 -- create and delete
-module _ (K : ℕ) (I W cwd p : List ℕ) (now : ℕ) where
-  module _ (o : OpenOut) (J Z : List ℕ) (c : CreatesFile K I W cwd p now o J Z) (e : o .answer ≡ answer.Success) (clock : now < 2 ^ 64)
-      (w : WellFormed K I) (v : WellFormed K J) (q : List Name) (m : Name) where
+module _ (M : Mount) (I W cwd p : List ℕ) (now : ℕ) where
+  module _ (o : OpenOut) (J Z : List ℕ) (c : CreatesFile M I W cwd p now o J Z) (e : o .answer ≡ answer.Success) (clock : now < 2 ^ 64)
+      (w : WellFormed M I) (v : WellFormed M J) (q : List Name) (m : Name) where
     file-local : (cap x z : ℕ) (cs : List Cell) → Vacant maxDepth (wayOf cwd p) (lastOf cwd p) (w .tree)
         → Local (wayOf cwd p) (lastOf cwd p) (w .tree) (λ _ bs. insert cap x (fileEntry (lastOf cwd p) now z cs) bs)
     unfolding fileEntry
@@ -138,15 +137,15 @@ module _ (K : ℕ) (I W cwd p : List ℕ) (now : ℕ) where
           after = bare-hollow (s .0) n _ (fileEntry n now z cs) (lookup-inserted cap x n (fileEntry n now z cs) new (s .1) (a .free)) tt;
         }
 
-    pub create-file-others : (Leads q m cwd p → ⊥) → Untouched (blockSize (geoAt K I)) maxDepth (w .tree) (v .tree) I J q m
+    pub create-file-others : (Leads q m cwd p → ⊥) → Untouched (blockSize (geoAt M I)) maxDepth (w .tree) (v .tree) I J q m
     unfolding created
     create-file-others x =
-        let a = create-file-tree K I W cwd p now J Z o c w clock e in
-        edit-untouched K I J w v q m (wayOf cwd p) (lastOf cwd p) (λ _. now) _ (file-local _ _ _ _ (a .vacant)) (tree-after K I J w _ _ (a .makes) v)
+        let a = create-file-tree M I W cwd p now J Z o c w clock e in
+        edit-untouched M I J w v q m (wayOf cwd p) (lastOf cwd p) (λ _. now) _ (file-local _ _ _ _ (a .vacant)) (tree-after M I J w _ _ (a .makes) v)
         (λ y z. x (record { way = y; last = z }))
 
-  module _ (r : Answer) (J Z : List ℕ) (c : CreatesDir K I W cwd p now r J Z) (e : r ≡ answer.Success) (clock : now < 2 ^ 64)
-      (w : WellFormed K I) (v : WellFormed K J) (q : List Name) (m : Name) where
+  module _ (r : Answer) (J Z : List ℕ) (c : CreatesDir M I W cwd p now r J Z) (e : r ≡ answer.Success) (clock : now < 2 ^ 64)
+      (w : WellFormed M I) (v : WellFormed M J) (q : List Name) (m : Name) where
     dir-others : (cap x y : ℕ) (n : Name) (d : ℕ) (t : Tree d) (a : Name) → (n ≡ a → ⊥) → lookup a (dirAdded cap x y n now d t) ≡ lookup a t
     unfolding dirAdded
     dir-others cap x y n zero t a h = refl
@@ -171,20 +170,20 @@ module _ (K : ℕ) (I W cwd p : List ℕ) (now : ℕ) where
           after = dir-hollow cap x y n (s .0) (s .1) (a .free);
         }
 
-    pub create-dir-others : (Leads q m cwd p → ⊥) → Untouched (blockSize (geoAt K I)) maxDepth (w .tree) (v .tree) I J q m
+    pub create-dir-others : (Leads q m cwd p → ⊥) → Untouched (blockSize (geoAt M I)) maxDepth (w .tree) (v .tree) I J q m
     unfolding createdDir
     create-dir-others x =
-        let a = create-dir-tree K I W cwd p now J Z r c w clock e in
-        edit-untouched K I J w v q m (wayOf cwd p) (lastOf cwd p) (λ _. now) _ (dir-local _ _ _ (a .vacant)) (tree-after K I J w _ _ (a .makes) v)
+        let a = create-dir-tree M I W cwd p now J Z r c w clock e in
+        edit-untouched M I J w v q m (wayOf cwd p) (lastOf cwd p) (λ _. now) _ (dir-local _ _ _ (a .vacant)) (tree-after M I J w _ _ (a .makes) v)
         (λ y z. x (record { way = y; last = z }))
 
-  module _ (r : Answer) (J Z : List ℕ) (c : Deletes K I W cwd p now r J Z) (e : r ≡ answer.Success) (clock : now < 2 ^ 64)
-      (w : WellFormed K I) (v : WellFormed K J) (q : List Name) (m : Name) where
-    delete-local : TreeDeletes (geoAt K I) maxDepth (wayOf cwd p) (lastOf cwd p) now (w .tree) I J → Local (wayOf cwd p) (lastOf cwd p) (w .tree) (λ _ bs. delete (lastOf cwd p) bs)
+  module _ (r : Answer) (J Z : List ℕ) (c : Deletes M I W cwd p now r J Z) (e : r ≡ answer.Success) (clock : now < 2 ^ 64)
+      (w : WellFormed M I) (v : WellFormed M J) (q : List Name) (m : Name) where
+    delete-local : TreeDeletes (geoAt M I) maxDepth (wayOf cwd p) (lastOf cwd p) now (w .tree) I J → Local (wayOf cwd p) (lastOf cwd p) (w .tree) (λ _ bs. delete (lastOf cwd p) bs)
     delete-local a =
         let n : Name = lastOf cwd p in
         let s : Some = a .occupied .dir in
-        let g = good-find (blockSize (geoAt K I)) maxDepth (wayOf cwd p) (w .tree) s (volume-at K I w .laid .good) (a .occupied .there) in
+        let g = good-find (blockSize (geoAt M I)) maxDepth (wayOf cwd p) (w .tree) s (volume-at M I w .laid .good) (a .occupied .there) in
         record {
           dir = s;
           there = a .occupied .there;
@@ -193,9 +192,9 @@ module _ (K : ℕ) (I W cwd p : List ℕ) (now : ℕ) where
           after = none-hollow (s .0) n (delete n (s .1)) (absent-none n (delete n (s .1)) (deleted-absent n (s .1) (g .distinct n)));
         }
 
-    pub delete-others : (Leads q m cwd p → ⊥) → Untouched (blockSize (geoAt K I)) maxDepth (w .tree) (v .tree) I J q m
+    pub delete-others : (Leads q m cwd p → ⊥) → Untouched (blockSize (geoAt M I)) maxDepth (w .tree) (v .tree) I J q m
     unfolding deleted
     delete-others x =
-        let a = delete-tree K I W cwd p now J Z r c w clock e in
-        edit-untouched K I J w v q m (wayOf cwd p) (lastOf cwd p) (λ _. now) (λ _ bs. delete (lastOf cwd p) bs) (delete-local a) (tree-after K I J w _ _ (a .makes) v)
+        let a = delete-tree M I W cwd p now J Z r c w clock e in
+        edit-untouched M I J w v q m (wayOf cwd p) (lastOf cwd p) (λ _. now) (λ _ bs. delete (lastOf cwd p) bs) (delete-local a) (tree-after M I J w _ _ (a .makes) v)
         (λ y z. x (record { way = y; last = z }))

@@ -14,7 +14,7 @@ use Rattle.wire.proofs.Picks.{either}
 use Rattle.model.specs.Answers.{Reply, accepted, refused, andThen, when, reply, given}
 use Rattle.model.specs.Tree.{Name, Node, file, device, sub, Entry, Below, lookup, sum, Some, find}
 use Rattle.model.specs.Render.{View, blocksAt, view, addressOf, sizeOf}
-use Rattle.model.specs.Geometry.{blockSize, dataAt, geoAt, setBits}
+use Rattle.model.specs.Geometry.{Mount, blockSize, dataAt, geoAt, setBits}
 use Rattle.model.specs.Volume.{fileLimit, WellFormed, Laid, maxDepth}
 use Rattle.model.proofs.OneVolume.{well-formed-opens}
 use Rattle.model.proofs.Opens.{first-of-one, first-of-tail}
@@ -84,57 +84,57 @@ splice-none : (l : List ℕ) → splice l 0 [] ≡ l
 unfolding splice
 splice-none l = refl
 
-module _ (K : ℕ) (I : List ℕ) (w : WellFormed K I) (cwd p : List ℕ) where
-  abbrev laid : Laid (geoAt K I) I maxDepth (w .tree) (dataAt (geoAt K I) + setBits I (geoAt K I))
-  laid = volume-at K I w .laid
+module _ (M : Mount) (I : List ℕ) (w : WellFormed M I) (cwd p : List ℕ) where
+  abbrev laid : Laid (geoAt M I) I maxDepth (w .tree) (dataAt (geoAt M I) + setBits I (geoAt M I))
+  laid = volume-at M I w .laid
 
   -- 4 alone is given before the way
-  call-is : pathCall K I cwd p ≡ pathRefusal cwd p
+  call-is : pathCall M I cwd p ≡ pathRefusal cwd p
   unfolding pathCall
-  call-is = first-of-tail _ _ (well-formed-opens K I w) ∙ first-of-one _
+  call-is = first-of-tail _ _ (well-formed-opens M I w) ∙ first-of-one _
 
-  pub opens : (o : OpenOut) → Opens K I cwd p o → openSays o ≡ openAnswer cwd p (w .tree)
+  pub opens : (o : OpenOut) → Opens M I cwd p o → openSays o ≡ openAnswer cwd p (w .tree)
   unfolding openReply openOn openAnswer
   opens o c =
       c .answer
-      ∙ ap (λ (k : ℕ). given k (openOn (size K I) (area K I) (end K I) I (realPath cwd p))) call-is
+      ∙ ap (λ (k : ℕ). given k (openOn (size M I) (area M I) (end M I) I (realPath cwd p))) call-is
       ∙ ap (given (pathRefusal cwd p))
-      (entry-then (geoAt K I) I (w .tree) _ laid (realPath cwd p) (openEntry (lastOf cwd p))
+      (entry-then (geoAt M I) I (w .tree) _ laid (realPath cwd p) (openEntry (lastOf cwd p))
       (λ (x : Spot). openNode (blocksAt (x .0 .1)) (lastOf cwd p) (x .1 .node))
-      (λ s e k. open-spot (size K I) (lastOf cwd p) s e))
+      (λ s e k. open-spot (size M I) (lastOf cwd p) s e))
 
-  root-sum : aboutRoot (sumFrom 0 (walk (size K I) (area K I) (end K I) I (area K I))) ≡ accepted (about Dir (sum (w .tree)) 0 [])
+  root-sum : aboutRoot (sumFrom 0 (walk (size M I) (area M I) (end M I) I (area M I))) ≡ accepted (about Dir (sum (w .tree)) 0 [])
   unfolding find
   root-sum =
-      ap (λ (a : ℕ). aboutRoot (sumFrom 0 (walk (size K I) (area K I) (end K I) I a))) (sym (laid .root))
-      ∙ ap aboutRoot (sum-is (geoAt K I) I maxDepth (w .tree) _ [] (maxDepth, w .tree) laid refl)
+      ap (λ (a : ℕ). aboutRoot (sumFrom 0 (walk (size M I) (area M I) (end M I) I a))) (sym (laid .root))
+      ∙ ap aboutRoot (sum-is (geoAt M I) I maxDepth (w .tree) _ [] (maxDepth, w .tree) laid refl)
 
-  pub informs : (o : InfoOut) → Informs K I cwd p o → infoSays o ≡ infoAnswer (blockSize (geoAt K I)) cwd p (w .tree)
+  pub informs : (o : InfoOut) → Informs M I cwd p o → infoSays o ≡ infoAnswer (blockSize (geoAt M I)) cwd p (w .tree)
   unfolding infoReply infoOn infoAnswer
   informs o c =
-      let entry = andThen (entryAt (wayOf cwd p) (lastOf cwd p) (w .tree)) (aboutSpot (size K I)) in
+      let entry = andThen (entryAt (wayOf cwd p) (lastOf cwd p) (w .tree)) (aboutSpot (size M I)) in
       c .answer
-      ∙ ap (λ (k : ℕ). given k (infoOn (size K I) (area K I) (end K I) I (realPath cwd p) p)) call-is
+      ∙ ap (λ (k : ℕ). given k (infoOn (size M I) (area M I) (end M I) I (realPath cwd p) p)) call-is
       ∙ ap (λ (r : Reply About). given (pathRefusal cwd p)
-      (pick (same p (slash ∷ [])) (aboutRoot (sumFrom 0 (walk (size K I) (area K I) (end K I) I (area K I)))) r))
-      (entry-then (geoAt K I) I (w .tree) _ laid (realPath cwd p) (aboutEntry (lastOf cwd p)) (aboutSpot (size K I))
-      (λ s e k. about-spot (size K I) (lastOf cwd p) s e k))
+      (pick (same p (slash ∷ [])) (aboutRoot (sumFrom 0 (walk (size M I) (area M I) (end M I) I (area M I)))) r))
+      (entry-then (geoAt M I) I (w .tree) _ laid (realPath cwd p) (aboutEntry (lastOf cwd p)) (aboutSpot (size M I))
+      (λ s e k. about-spot (size M I) (lastOf cwd p) s e k))
       ∙ ap (λ (r : Reply About). given (pathRefusal cwd p) (pick (same p (slash ∷ [])) r entry)) root-sum
 
   -- ---- list
 
-  module _ (i : ℕ) (buf out : List ℕ) (q : Listing) (c : Lists K I cwd p i buf q out) where
+  module _ (i : ℕ) (buf out : List ℕ) (q : Listing) (c : Lists M I cwd p i buf q out) where
     abbrev Said : Type 0
     Said = (listSays q ≡ listAnswer cwd p i (length buf) (w .tree))
-        × (out ≡ splice buf 0 (recordsIn (blockSize (geoAt K I)) i (length buf) (dirAnswer cwd p (w .tree))))
+        × (out ≡ splice buf 0 (recordsIn (blockSize (geoAt M I)) i (length buf) (dirAnswer cwd p (w .tree))))
 
-    list-refused : (k : ℕ) → listReply K I cwd p i (length buf) ≡ refused k → dirAnswer cwd p (w .tree) ≡ refused k → Said
+    list-refused : (k : ℕ) → listReply M I cwd p i (length buf) ≡ refused k → dirAnswer cwd p (w .tree) ≡ refused k → Said
     unfolding listAnswer
     list-refused k a b = (
       c .answer ∙ a ∙ sym (and-then-no k _ b),
       c .buffer ∙ ap (λ (r : Reply Counts). onReply r
-          (splice buf 0 (recordsOn (size K I) (area K I) (end K I) I (realPath cwd p) i (length buf))) buf) a
-          ∙ sym (splice-none buf) ∙ ap (λ (r : Reply Some). splice buf 0 (recordsIn (size K I) i (length buf) r)) (sym b),
+          (splice buf 0 (recordsOn (size M I) (area M I) (end M I) I (realPath cwd p) i (length buf))) buf) a
+          ∙ sym (splice-none buf) ∙ ap (λ (r : Reply Some). splice buf 0 (recordsIn (size M I) i (length buf) r)) (sym b),
     )
 
     list-given : badPath cwd p ≡ false → (s : Some) → wayTo maxDepth (allOf cwd p) (w .tree) ≡ accepted s
@@ -142,19 +142,19 @@ module _ (K : ℕ) (I : List ℕ) (w : WellFormed K I) (cwd p : List ℕ) where
     unfolding listAnswer
     list-given good s f b =
         let found = way-found maxDepth (allOf cwd p) (w .tree) s f in
-        let a = list-counts K I w cwd p good s found i (length buf) in (
+        let a = list-counts M I w cwd p good s found i (length buf) in (
           c .answer ∙ a ∙ sym (and-then-ok s _ b),
           c .buffer ∙ ap (λ (r : Reply Counts). onReply r
-              (splice buf 0 (recordsOn (size K I) (area K I) (end K I) I (realPath cwd p) i (length buf))) buf) a
-              ∙ ap (splice buf 0) (list-records K I w cwd p good s found i (length buf))
-              ∙ ap (λ (r : Reply Some). splice buf 0 (recordsIn (size K I) i (length buf) r)) (sym b),
+              (splice buf 0 (recordsOn (size M I) (area M I) (end M I) I (realPath cwd p) i (length buf))) buf) a
+              ∙ ap (splice buf 0) (list-records M I w cwd p good s found i (length buf))
+              ∙ ap (λ (r : Reply Some). splice buf 0 (recordsIn (size M I) i (length buf) r)) (sym b),
         )
 
     pub lists : Said
     unfolding listReply listOn dirAnswer
     lists = go (either (badPath cwd p)) (wayTo maxDepth (allOf cwd p) (w .tree)) refl
       where
-        called : (r : Reply Counts) → given (pathCall K I cwd p) r ≡ given (pathRefusal cwd p) r
+        called : (r : Reply Counts) → given (pathCall M I cwd p) r ≡ given (pathRefusal cwd p) r
         called r = ap (λ (k : ℕ). given k r) call-is
 
         go : (badPath cwd p ≡ true) ⊎ (badPath cwd p ≡ false) → (r : Reply Some) → wayTo maxDepth (allOf cwd p) (w .tree) ≡ r
@@ -164,6 +164,6 @@ module _ (K : ℕ) (I : List ℕ) (w : WellFormed K I) (cwd p : List ℕ) where
         go (inr good) (refused k) f =
             list-refused k
             (called _ ∙ given-no 4 _ good
-            ∙ and-then-no k _ (resolve-way (geoAt K I) I maxDepth (w .tree) _ (allOf cwd p) laid
+            ∙ and-then-no k _ (resolve-way (geoAt M I) I maxDepth (w .tree) _ (allOf cwd p) laid
             ∙ and-then-no k (λ s. accepted (blocksAt (s .1))) f))
             (given-no 4 _ good ∙ f)

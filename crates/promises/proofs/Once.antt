@@ -6,19 +6,19 @@ use native.Mathlib.Omega.{arith}
 use lib.ListN.{length}
 use Rattle.wire.specs.Be.{splice}
 use Rattle.model.specs.Answers.{Reply, refused, reply, settle}
-use Rattle.file.specs.Post.{MovedIs, CountedIs}
-use Rattle.call_volume.specs.declared.Answer.{Answer}
+use Rattle.handle.specs.Post.{MovedIs}
+use Rattle.file_read.specs.Post.{CountedIs}
+use Rattle.limits.specs.declared.Answer.{Answer}
 use Rattle.call_volume.specs.Says.{IfRefused}
 use Rattle.call_read.specs.Reading.{Counts, noHandle, noAbout, aboutOf, onReply, size, area, end, recordsOn, readCall}
-use Rattle.file.specs.File.{bytesRead}
+use Rattle.file_read.specs.Read.{bytesRead}
 use Rattle.path.specs.Path.{realPath}
 use Rattle.call_room.proofs.Means.{room-one}
-use Rattle.mfs.proofs.Outcomes.{format-one, usage-one, open-one, info-one, list-one, read-one, seek-one, create-file-one}
-use Rattle.mfs.proofs.Outcomes.{create-dir-one, delete-one, write-one}
+use Rattle.mfs.proofs.Outcomes.{format-one, usage-one, open-one, info-one, list-one, read-one, seek-one, create-file-one, create-dir-one, delete-one, write-one}
 use Rattle.call_volume.proofs.Checked.{check-one}
 use Rattle.thm_calls.proofs.Changing.{create-file-kept, create-dir-kept, delete-kept, write-kept}
 use Rattle.promises.specs.Once.{OneOutcome, RefusalKeeps}
-use Rattle.promises.proofs.Answered.{value-refused, refusal-said, count-refused, sought-refused}
+use Rattle.promises.proofs.Answered.{value-refused, refusal-said, count-refused}
 
 -- D1. Each call has one outcome.
 pub one-outcome : OneOutcome
@@ -49,33 +49,33 @@ format-kept (suc k) j x y e = refl
 pub refusal-keeps : RefusalKeeps
 refusal-keeps =
     record {
-      formats = λ K I J r j c e. c .image ∙ format-kept _ j _ I (sym e ∙ c .answer);
-      checks = λ K I W Z r j c e. c .work;
-      opens = λ K I cwd p o j c e.
+      formats = λ M I J r j c e. c .image ∙ format-kept _ j _ I (sym e ∙ c .answer);
+      checks = λ M I W Z r j c e. c .work;
+      opens = λ M I cwd p o j c e.
           subst (λ (y : Answer). IfRefused y (o .handle ≡ noHandle)) (value-refused (o .answer) (o .handle) j e .1) (c .empty);
-      informs = λ K I cwd p o j c e.
+      informs = λ M I cwd p o j c e.
           subst (λ (y : Answer). IfRefused y (aboutOf o ≡ noAbout)) (value-refused (o .answer) (aboutOf o) j e .1) (c .empty);
-      lists = λ K I cwd p n buf out q j c e.
-          let records : List ℕ = recordsOn (size K I) (area K I) (end K I) I (realPath cwd p) n (length buf) in
+      lists = λ M I cwd p n buf out q j c e.
+          let records : List ℕ = recordsOn (size M I) (area M I) (end M I) I (realPath cwd p) n (length buf) in
           c .buffer ∙ ap (λ (r : Reply Counts). onReply r (splice buf 0 records) buf) (sym (c .answer) ∙ e);
-      reads = λ K I h buf out o j c e.
-          let vs : List ℕ = bytesRead (size K I) (area K I) (end K I) I h (length buf) in
+      reads = λ M I h buf out o j c e.
+          let vs : List ℕ = bytesRead (size M I) (area M I) (end M I) I h (length buf) in
           let x = count-refused (o .answer) j e in
-          let k = subst (CountedIs (readCall K I h (length buf)) h (o .handle) vs buf out) (x .1) c in
+          let k = subst (CountedIs (readCall M I h (length buf)) h (o .handle) vs buf out) (x .1) c in
           (k .handle, k .kept);
-      seeks = λ h from s j c e. subst (MovedIs h from (s .handle)) (sought-refused (s .answer) j e .1) c .1;
-      creates-file = λ K I W cwd p time J Z o j c e.
+      seeks = λ h from s j c e. subst (MovedIs h from (s .handle)) (refusal-said (s .answer) j e .1) c .1;
+      creates-file = λ M I W cwd p time J Z o j c e.
           let x = value-refused (o .answer) (o .handle) j e in
-          let k = create-file-kept K I W cwd p time J Z o c (x .0) (x .1) in
+          let k = create-file-kept M I W cwd p time J Z o c (x .0) (x .1) in
           (k .0, k .1, c .work);
-      creates-dir = λ K I W cwd p time J Z r j c e.
+      creates-dir = λ M I W cwd p time J Z r j c e.
           let x = refusal-said r j e in
-          (create-dir-kept K I W cwd p time J Z r c (x .0) (x .1), c .work);
-      deletes = λ K I W cwd p time J Z r j c e.
+          (create-dir-kept M I W cwd p time J Z r c (x .0) (x .1), c .work);
+      deletes = λ M I W cwd p time J Z r j c e.
           let x = refusal-said r j e in
-          (delete-kept K I W cwd p time J Z r c (x .0) (x .1), c .work);
-      writes = λ K I W h buf time o J Z j c e.
+          (delete-kept M I W cwd p time J Z r c (x .0) (x .1), c .work);
+      writes = λ M I W h buf time o J Z j c e.
           let x = count-refused (o .answer) j e in
-          let k = write-kept K I W h buf time o J Z c (x .0) (x .1) in
+          let k = write-kept M I W h buf time o J Z c (x .0) (x .1) in
           (k .0, k .1, c .work);
     }

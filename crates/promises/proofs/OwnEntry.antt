@@ -4,7 +4,7 @@ use mathlib.Core.List.{List}
 use Prim.Native.Nat.{ℕ, _≤_}
 use native.Mathlib.Omega.{arith}
 use Rattle.model.specs.Answers.{accepted}
-use Rattle.model.specs.Geometry.{geoAt, blockSize, dataAt}
+use Rattle.model.specs.Geometry.{Mount, geoAt, blockSize, dataAt}
 use Rattle.model.specs.Volume.{maxDepth}
 use Rattle.model.specs.Steps.{Bytes}
 use Rattle.limits.specs.Refusals.{refusalNumber}
@@ -24,11 +24,11 @@ use Rattle.thm_calls.specs.Named.{wayOf}
 use Rattle.thm_calls.proofs.Changing.{volume-at}
 use Rattle.promises.specs.OwnEntry.{OwnEntryThere}
 
-own-inside : (K : ℕ) (I : List ℕ) (len : ℕ) → Bytes I → checkRefusal K I len ≡ 0 → (cwd p : List ℕ) (h : Hold)
-    → holdDir (blockSize (geoAt K I)) (dataAt (geoAt K I)) (geoAt K I .n) I (dirPart (realPath cwd p)) ≡ accepted h → OwnIn I (h .own)
-own-inside K I len b e cwd p h q =
-    let s : SuperBlock = superBlock (geoAt K I) in
-    let f : Fit s I = opened-fit K I s (check-passed K I len b e .1) refl in
+own-inside : (M : Mount) (I : List ℕ) (len : ℕ) → Bytes I → checkRefusal M I len ≡ 0 → (cwd p : List ℕ) (h : Hold)
+    → holdDir (blockSize (geoAt M I)) (dataAt (geoAt M I)) (geoAt M I .n) I (dirPart (realPath cwd p)) ≡ accepted h → OwnIn I (h .own)
+own-inside M I len b e cwd p h q =
+    let s : SuperBlock = superBlock (geoAt M I) in
+    let f : Fit s I = opened-fit M I s (check-passed M I len b e .1) refl in
     hold-inside s I f (dirPart (realPath cwd p)) h (hold-numbers s I f (dirPart (realPath cwd p)) ∙ q)
 
 -- The last is 17: the number 18 is not used.
@@ -55,6 +55,6 @@ pub own-entry-there : OwnEntryThere
 own-entry-there =
     record {
       inside = own-inside;
-      there = λ K I w cwd p h q. own-there (geoAt K I) I maxDepth (w .tree) _ (wayOf cwd p) (volume-at K I w .laid) h q;
+      there = λ M I w cwd p h q. own-there (geoAt M I) I maxDepth (w .tree) _ (wayOf cwd p) (volume-at M I w .laid) h q;
       numbers = number-few;
     }

@@ -1,15 +1,14 @@
 -- D3 over the public calls: a sequence of calls at one path is a run of the model's steps.
-use mathlib.Core.Path.{_≡_, refl, sym, ap, _∙_, subst}
+use mathlib.Core.Path.{_≡_, refl, sym, _∙_, subst}
 use mathlib.Core.Logic.{_⊎_, inl, inr}
 use mathlib.Core.List.{List, []}
 use Prim.Native.Nat.{ℕ, _^_, _<_}
 use Rattle.limits.specs.declared.Refusal.{Refusal}
 use Rattle.model.specs.Tree.{Name, Cell, Tree, Packed, insert, change, delete, Edit, edit}
 use Rattle.model.specs.Render.{Piece, blocksAt}
-use Rattle.model.specs.Geometry.{Geo, blockSize, geoAt}
+use Rattle.model.specs.Geometry.{Mount, Geo, blockSize, geoAt}
 use Rattle.model.specs.Volume.{WellFormed, maxDepth}
-use Rattle.model.specs.Calls.{Vacant, DirAt, fileEntry, created, deleted, refiled, rewritten, Makes}
-use Rattle.model.specs.Calls.{TreeCreatesFile, TreeDeletes, TreeWrites}
+use Rattle.model.specs.Calls.{Vacant, DirAt, fileEntry, created, deleted, refiled, rewritten, Makes, TreeCreatesFile, TreeDeletes, TreeWrites}
 use Rattle.model.specs.Steps.{Step, quiet, Run, Restored, Bytes}
 use Rattle.model.specs.Steps.{done as run-done, call as run-call}
 use Rattle.model.proofs.Alike.{change-at}
@@ -21,17 +20,16 @@ use Rattle.model.proofs.Makes.{creates-file-step, deletes-step, writes-step}
 use Rattle.model.proofs.OneVolume.{well-formed-geo, well-formed-one}
 use Rattle.model.proofs.Paths.{laid-path}
 use Rattle.delete_store.proofs.Removes.{delete-at}
-use Rattle.file.specs.declared.Handle.{Handle}
-use Rattle.file.specs.declared.WriteOut.{WriteOut}
-use Rattle.file.specs.declared.Counted.the-variants as counted
-use Rattle.file.specs.File.{nameOf}
-use Rattle.call_volume.specs.declared.Answer.{Answer}
-use Rattle.call_volume.specs.declared.Answer.the-variants as answer
+use Rattle.handle.specs.declared.Handle.{Handle}
+use Rattle.handle.specs.declared.CountedOut.{CountedOut}
+use Rattle.handle.specs.declared.Counted.the-variants as counted
+use Rattle.handle.specs.Handles.{nameOf}
+use Rattle.limits.specs.declared.Answer.{Answer}
+use Rattle.limits.specs.declared.Answer.the-variants as answer
 use Rattle.call_read.specs.declared.OpenOut.{OpenOut}
 use Rattle.call_change.specs.Changing.{CreatesFile, Deletes, Writes}
 use Rattle.thm_calls.specs.Named.{lastOf}
-use Rattle.thm_calls.proofs.Changing.{volume-at, create-file-tree, create-file-bytes, create-file-kept}
-use Rattle.thm_calls.proofs.Changing.{delete-tree, delete-bytes, delete-kept, write-tree, write-bytes, write-kept}
+use Rattle.thm_calls.proofs.Changing.{volume-at, create-file-tree, create-file-bytes, create-file-kept, delete-tree, delete-bytes, delete-kept, write-tree, write-bytes, write-kept}
 use Rattle.promises.proofs.Answered.{answer-is, counted-is}
 use Rattle.promises.specs.Sequence.{Leads, HandleAt, Call, creates, opens, reads, seeks, writes, deletes, Calls, done, call}
 
@@ -67,99 +65,99 @@ module _ (d a : ℕ) (p : List Name) (t : Tree d) (s : DirAt d a p t) where
 
 -- What a call at the path leaves: a well-formed image by the same numbers, the holding directory at the same address, a step
 -- of the model, and bytes where there were bytes.
-record Next (K a : ℕ) (p : List Name) (n : Name) (I : List ℕ) (w : WellFormed K I) (J : List ℕ) : Type 0 where
-  well : WellFormed K J
-  numbers : geoAt K J ≡ geoAt K I
+record Next (M : Mount) (a : ℕ) (p : List Name) (n : Name) (I : List ℕ) (w : WellFormed M I) (J : List ℕ) : Type 0 where
+  well : WellFormed M J
+  numbers : geoAt M J ≡ geoAt M I
   there : DirAt maxDepth a p (well .tree)
-  step : Step (geoAt K I) maxDepth p n I (w .tree) J (well .tree)
+  step : Step (geoAt M I) maxDepth p n I (w .tree) J (well .tree)
   bytes : Bytes I → Bytes J
 
-module _ (K a : ℕ) (p : List Name) (n : Name) (I J : List ℕ) (w : WellFormed K I) (s : DirAt maxDepth a p (w .tree)) where
+module _ (M : Mount) (a : ℕ) (p : List Name) (n : Name) (I J : List ℕ) (w : WellFormed M I) (s : DirAt maxDepth a p (w .tree)) where
   -- a call that changes nothing
-  stays : J ≡ I → Next K a p n I w J
+  stays : J ≡ I → Next M a p n I w J
   stays e =
-      subst (Next K a p n I w) (sym e) (record { well = w; numbers = refl; there = s; step = quiet refl refl; bytes = λ b. b })
+      subst (Next M a p n I w) (sym e) (record { well = w; numbers = refl; there = s; step = quiet refl refl; bytes = λ b. b })
 
   -- an accepted change, to the tree u
-  made : (u : Tree maxDepth) (left : List Piece) → Makes (geoAt K I) maxDepth u left I J → DirAt maxDepth a p u
-      → Step (geoAt K I) maxDepth p n I (w .tree) J u → (Bytes I → Bytes J) → Next K a p n I w J
+  made : (u : Tree maxDepth) (left : List Piece) → Makes (geoAt M I) maxDepth u left I J → DirAt maxDepth a p u
+      → Step (geoAt M I) maxDepth p n I (w .tree) J u → (Bytes I → Bytes J) → Next M a p n I w J
   made u left m d c b =
-      let v : WellFormed K J
+      let v : WellFormed M J
       = record {
-        numbers = geoAt K I;
-        here = ap (λ (g : Geo). g .K) (sym (well-formed-geo K I w)) ∙ w .here;
+        numbers = geoAt M I;
+        here = refl;
         tree = u;
         volume = m .volume;
       } in
-      record { well = v; numbers = sym (well-formed-geo K J v); there = d; step = c; bytes = b }
+      record { well = v; numbers = sym (well-formed-geo M J v); there = d; step = c; bytes = b }
 
   packed : Packed (s .dir .1)
-  packed = good-find (blockSize (geoAt K I)) maxDepth p (w .tree) (s .dir) (volume-at K I w .laid .good) (s .there) .packed
+  packed = good-find (blockSize (geoAt M I)) maxDepth p (w .tree) (s .dir) (volume-at M I w .laid .good) (s .there) .packed
 
-  created-next : (now : ℕ) → TreeCreatesFile (geoAt K I) maxDepth p n now (w .tree) I J → (Bytes I → Bytes J) → Next K a p n I w J
+  created-next : (now : ℕ) → TreeCreatesFile (geoAt M I) maxDepth p n now (w .tree) I J → (Bytes I → Bytes J) → Next M a p n I w J
   created-next now c =
       made _ [] (c .makes) (created-there maxDepth a p (w .tree) s _ n now _ 0 _ packed)
-      (creates-file-step (geoAt K I) maxDepth p n now (w .tree) I J c)
+      (creates-file-step (geoAt M I) maxDepth p n now (w .tree) I J c)
 
-  deleted-next : (now : ℕ) → TreeDeletes (geoAt K I) maxDepth p n now (w .tree) I J → (Bytes I → Bytes J) → Next K a p n I w J
+  deleted-next : (now : ℕ) → TreeDeletes (geoAt M I) maxDepth p n now (w .tree) I J → (Bytes I → Bytes J) → Next M a p n I w J
   deleted-next now c =
       made _ _ (c .makes) (deleted-there maxDepth a p (w .tree) s n now)
-      (deletes-step (geoAt K I) maxDepth p n now (w .tree) I J c)
+      (deletes-step (geoAt M I) maxDepth p n now (w .tree) I J c)
 
-  written-next : (now c : ℕ) (buf : List ℕ) → TreeWrites (geoAt K I) maxDepth p n now c buf (w .tree) I J → (Bytes I → Bytes J)
-      → Next K a p n I w J
+  written-next : (now c : ℕ) (buf : List ℕ) → TreeWrites (geoAt M I) maxDepth p n now c buf (w .tree) I J → (Bytes I → Bytes J)
+      → Next M a p n I w J
   written-next now c buf m =
       made _ [] (m .makes) (rewritten-there maxDepth a p (w .tree) s n now _ _)
-      (writes-step (geoAt K I) maxDepth p n now (w .tree) I J c buf m)
+      (writes-step (geoAt M I) maxDepth p n now (w .tree) I J c buf m)
 
   -- the calls
   creates-next : (cwd path W Z : List ℕ) (now : ℕ) (o : OpenOut) → Leads p n cwd path → now < 2 ^ 64
-      → CreatesFile K I W cwd path now o J Z → Next K a p n I w J
+      → CreatesFile M I W cwd path now o J Z → Next M a p n I w J
   creates-next cwd path W Z now o l clock c = go (answer-is (o .answer))
     where
-      go : (o .answer ≡ answer.Success) ⊎ ((x : Refusal) × (o .answer ≡ answer.Refused x)) → Next K a p n I w J
+      go : (o .answer ≡ answer.Success) ⊎ ((x : Refusal) × (o .answer ≡ answer.Refused x)) → Next M a p n I w J
       go (inl e) =
-          let m = create-file-tree K I W cwd path now J Z o c w clock e in
+          let m = create-file-tree M I W cwd path now J Z o c w clock e in
           created-next now
-          (subst (λ (m : Name). TreeCreatesFile (geoAt K I) maxDepth p m now (w .tree) I J) (l .last)
-          (subst (λ (q : List Name). TreeCreatesFile (geoAt K I) maxDepth q (lastOf cwd path) now (w .tree) I J) (l .way) m))
-          (λ b. create-file-bytes K I W cwd path now J Z o c b clock e)
-      go (inr e) = stays (create-file-kept K I W cwd path now J Z o c (e .0) (e .1) .0)
+          (subst (λ (m : Name). TreeCreatesFile (geoAt M I) maxDepth p m now (w .tree) I J) (l .last)
+          (subst (λ (q : List Name). TreeCreatesFile (geoAt M I) maxDepth q (lastOf cwd path) now (w .tree) I J) (l .way) m))
+          (λ b. create-file-bytes M I W cwd path now J Z o c b clock e)
+      go (inr e) = stays (create-file-kept M I W cwd path now J Z o c (e .0) (e .1) .0)
 
   deletes-next : (cwd path W Z : List ℕ) (now : ℕ) (r : Answer) → Leads p n cwd path → now < 2 ^ 64
-      → Deletes K I W cwd path now r J Z → Next K a p n I w J
+      → Deletes M I W cwd path now r J Z → Next M a p n I w J
   deletes-next cwd path W Z now r l clock c = go (answer-is r)
     where
-      go : (r ≡ answer.Success) ⊎ ((x : Refusal) × (r ≡ answer.Refused x)) → Next K a p n I w J
+      go : (r ≡ answer.Success) ⊎ ((x : Refusal) × (r ≡ answer.Refused x)) → Next M a p n I w J
       go (inl e) =
-          let m = delete-tree K I W cwd path now J Z r c w clock e in
+          let m = delete-tree M I W cwd path now J Z r c w clock e in
           deleted-next now
-          (subst (λ (m : Name). TreeDeletes (geoAt K I) maxDepth p m now (w .tree) I J) (l .last)
-          (subst (λ (q : List Name). TreeDeletes (geoAt K I) maxDepth q (lastOf cwd path) now (w .tree) I J) (l .way) m))
-          (λ b. delete-bytes K I W cwd path now J Z r c b e)
-      go (inr e) = stays (delete-kept K I W cwd path now J Z r c (e .0) (e .1))
+          (subst (λ (m : Name). TreeDeletes (geoAt M I) maxDepth p m now (w .tree) I J) (l .last)
+          (subst (λ (q : List Name). TreeDeletes (geoAt M I) maxDepth q (lastOf cwd path) now (w .tree) I J) (l .way) m))
+          (λ b. delete-bytes M I W cwd path now J Z r c b e)
+      go (inr e) = stays (delete-kept M I W cwd path now J Z r c (e .0) (e .1))
 
   -- a directory's first address has one path
   path-of : (b : ℕ) (q : List Name) → b ≡ a → DirAt maxDepth b q (w .tree) → q ≡ p
   path-of b q e d =
-      laid-path (geoAt K I) I maxDepth (w .tree) _ q p (d .dir) (s .dir) (volume-at K I w .laid) (d .there) (s .there)
+      laid-path (geoAt M I) I maxDepth (w .tree) _ q p (d .dir) (s .dir) (volume-at M I w .laid) (d .there) (s .there)
       (d .starts ∙ e ∙ sym (s .starts))
 
-  writes-next : (h : Handle) (buf W Z : List ℕ) (now : ℕ) (o : WriteOut) → HandleAt a n h → Bytes buf → now < 2 ^ 64
-      → Writes K I W h buf now o J Z → Next K a p n I w J
+  writes-next : (h : Handle) (buf W Z : List ℕ) (now : ℕ) (o : CountedOut) → HandleAt a n h → Bytes buf → now < 2 ^ 64
+      → Writes M I W h buf now o J Z → Next M a p n I w J
   writes-next h buf W Z now o l d clock c = go (counted-is (o .answer))
     where
-      go : ((k : ℕ) × (o .answer ≡ counted.Bytes k)) ⊎ ((x : Refusal) × (o .answer ≡ counted.Refused x)) → Next K a p n I w J
+      go : ((k : ℕ) × (o .answer ≡ counted.Bytes k)) ⊎ ((x : Refusal) × (o .answer ≡ counted.Refused x)) → Next M a p n I w J
       go (inl e) =
-          let m = write-tree K I W h buf now o J Z c (e .0) w clock (e .1) in
+          let m = write-tree M I W h buf now o J Z c (e .0) w clock (e .1) in
           written-next now (h .position) buf
-          (subst (λ (m : Name). TreeWrites (geoAt K I) maxDepth p m now (h .position) buf (w .tree) I J) (l .name)
-          (subst (λ (q : List Name). TreeWrites (geoAt K I) maxDepth q (nameOf h) now (h .position) buf (w .tree) I J)
+          (subst (λ (m : Name). TreeWrites (geoAt M I) maxDepth p m now (h .position) buf (w .tree) I J) (l .name)
+          (subst (λ (q : List Name). TreeWrites (geoAt M I) maxDepth q (nameOf h) now (h .position) buf (w .tree) I J)
           (path-of (h .dir .0) (m .0) (l .dir) (m .1)) (m .2)))
-          (λ b. write-bytes K I W h buf now o J Z c (e .0) b d (e .1))
-      go (inr e) = stays (write-kept K I W h buf now o J Z c (e .0) (e .1) .0)
+          (λ b. write-bytes M I W h buf now o J Z c (e .0) b d (e .1))
+      go (inr e) = stays (write-kept M I W h buf now o J Z c (e .0) (e .1) .0)
 
-  next : Call K a p n I J → Next K a p n I w J
+  next : Call M a p n I J → Next M a p n I w J
   next (creates cwd path W Z now o l clock c) = creates-next cwd path W Z now o l clock c
   next (opens cwd path o l c e) = stays e
   next (reads h buf out o l c e) = stays e
@@ -169,33 +167,33 @@ module _ (K a : ℕ) (p : List Name) (n : Name) (I J : List ℕ) (w : WellFormed
 
 -- ---- so a sequence is a run
 
-module _ (K a : ℕ) (p : List Name) (n : Name) where
-  runs : {I J : List ℕ} → Calls K a p n I J → (w : WellFormed K I) → DirAt maxDepth a p (w .tree)
-      → (v : WellFormed K J) × Run (geoAt K I) maxDepth p n I (w .tree) J (v .tree) × (Bytes I → Bytes J)
+module _ (M : Mount) (a : ℕ) (p : List Name) (n : Name) where
+  runs : {I J : List ℕ} → Calls M a p n I J → (w : WellFormed M I) → DirAt maxDepth a p (w .tree)
+      → (v : WellFormed M J) × Run (geoAt M I) maxDepth p n I (w .tree) J (v .tree) × (Bytes I → Bytes J)
   runs done w s = (w, run-done, λ b. b)
   runs (call {I} {J} {L} c r) w s =
-      let x = next K a p n I J w s c in
+      let x = next M a p n I J w s c in
       let y = runs r (x .well) (x .there) in
       let run = subst (λ (g : Geo). Run g maxDepth p n J (x .well .tree) L (y .0 .tree)) (x .numbers) (y .1) in
       (y .0, run-call (x .step) run, λ b. y .2 (x .bytes b))
 
-module _ (K : ℕ) (p : List Name) (n : Name) (I J : List ℕ) (w : WellFormed K I) (v : Vacant maxDepth p n (w .tree))
-    (c : Calls K (blocksAt (v .dir .1)) p n I J) where
+module _ (M : Mount) (p : List Name) (n : Name) (I J : List ℕ) (w : WellFormed M I) (v : Vacant maxDepth p n (w .tree))
+    (c : Calls M (blocksAt (v .dir .1)) p n I J) where
   holding : DirAt maxDepth (blocksAt (v .dir .1)) p (w .tree)
   holding = record { dir = v .dir; there = v .there; starts = refl }
 
   -- Whatever calls are made at the path, the image stays a well-formed volume,
-  pub calls-well : WellFormed K J
-  calls-well = runs K (blocksAt (v .dir .1)) p n c w holding .0
+  pub calls-well : WellFormed M J
+  calls-well = runs M (blocksAt (v .dir .1)) p n c w holding .0
 
   -- and where it was bytes, it is bytes.
   calls-bytes : Bytes I → Bytes J
-  calls-bytes = runs K (blocksAt (v .dir .1)) p n c w holding .2
+  calls-bytes = runs M (blocksAt (v .dir .1)) p n c w holding .2
 
   -- D3.
-  pub calls-restore : Bytes I → (u : WellFormed K J) → Vacant maxDepth p n (u .tree)
-      → Restored (geoAt K I) maxDepth p I (w .tree) J
+  pub calls-restore : Bytes I → (u : WellFormed M J) → Vacant maxDepth p n (u .tree)
+      → Restored (geoAt M I) maxDepth p I (w .tree) J
   calls-restore b u e =
-      let r = runs K (blocksAt (v .dir .1)) p n c w holding in
-      demand3 (geoAt K I) maxDepth p n I J (w .tree) (r .0 .tree) b (calls-bytes b) (volume-at K I w) v (r .1)
-      (subst (Vacant maxDepth p n) (well-formed-one K J u (r .0) .1) e)
+      let r = runs M (blocksAt (v .dir .1)) p n c w holding in
+      demand3 (geoAt M I) maxDepth p n I J (w .tree) (r .0 .tree) b (calls-bytes b) (volume-at M I w) v (r .1)
+      (subst (Vacant maxDepth p n) (well-formed-one M J u (r .0) .1) e)

@@ -20,7 +20,7 @@ stays-well =
       create-dir = dir-well;
       delete = deleted-well;
       write = written-well;
-      check = λ K I W Z r c w long. check-well K I W Z r c w (omega (arith, long));
+      check = λ M I W Z r c w long. check-well M I W Z r c w (omega (arith, long));
     }
 
 -- S2.
@@ -42,11 +42,11 @@ path-is-restored = record { well = calls-well; restored = calls-restore }
 pub others-kept : OthersKept
 others-kept =
     record {
-      write = λ K I W h buf now o J Z c k e. write-others K I W h buf now o J Z c k (count-said (o .answer) k e);
-      create-file = λ K I W cwd p now o J Z c a e.
-          create-file-others K I W cwd p now o J Z c (value-said (o .answer) (o .handle) a e);
-      create-dir = λ K I W cwd p now r J Z c e. create-dir-others K I W cwd p now r J Z c (success-said r e);
-      delete = λ K I W cwd p now r J Z c e. delete-others K I W cwd p now r J Z c (success-said r e);
+      write = λ M I W h buf now o J Z c k e. write-others M I W h buf now o J Z c k (count-said (o .answer) k e);
+      create-file = λ M I W cwd p now o J Z c a e.
+          create-file-others M I W cwd p now o J Z c (value-said (o .answer) (o .handle) a e);
+      create-dir = λ M I W cwd p now r J Z c e. create-dir-others M I W cwd p now r J Z c (success-said r e);
+      delete = λ M I W cwd p now r J Z c e. delete-others M I W cwd p now r J Z c (success-said r e);
     }
 
 -- S4.

@@ -15,7 +15,7 @@ refusal-is-exact =
       lists = lists;
       creates-file = creates-file;
       creates-dir = creates-dir;
-      deletes = λ K I W b w long. deletes K I W b w (omega (arith, long));
+      deletes = λ M I W b w long. deletes M I W b w (omega (arith, long));
       writes = writes;
       reads = reads;
     }

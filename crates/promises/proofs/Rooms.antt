@@ -11,12 +11,11 @@ use borrow.Author.Tests.{ne-eqb}
 use Rattle.wire.proofs.Picks.{either, not-both}
 use Rattle.model.specs.Answers.{Reply, accepted, refused, andThen, when, reply, given}
 use Rattle.model.specs.Tree.{Tree, Some}
-use Rattle.model.specs.Geometry.{Geo, geoAt}
+use Rattle.model.specs.Geometry.{Mount, Geo, geoAt}
 use Rattle.model.specs.Volume.{WellFormed, maxDepth}
 use Rattle.model.specs.Calls.{freeBlocks}
 use Rattle.model.specs.Steps.{Bytes}
-use Rattle.model.proofs.Replies.{not-accepted, refused-one, given-yes, given-no, and-then-ok, and-then-no, first-refused}
-use Rattle.model.proofs.Replies.{reply-suc}
+use Rattle.model.proofs.Replies.{not-accepted, refused-one, given-yes, given-no, and-then-ok, and-then-no, first-refused, reply-suc}
 use Rattle.check_bitmap.specs.Tally.{markLong}
 use Rattle.dir_entry.specs.declared.Kind.{Kind}
 use Rattle.dir_entry.specs.declared.Kind.the-variants as kind
@@ -26,13 +25,13 @@ use Rattle.thm_path.specs.Shown.{wayTo}
 use Rattle.create.specs.Creating.{Fresh, badName}
 use Rattle.create.specs.OnTree.{treeRefusal}
 use Rattle.create.proofs.Trees.{tree-full}
-use Rattle.file.specs.declared.Handle.{Handle}
-use Rattle.file.specs.declared.WriteOut.{WriteOut}
-use Rattle.file.specs.OnTree.{NoRoom}
-use Rattle.file.specs.Writing.{targetOf}
-use Rattle.file.specs.Written.{countedSays}
-use Rattle.file.proofs.Targets.{no-room}
-use Rattle.call_volume.specs.declared.Answer.{Answer}
+use Rattle.handle.specs.declared.Handle.{Handle}
+use Rattle.handle.specs.declared.CountedOut.{CountedOut}
+use Rattle.write.specs.OnTree.{NoRoom}
+use Rattle.write.specs.Writing.{targetOf}
+use Rattle.write.specs.Written.{countedSays}
+use Rattle.write.proofs.Targets.{no-room}
+use Rattle.limits.specs.declared.Answer.{Answer}
 use Rattle.call_read.specs.declared.OpenOut.{OpenOut}
 use Rattle.call_volume.specs.Says.{says}
 use Rattle.call_read.specs.Reading.{openSays}
@@ -125,27 +124,27 @@ module _ (g : Geo) (k : Kind) (cwd p : List ℕ) (good : badPath cwd p ≡ false
 
 -- ---- the calls
 
-module _ (K : ℕ) (I W : List ℕ) (b : Bytes I) (w : WellFormed K I) (long : markLong (geoAt K I) ≤ length W) where
-  pub write-full : (h : Handle) (buf : List ℕ) (now : ℕ) (o : WriteOut) (J Z : List ℕ) → Writes K I W h buf now o J Z
-      → (countedSays (o .answer) ≡ refused 9) ↔ NoRoom (geoAt K I) maxDepth (w .tree) h (length buf)
+module _ (M : Mount) (I W : List ℕ) (b : Bytes I) (w : WellFormed M I) (long : markLong (geoAt M I) ≤ length W) where
+  pub write-full : (h : Handle) (buf : List ℕ) (now : ℕ) (o : CountedOut) (J Z : List ℕ) → Writes M I W h buf now o J Z
+      → (countedSays (o .answer) ≡ refused 9) ↔ NoRoom (geoAt M I) maxDepth (w .tree) h (length buf)
   write-full h buf now o J Z c =
-      let r = no-room (geoAt K I) I (w .tree) (volume-at K I w) h (length buf) in
-      let says = write-says K I W b w long h buf now o J Z c in (
-        λ e. r .0 (first-refused (targetOf (geoAt K I) I h (length buf)) (λ x. length buf) 9 (sym says ∙ e)),
+      let r = no-room (geoAt M I) I (w .tree) (volume-at M I w) h (length buf) in
+      let says = write-says M I W b w long h buf now o J Z c in (
+        λ e. r .0 (first-refused (targetOf (geoAt M I) I h (length buf)) (λ x. length buf) 9 (sym says ∙ e)),
         λ n. says ∙ and-then-no 9 (λ x. accepted (length buf)) (r .1 n),
       )
 
   module _ (cwd p : List ℕ) (good : badPath cwd p ≡ false) (now : ℕ) where
-    pub create-full : (o : OpenOut) (J Z : List ℕ) → CreatesFile K I W cwd p now o J Z
-        → (openSays o ≡ refused 9) ↔ CreateFull (geoAt K I) kind.File maxDepth (wayOf cwd p) (lastOf cwd p) (w .tree)
+    pub create-full : (o : OpenOut) (J Z : List ℕ) → CreatesFile M I W cwd p now o J Z
+        → (openSays o ≡ refused 9) ↔ CreateFull (geoAt M I) kind.File maxDepth (wayOf cwd p) (lastOf cwd p) (w .tree)
     create-full o J Z c =
-        let r = full-is (geoAt K I) kind.File cwd p good (w .tree) (freshHandle (lastOf cwd p)) in
-        let says = creates-file K I W b w long cwd p now o J Z c in
+        let r = full-is (geoAt M I) kind.File cwd p good (w .tree) (freshHandle (lastOf cwd p)) in
+        let says = creates-file M I W b w long cwd p now o J Z c in
         (λ e. r .0 (sym says ∙ e), λ f. says ∙ r .1 f)
 
-    pub create-dir-full : (q : Answer) (J Z : List ℕ) → CreatesDir K I W cwd p now q J Z
-        → (says q ≡ refused 9) ↔ CreateFull (geoAt K I) kind.Dir maxDepth (wayOf cwd p) (lastOf cwd p) (w .tree)
+    pub create-dir-full : (q : Answer) (J Z : List ℕ) → CreatesDir M I W cwd p now q J Z
+        → (says q ≡ refused 9) ↔ CreateFull (geoAt M I) kind.Dir maxDepth (wayOf cwd p) (lastOf cwd p) (w .tree)
     create-dir-full q J Z c =
-        let r = full-is (geoAt K I) kind.Dir cwd p good (w .tree) (λ x. tt) in
-        let said = creates-dir K I W b w long cwd p now q J Z c in
+        let r = full-is (geoAt M I) kind.Dir cwd p good (w .tree) (λ x. tt) in
+        let said = creates-dir M I W b w long cwd p now q J Z c in
         (λ e. r .0 (sym said ∙ e), λ f. said ∙ r .1 f)

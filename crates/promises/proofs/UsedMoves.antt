@@ -7,7 +7,7 @@ use native.Mathlib.Omega.{arith}
 use lib.ListN.{length}
 use Rattle.model.specs.Tree.{Name, Cell, Entry, Below, Tree, change, Edit, edit, Some, find}
 use Rattle.model.specs.Render.{ats, nodePieces, view, render, blocks}
-use Rattle.model.specs.Geometry.{blockSize, geoAt, usedCount}
+use Rattle.model.specs.Geometry.{Mount, blockSize, geoAt, usedCount}
 use Rattle.model.specs.Volume.{WellFormed, GoodFile, GoodNode, GoodBelow, maxDepth, blocksFor}
 use Rattle.model.specs.Calls.{Occupied, freeBlocks, fileEntry, refiled, rewrite, rewritten, TreeWrites}
 use Rattle.model.proofs.Areas.{size-large}
@@ -64,25 +64,25 @@ module _ (B d : ℕ) (p : List Name) (n : Name) (now s : ℕ) (es : List Cell) (
       let c = edit-length B d p (λ j. j) f t (o .dir) (o .there) in
       omega (arith, c, dir-length)
 
-module _ (K : ℕ) (I J : List ℕ) (w : WellFormed K I) (p : List Name) (n : Name) (now c : ℕ) (buf : List ℕ)
-    (m : TreeWrites (geoAt K I) maxDepth p n now c buf (w .tree) I J) where
+module _ (M : Mount) (I J : List ℕ) (w : WellFormed M I) (p : List Name) (n : Name) (now c : ℕ) (buf : List ℕ)
+    (m : TreeWrites (geoAt M I) maxDepth p n now c buf (w .tree) I J) where
   -- the file is a good one
-  file-good : GoodFile (blockSize (geoAt K I)) (m .size) (m .cells)
+  file-good : GoodFile (blockSize (geoAt M I)) (m .size) (m .cells)
   unfolding fileEntry
   file-good =
-      let B : ℕ = blockSize (geoAt K I) in
+      let B : ℕ = blockSize (geoAt M I) in
       let d = m .occupied .dir in
-      let g = good-find B maxDepth p (w .tree) d (volume-at K I w .laid .good) (m .occupied .there) in
+      let g = good-find B maxDepth p (w .tree) d (volume-at M I w .laid .good) (m .occupied .there) in
       subst (λ (e : Entry (Below (d .0))). GoodNode B (GoodBelow B (d .0)) (e .node)) (m .is-file)
       (good-lookup B (GoodBelow B (d .0)) n (d .1) (m .occupied .entry) g (m .occupied .held) .below)
 
-  pub used-moves : usedCount (geoAt K J) J + blocksFor (blockSize (geoAt K I)) (m .size)
-      ≡ usedCount (geoAt K I) I + blocksFor (blockSize (geoAt K I)) (c + length buf)
+  pub used-moves : usedCount (geoAt M J) J + blocksFor (blockSize (geoAt M I)) (m .size)
+      ≡ usedCount (geoAt M I) I + blocksFor (blockSize (geoAt M I)) (c + length buf)
   unfolding usedCount
   used-moves =
-      let B : ℕ = blockSize (geoAt K I) in
-      let free : List ℕ = freeBlocks (geoAt K I) maxDepth (w .tree) in
-      let five : 5 ≤ B = omega (arith, size-large (geoAt K I)) in
+      let B : ℕ = blockSize (geoAt M I) in
+      let free : List ℕ = freeBlocks (geoAt M I) maxDepth (w .tree) in
+      let five : 5 ≤ B = omega (arith, size-large (geoAt M I)) in
       let l = rewritten-length B maxDepth p n now (c + length buf) (rewrite B free c buf (m .cells)) (w .tree) (m .occupied)
       (m .time) (m .size) (m .cells) (m .is-file) in
       let r = rewrite-length B (m .size) c free buf (m .cells) five file-good (m .position) (m .room) in
@@ -91,6 +91,6 @@ module _ (K : ℕ) (I J : List ℕ) (w : WellFormed K I) (p : List Name) (n : Na
         l,
         r,
         file-good .long,
-        used-is (geoAt K I) I maxDepth (w .tree) (volume-at K I w),
-        used-is (geoAt K I) J maxDepth _ (m .makes .volume),
+        used-is (geoAt M I) I maxDepth (w .tree) (volume-at M I w),
+        used-is (geoAt M I) J maxDepth _ (m .makes .volume),
       )

@@ -15,20 +15,20 @@ use Rattle.promises.proofs.Gone.{delete-leaves}
 pub work-is-done : WorkIsDone
 work-is-done =
     record {
-      write-then-read = λ K I W h buf now o J Z c k e clock name w. write-then-read K I W h buf now o J Z c k e clock w name;
+      write-then-read = λ M I W h buf now o J Z c k e clock name w. write-then-read M I W h buf now o J Z c k e clock w name;
       write-leaves = write-leaves;
       open-then-read = open-then-read;
-      create-file-leaves = λ K I W cwd p now o J Z c h e clock w v.
-          let r = create-file-leaves K I W cwd p now o J Z c (value-said (o .answer) (o .handle) h e) clock w v in (
+      create-file-leaves = λ M I W cwd p now o J Z c h e clock w v.
+          let r = create-file-leaves M I W cwd p now o J Z c (value-said (o .answer) (o .handle) h e) clock w v in (
             r .0,
             r .1,
             r .2,
             r .3,
-            subst (HandleOf (r .1) (lastOf cwd p) 0 (emptyCell (geoAt K I) (r .0) ∷ []))
+            subst (HandleOf (r .1) (lastOf cwd p) 0 (emptyCell (geoAt M I) (r .0) ∷ []))
                 (value-is (o .answer) (o .handle) h e) (r .4),
           );
-      create-dir-leaves = λ K I W cwd p now r J Z c e. create-dir-leaves K I W cwd p now r J Z c (success-said r e);
-      create-changes = λ K I W cwd p now o J Z c h e clock w. create-changes K I W cwd p now o J Z c w clock
+      create-dir-leaves = λ M I W cwd p now r J Z c e. create-dir-leaves M I W cwd p now r J Z c (success-said r e);
+      create-changes = λ M I W cwd p now o J Z c h e clock w. create-changes M I W cwd p now o J Z c w clock
           (value-said (o .answer) (o .handle) h e);
-      delete-leaves = λ K I W cwd p now r J Z c e clock w. delete-leaves K I W cwd p now r J Z c w clock (success-said r e);
+      delete-leaves = λ M I W cwd p now r J Z c e clock w. delete-leaves M I W cwd p now r J Z c w clock (success-said r e);
     }

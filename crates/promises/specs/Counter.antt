@@ -5,13 +5,14 @@ use mathlib.Core.Option.{Option, none, some}
 use mathlib.Core.List.{List}
 use Prim.Native.Nat.{ℕ, _+_, _*_, _≤_, _<_}
 use lib.ListN.{getD}
+use Rattle.model.specs.Geometry.{Mount}
 use Rattle.model.specs.Tree.{Name, Cell, Node, file, device, sub, Tree, then, lookup, find}
 use Rattle.model.specs.Render.{count}
 use Rattle.model.specs.Volume.{WellFormed, maxDepth}
 use Rattle.model.specs.Calls.{fileAt, DirAt, places}
-use Rattle.file.specs.declared.Handle.{Handle}
-use Rattle.file.specs.File.{nameOf}
-use Rattle.file.specs.OnTree.{Stale}
+use Rattle.handle.specs.declared.Handle.{Handle}
+use Rattle.handle.specs.Handles.{nameOf}
+use Rattle.handle.specs.OnTree.{Stale}
 
 -- size, time and blocks of the device at a path, as `fileAt` says them of a file
 unfoldable pub deviceOf : {X : Type 0} → ℕ → Node X → Option (ℕ × ℕ × List Cell)
@@ -37,5 +38,5 @@ Another d t h q m = DirAt d (h .dir .0) q t → nameOf h ≡ m → ⊥
 
 -- S4, stale at a call's entry: on the tree of the image there, whatever the handle was before and wherever it was opened (H3).
 -- An image that is not well formed has no tree; there the check refuses every write.
-abbrev pub StaleAtEntry : ℕ → List ℕ → Handle → Type 0
-StaleAtEntry K I h = (w : WellFormed K I) → Stale maxDepth (w .tree) h
+abbrev pub StaleAtEntry : Mount → List ℕ → Handle → Type 0
+StaleAtEntry M I h = (w : WellFormed M I) → Stale maxDepth (w .tree) h

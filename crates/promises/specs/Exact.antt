@@ -1,20 +1,20 @@
 -- What an accepted changing call does, on the tree, and what the check part of every changing call decides. Definitions alone.
--- K is the superblock's block, I the image at a call's entry and J after it, W the work buffer before and Z after.
+-- M is the mount, I the image at a call's entry and J after it, W the work buffer before and Z after.
 use mathlib.Core.Path.{_≡_}
 use mathlib.Core.Logic.{_↔_}
 use mathlib.Core.List.{List}
 use Prim.Native.Nat.{ℕ, _^_, _≤_, _<_}
 use Rattle.model.specs.Answers.{accepted}
 use Rattle.model.specs.Tree.{Name}
-use Rattle.model.specs.Geometry.{geoAt}
+use Rattle.model.specs.Geometry.{Mount, geoAt}
 use Rattle.model.specs.Volume.{WellFormed, maxDepth}
 use Rattle.model.specs.Calls.{DirAt, TreeCreatesFile, TreeCreatesDir, TreeDeletes, TreeWrites}
 use Rattle.model.specs.Steps.{Bytes}
-use Rattle.file.specs.declared.Handle.{Handle}
-use Rattle.file.specs.declared.WriteOut.{WriteOut}
-use Rattle.file.specs.File.{nameOf}
-use Rattle.file.specs.Written.{countedSays}
-use Rattle.call_volume.specs.declared.Answer.{Answer}
+use Rattle.handle.specs.declared.Handle.{Handle}
+use Rattle.handle.specs.declared.CountedOut.{CountedOut}
+use Rattle.handle.specs.Handles.{nameOf}
+use Rattle.write.specs.Written.{countedSays}
+use Rattle.limits.specs.declared.Answer.{Answer}
 use Rattle.call_read.specs.declared.OpenOut.{OpenOut}
 use Rattle.call_volume.specs.Says.{says}
 use Rattle.call_read.specs.Reading.{openSays}
@@ -26,31 +26,31 @@ use Rattle.thm_calls.specs.Named.{wayOf, lastOf}
 -- volume's tree: the tree edited so, laid out in the image, and every byte around it as it was (C14). A time has 8 bytes.
 pub record CallsAreExact : Type 0 where
   -- C9
-  pub create-file : (K : ℕ) (I W cwd p : List ℕ) (now : ℕ) (o : OpenOut) (J Z : List ℕ) → CreatesFile K I W cwd p now o J Z
+  pub create-file : (M : Mount) (I W cwd p : List ℕ) (now : ℕ) (o : OpenOut) (J Z : List ℕ) → CreatesFile M I W cwd p now o J Z
       → Bytes I → now < 2 ^ 64 → (h : Handle) → openSays o ≡ accepted h
-      → (w : WellFormed K I) × TreeCreatesFile (geoAt K I) maxDepth (wayOf cwd p) (lastOf cwd p) now (w .tree) I J
+      → (w : WellFormed M I) × TreeCreatesFile (geoAt M I) maxDepth (wayOf cwd p) (lastOf cwd p) now (w .tree) I J
   -- C10
-  pub create-dir : (K : ℕ) (I W cwd p : List ℕ) (now : ℕ) (r : Answer) (J Z : List ℕ) → CreatesDir K I W cwd p now r J Z
+  pub create-dir : (M : Mount) (I W cwd p : List ℕ) (now : ℕ) (r : Answer) (J Z : List ℕ) → CreatesDir M I W cwd p now r J Z
       → Bytes I → now < 2 ^ 64 → says r ≡ accepted tt
-      → (w : WellFormed K I) × TreeCreatesDir (geoAt K I) maxDepth (wayOf cwd p) (lastOf cwd p) now (w .tree) I J
+      → (w : WellFormed M I) × TreeCreatesDir (geoAt M I) maxDepth (wayOf cwd p) (lastOf cwd p) now (w .tree) I J
   -- C11
-  pub delete : (K : ℕ) (I W cwd p : List ℕ) (now : ℕ) (r : Answer) (J Z : List ℕ) → Deletes K I W cwd p now r J Z
+  pub delete : (M : Mount) (I W cwd p : List ℕ) (now : ℕ) (r : Answer) (J Z : List ℕ) → Deletes M I W cwd p now r J Z
       → Bytes I → now < 2 ^ 64 → says r ≡ accepted tt
-      → (w : WellFormed K I) × TreeDeletes (geoAt K I) maxDepth (wayOf cwd p) (lastOf cwd p) now (w .tree) I J
+      → (w : WellFormed M I) × TreeDeletes (geoAt M I) maxDepth (wayOf cwd p) (lastOf cwd p) now (w .tree) I J
   -- C12, H4: the handle's directory is the one that the path q leads to, and the file in it is the one that the handle names.
-  pub write : (K : ℕ) (I W : List ℕ) (h : Handle) (buf : List ℕ) (now : ℕ) (o : WriteOut) (J Z : List ℕ)
-      → Writes K I W h buf now o J Z
+  pub write : (M : Mount) (I W : List ℕ) (h : Handle) (buf : List ℕ) (now : ℕ) (o : CountedOut) (J Z : List ℕ)
+      → Writes M I W h buf now o J Z
       → Bytes I → now < 2 ^ 64 → (k : ℕ) → countedSays (o .answer) ≡ accepted k
-      → (w : WellFormed K I) × (q : List Name) × DirAt maxDepth (h .dir .0) q (w .tree)
-      × TreeWrites (geoAt K I) maxDepth q (nameOf h) now (h .position) buf (w .tree) I J
+      → (w : WellFormed M I) × (q : List Name) × DirAt maxDepth (h .dir .0) q (w .tree)
+      × TreeWrites (geoAt M I) maxDepth q (nameOf h) now (h .position) buf (w .tree) I J
 
 -- S7: what the check part of a changing call (`checkRefusal`, with a work buffer of len bytes) gives for a list of bytes I.
 -- `checkCall` is 1, 2, 3 or 16, or 0 where none of them is given.
 pub record CheckIsExact : Type 0 where
   -- It gives one of those where there is one,
-  pub earlier : (K : ℕ) (I : List ℕ) (len : ℕ) → 1 ≤ checkCall K I len → checkRefusal K I len ≡ checkCall K I len
+  pub earlier : (M : Mount) (I : List ℕ) (len : ℕ) → 1 ≤ checkCall M I len → checkRefusal M I len ≡ checkCall M I len
   -- else nothing exactly for a well-formed volume,
-  pub passes : (K : ℕ) (I : List ℕ) (len : ℕ) → Bytes I → (checkRefusal K I len ≡ 0) ↔ ((checkCall K I len ≡ 0) × WellFormed K I)
+  pub passes : (M : Mount) (I : List ℕ) (len : ℕ) → Bytes I → (checkRefusal M I len ≡ 0) ↔ ((checkCall M I len ≡ 0) × WellFormed M I)
   -- and R17 exactly for what is none.
-  pub damaged : (K : ℕ) (I : List ℕ) (len : ℕ) → Bytes I
-      → (checkRefusal K I len ≡ 17) ↔ ((checkCall K I len ≡ 0) × (WellFormed K I → ⊥))
+  pub damaged : (M : Mount) (I : List ℕ) (len : ℕ) → Bytes I
+      → (checkRefusal M I len ≡ 17) ↔ ((checkCall M I len ≡ 0) × (WellFormed M I → ⊥))

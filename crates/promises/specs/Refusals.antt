@@ -14,7 +14,7 @@ use Rattle.wire.specs.Pick.{pick, same}
 use Rattle.model.specs.Answers.{Reply, accepted, refused, andThen, when, firstOf, reply, given, settle}
 use Rattle.model.specs.Tree.{Name, Cell, Node, file, device, sub, Entry, Below, Tree, then, entriesOf, lookup, sum, Some}
 use Rattle.model.specs.Render.{cellsAt, blocksAt, padded, sizeOf, view}
-use Rattle.model.specs.Geometry.{Geo, blockSize, geoAt}
+use Rattle.model.specs.Geometry.{Mount, Geo, blockSize, geoAt}
 use Rattle.model.specs.Volume.{WellFormed, fileLimit, maxDepth}
 use Rattle.model.specs.Calls.{fileAt, DirAt, pathTo, freeBlocks, entryBlock, contents}
 use Rattle.model.specs.Steps.{Bytes}
@@ -27,14 +27,14 @@ use Rattle.dir.specs.Resolve.{onName}
 use Rattle.thm_path.specs.Shown.{wayTo}
 use Rattle.create.specs.Creating.{Fresh, badName}
 use Rattle.create.specs.OnTree.{treeRefusal}
-use Rattle.file.specs.declared.Handle.{Handle}
-use Rattle.file.specs.declared.ReadOut.{ReadOut}
-use Rattle.file.specs.declared.WriteOut.{WriteOut}
-use Rattle.file.specs.File.{nameOf, staleFields, moved, toRead}
-use Rattle.file.specs.Writing.{tooLong, blocksToAdd}
-use Rattle.file.specs.OnTree.{NoRoom}
-use Rattle.file.specs.Written.{countedSays}
-use Rattle.call_volume.specs.declared.Answer.{Answer}
+use Rattle.handle.specs.declared.Handle.{Handle}
+use Rattle.handle.specs.declared.CountedOut.{CountedOut}
+use Rattle.handle.specs.Handles.{nameOf, staleFields, moved}
+use Rattle.file_read.specs.Read.{toRead}
+use Rattle.write.specs.Writing.{tooLong, blocksToAdd}
+use Rattle.write.specs.OnTree.{NoRoom}
+use Rattle.write.specs.Written.{countedSays}
+use Rattle.limits.specs.declared.Answer.{Answer}
 use Rattle.call_read.specs.declared.OpenOut.{OpenOut}
 use Rattle.call_read.specs.declared.InfoOut.{InfoOut}
 use Rattle.call_read.specs.declared.Listing.{Listing}
@@ -182,31 +182,31 @@ writeNumber g h len t =
 -- where it gives a value, with that value. Changing calls have a work buffer that is long enough (R16) and an image of bytes, as
 -- every image is.
 pub record RefusalIsExact : Type 0 where
-  pub opens : (K : ℕ) (I : List ℕ) (w : WellFormed K I) (cwd p : List ℕ) (o : OpenOut) → Opens K I cwd p o
+  pub opens : (M : Mount) (I : List ℕ) (w : WellFormed M I) (cwd p : List ℕ) (o : OpenOut) → Opens M I cwd p o
       → openSays o ≡ openAnswer cwd p (w .tree)
-  pub informs : (K : ℕ) (I : List ℕ) (w : WellFormed K I) (cwd p : List ℕ) (o : InfoOut) → Informs K I cwd p o
-      → infoSays o ≡ infoAnswer (blockSize (geoAt K I)) cwd p (w .tree)
+  pub informs : (M : Mount) (I : List ℕ) (w : WellFormed M I) (cwd p : List ℕ) (o : InfoOut) → Informs M I cwd p o
+      → infoSays o ≡ infoAnswer (blockSize (geoAt M I)) cwd p (w .tree)
   -- the buffer is buf before and out after
-  pub lists : (K : ℕ) (I : List ℕ) (w : WellFormed K I) (cwd p : List ℕ) (i : ℕ) (buf out : List ℕ) (q : Listing)
-      → Lists K I cwd p i buf q out
+  pub lists : (M : Mount) (I : List ℕ) (w : WellFormed M I) (cwd p : List ℕ) (i : ℕ) (buf out : List ℕ) (q : Listing)
+      → Lists M I cwd p i buf q out
       → (listSays q ≡ listAnswer cwd p i (length buf) (w .tree))
-      × (out ≡ splice buf 0 (recordsIn (blockSize (geoAt K I)) i (length buf) (dirAnswer cwd p (w .tree))))
-  pub creates-file : (K : ℕ) (I W : List ℕ) → Bytes I → (w : WellFormed K I) → markLong (geoAt K I) ≤ length W
-      → (cwd p : List ℕ) (now : ℕ) (o : OpenOut) (J Z : List ℕ) → CreatesFile K I W cwd p now o J Z
-      → openSays o ≡ andThen (createAnswer (geoAt K I) File cwd p (w .tree)) (λ f. accepted (freshHandle (lastOf cwd p) f))
-  pub creates-dir : (K : ℕ) (I W : List ℕ) → Bytes I → (w : WellFormed K I) → markLong (geoAt K I) ≤ length W
-      → (cwd p : List ℕ) (now : ℕ) (r : Answer) (J Z : List ℕ) → CreatesDir K I W cwd p now r J Z
-      → says r ≡ plainly (createAnswer (geoAt K I) Dir cwd p (w .tree))
-  pub deletes : (K : ℕ) (I W : List ℕ) → Bytes I → (w : WellFormed K I) → markLong (geoAt K I) ≤ length W
-      → (cwd p : List ℕ) (now : ℕ) (r : Answer) (J Z : List ℕ) → Deletes K I W cwd p now r J Z
+      × (out ≡ splice buf 0 (recordsIn (blockSize (geoAt M I)) i (length buf) (dirAnswer cwd p (w .tree))))
+  pub creates-file : (M : Mount) (I W : List ℕ) → Bytes I → (w : WellFormed M I) → markLong (geoAt M I) ≤ length W
+      → (cwd p : List ℕ) (now : ℕ) (o : OpenOut) (J Z : List ℕ) → CreatesFile M I W cwd p now o J Z
+      → openSays o ≡ andThen (createAnswer (geoAt M I) File cwd p (w .tree)) (λ f. accepted (freshHandle (lastOf cwd p) f))
+  pub creates-dir : (M : Mount) (I W : List ℕ) → Bytes I → (w : WellFormed M I) → markLong (geoAt M I) ≤ length W
+      → (cwd p : List ℕ) (now : ℕ) (r : Answer) (J Z : List ℕ) → CreatesDir M I W cwd p now r J Z
+      → says r ≡ plainly (createAnswer (geoAt M I) Dir cwd p (w .tree))
+  pub deletes : (M : Mount) (I W : List ℕ) → Bytes I → (w : WellFormed M I) → markLong (geoAt M I) ≤ length W
+      → (cwd p : List ℕ) (now : ℕ) (r : Answer) (J Z : List ℕ) → Deletes M I W cwd p now r J Z
       → says r ≡ deleteAnswer cwd p (w .tree)
-  pub writes : (K : ℕ) (I W : List ℕ) → Bytes I → (w : WellFormed K I) → markLong (geoAt K I) ≤ length W
-      → (h : Handle) (buf : List ℕ) (now : ℕ) (o : WriteOut) (J Z : List ℕ) → Writes K I W h buf now o J Z
-      → countedSays (o .answer) ≡ reply (writeNumber (geoAt K I) h (length buf) (w .tree)) (length buf)
+  pub writes : (M : Mount) (I W : List ℕ) → Bytes I → (w : WellFormed M I) → markLong (geoAt M I) ≤ length W
+      → (h : Handle) (buf : List ℕ) (now : ℕ) (o : CountedOut) (J Z : List ℕ) → Writes M I W h buf now o J Z
+      → countedSays (o .answer) ≡ reply (writeNumber (geoAt M I) h (length buf) (w .tree)) (length buf)
   -- Of a handle whose directory is one of the tree, as it is of a handle that a call answered while that directory stands. Read
   -- does not ask for it (H4), and through a made-up handle it walks any blocks. (A handle's name is an array of 255 bytes.)
-  pub reads : (K : ℕ) (I : List ℕ) (w : WellFormed K I) (h : Handle) (q : List Name) → DirAt maxDepth (h .dir .0) q (w .tree)
-      → length (h .name) ≡ 255 → (buf out : List ℕ) (o : ReadOut) → Reads K I h buf out o
+  pub reads : (M : Mount) (I : List ℕ) (w : WellFormed M I) (h : Handle) (q : List Name) → DirAt maxDepth (h .dir .0) q (w .tree)
+      → length (h .name) ≡ 255 → (buf out : List ℕ) (o : CountedOut) → Reads M I h buf out o
       → (countedSays (o .answer) ≡ reply (readNumber h (w .tree)) (toRead h (length buf)))
       × (o .handle ≡ settle (readNumber h (w .tree)) (moved h (h .position + toRead h (length buf))) h)
       × (out ≡ settle (readNumber h (w .tree)) (splice buf 0 (bytesFrom (h .position) (length buf) (fileBy h (w .tree)))) buf)
@@ -214,12 +214,12 @@ pub record RefusalIsExact : Type 0 where
 -- R9, both ways: 9 is given exactly where none of the refusals before it holds and fewer blocks are free in reach than the call
 -- would take.
 pub record RoomIsExact : Type 0 where
-  pub write-full : (K : ℕ) (I W : List ℕ) → Bytes I → (w : WellFormed K I) → markLong (geoAt K I) ≤ length W
-      → (h : Handle) (buf : List ℕ) (now : ℕ) (o : WriteOut) (J Z : List ℕ) → Writes K I W h buf now o J Z
-      → (countedSays (o .answer) ≡ refused 9) ↔ NoRoom (geoAt K I) maxDepth (w .tree) h (length buf)
-  pub create-full : (K : ℕ) (I W : List ℕ) → Bytes I → (w : WellFormed K I) → markLong (geoAt K I) ≤ length W
-      → (cwd p : List ℕ) → badPath cwd p ≡ false → (now : ℕ) (o : OpenOut) (J Z : List ℕ) → CreatesFile K I W cwd p now o J Z
-      → (openSays o ≡ refused 9) ↔ CreateFull (geoAt K I) File maxDepth (wayOf cwd p) (lastOf cwd p) (w .tree)
-  pub create-dir-full : (K : ℕ) (I W : List ℕ) → Bytes I → (w : WellFormed K I) → markLong (geoAt K I) ≤ length W
-      → (cwd p : List ℕ) → badPath cwd p ≡ false → (now : ℕ) (r : Answer) (J Z : List ℕ) → CreatesDir K I W cwd p now r J Z
-      → (says r ≡ refused 9) ↔ CreateFull (geoAt K I) Dir maxDepth (wayOf cwd p) (lastOf cwd p) (w .tree)
+  pub write-full : (M : Mount) (I W : List ℕ) → Bytes I → (w : WellFormed M I) → markLong (geoAt M I) ≤ length W
+      → (h : Handle) (buf : List ℕ) (now : ℕ) (o : CountedOut) (J Z : List ℕ) → Writes M I W h buf now o J Z
+      → (countedSays (o .answer) ≡ refused 9) ↔ NoRoom (geoAt M I) maxDepth (w .tree) h (length buf)
+  pub create-full : (M : Mount) (I W : List ℕ) → Bytes I → (w : WellFormed M I) → markLong (geoAt M I) ≤ length W
+      → (cwd p : List ℕ) → badPath cwd p ≡ false → (now : ℕ) (o : OpenOut) (J Z : List ℕ) → CreatesFile M I W cwd p now o J Z
+      → (openSays o ≡ refused 9) ↔ CreateFull (geoAt M I) File maxDepth (wayOf cwd p) (lastOf cwd p) (w .tree)
+  pub create-dir-full : (M : Mount) (I W : List ℕ) → Bytes I → (w : WellFormed M I) → markLong (geoAt M I) ≤ length W
+      → (cwd p : List ℕ) → badPath cwd p ≡ false → (now : ℕ) (r : Answer) (J Z : List ℕ) → CreatesDir M I W cwd p now r J Z
+      → (says r ≡ refused 9) ↔ CreateFull (geoAt M I) Dir maxDepth (wayOf cwd p) (lastOf cwd p) (w .tree)

@@ -2,16 +2,16 @@
 use mathlib.Core.Path.{_≡_}
 use mathlib.Core.List.{List}
 use Prim.Native.Nat.{ℕ, _^_, _<_}
+use Rattle.model.specs.Geometry.{Mount}
 use Rattle.model.specs.Tree.{Name}
 use Rattle.model.specs.Steps.{Bytes}
-use Rattle.file.specs.declared.Handle.{Handle}
-use Rattle.file.specs.declared.SeekFrom.{SeekFrom}
-use Rattle.file.specs.declared.Sought.{Sought}
-use Rattle.file.specs.declared.ReadOut.{ReadOut}
-use Rattle.file.specs.declared.WriteOut.{WriteOut}
-use Rattle.file.specs.File.{nameOf}
-use Rattle.file.specs.Post.{SoughtIs}
-use Rattle.call_volume.specs.declared.Answer.{Answer}
+use Rattle.handle.specs.declared.Handle.{Handle}
+use Rattle.handle.specs.declared.SeekFrom.{SeekFrom}
+use Rattle.handle.specs.declared.Sought.{Sought}
+use Rattle.handle.specs.declared.CountedOut.{CountedOut}
+use Rattle.handle.specs.Handles.{nameOf}
+use Rattle.handle.specs.Post.{SoughtIs}
+use Rattle.limits.specs.declared.Answer.{Answer}
 use Rattle.call_read.specs.declared.OpenOut.{OpenOut}
 use Rattle.call_read.specs.Reading.{Opens, Reads}
 use Rattle.call_change.specs.Changing.{CreatesFile, Deletes, Writes}
@@ -31,18 +31,18 @@ pub record HandleAt (a : ℕ) (n : Name) (h : Handle) : Type 0 where
 
 -- D3, one call at the path, from the image I to J, accepted or refused, with any time (of 8 bytes), buffer (of bytes) and work
 -- buffer. A create is create_file. Open, read and seek cannot write the image: J is I.
-pub data Call (K a : ℕ) (p : List Name) (n : Name) (I J : List ℕ) : Type 0 where
+pub data Call (M : Mount) (a : ℕ) (p : List Name) (n : Name) (I J : List ℕ) : Type 0 where
   creates : (cwd path W Z : List ℕ) (time : ℕ) (o : OpenOut) → Leads p n cwd path → time < 2 ^ 64
-      → CreatesFile K I W cwd path time o J Z → Call K a p n I J
-  opens : (cwd path : List ℕ) (o : OpenOut) → Leads p n cwd path → Opens K I cwd path o → J ≡ I → Call K a p n I J
-  reads : (h : Handle) (buf out : List ℕ) (o : ReadOut) → HandleAt a n h → Reads K I h buf out o → J ≡ I → Call K a p n I J
-  seeks : (h : Handle) (from : SeekFrom) (s : Sought) → HandleAt a n h → SoughtIs h from s → J ≡ I → Call K a p n I J
-  writes : (h : Handle) (buf W Z : List ℕ) (time : ℕ) (o : WriteOut) → HandleAt a n h → Bytes buf → time < 2 ^ 64
-      → Writes K I W h buf time o J Z → Call K a p n I J
+      → CreatesFile M I W cwd path time o J Z → Call M a p n I J
+  opens : (cwd path : List ℕ) (o : OpenOut) → Leads p n cwd path → Opens M I cwd path o → J ≡ I → Call M a p n I J
+  reads : (h : Handle) (buf out : List ℕ) (o : CountedOut) → HandleAt a n h → Reads M I h buf out o → J ≡ I → Call M a p n I J
+  seeks : (h : Handle) (from : SeekFrom) (s : Sought) → HandleAt a n h → SoughtIs h from s → J ≡ I → Call M a p n I J
+  writes : (h : Handle) (buf W Z : List ℕ) (time : ℕ) (o : CountedOut) → HandleAt a n h → Bytes buf → time < 2 ^ 64
+      → Writes M I W h buf time o J Z → Call M a p n I J
   deletes : (cwd path W Z : List ℕ) (time : ℕ) (r : Answer) → Leads p n cwd path → time < 2 ^ 64
-      → Deletes K I W cwd path time r J Z → Call K a p n I J
+      → Deletes M I W cwd path time r J Z → Call M a p n I J
 
 -- D3, any number of them, each on the image that the one before left.
-pub data Calls (K a : ℕ) (p : List Name) (n : Name) : List ℕ → List ℕ → Type 0 where
-  done : {I : List ℕ} → Calls K a p n I I
-  call : {I J L : List ℕ} → Call K a p n I J → Calls K a p n J L → Calls K a p n I L
+pub data Calls (M : Mount) (a : ℕ) (p : List Name) (n : Name) : List ℕ → List ℕ → Type 0 where
+  done : {I : List ℕ} → Calls M a p n I I
+  call : {I J L : List ℕ} → Call M a p n I J → Calls M a p n J L → Calls M a p n I L

@@ -15,9 +15,6 @@ ghost use Rattle.model.specs.Calls.{pathTo};
 ghost use Rattle.super_block.specs.Super.{geoOf, Fit};
 ghost use Rattle.reached.specs.Reach.{onDir, reaches, hasPath};
 
-// The levels of directories below the root.
-const MAX_DEPTH: u32 = 16;
-
 // Whether the directory target is the one at dir, or one below it by at most depth levels. A walk that ends in damage has
 // no more entries.
 fn dir_reaches(img: &[u8], s: SuperBlock, target: Addr, depth: u32, dir: Addr) -> bool
@@ -69,5 +66,5 @@ pub fn reached(img: &[u8], s: SuperBlock, target: Addr) -> bool
     ensures { λ r. ⌜ ((t : Tree maxDepth) (u : ℕ) → Laid (geoOf s) (now (img .entry)) maxDepth t u → r ≡ hasPath (pathTo maxDepth (target .0) t)) ⌝ }
 {
     let d = s.area;
-    dir_reaches(img, s, target, MAX_DEPTH, d)
+    dir_reaches(img, s, target, limits::MAX_DEPTH, d)
 }

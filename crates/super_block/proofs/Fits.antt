@@ -4,16 +4,16 @@ use mathlib.Core.List.{List}
 use Prim.Native.Nat.{ℕ, _+_, _-_, _*_, _≤_, _<_}
 use native.Mathlib.Omega.{arith}
 use lib.ListN.{length}
-use Rattle.model.specs.Geometry.{Geo, geo, geoAt, formatGeo, dataAt, reach, Sound, openRefusal, formatRefusal, countAt}
-use Rattle.model.proofs.Areas.{area, few}
+use Rattle.model.specs.Geometry.{Mount, mount, Geo, geo, geoAt, formatGeo, dataAt, reach, Sound, openRefusal, formatRefusal, countAt}
+use Rattle.model.proofs.Areas.{area, few, sound-geo}
 use Rattle.model.proofs.Opens.{opens-sound, format-sound}
 use Rattle.model.specs.Volume.{Volume, WellFormed, maxDepth}
 use Rattle.model.proofs.OneVolume.{well-formed-geo}
 use Rattle.super_block.specs.declared.SuperBlock.{SuperBlock}
-use Rattle.super_block.specs.Super.{geoOf, superBlock, Fit}
+use Rattle.super_block.specs.Super.{mountOf, geoOf, superBlock, Fit}
 
 -- the struct of sound numbers fits
-pub fit-of : (g : Geo) (I : List ℕ) → g ≡ geo (g .K) (g .n) → Sound g (length I) → Fit (superBlock g) I
+pub fit-of : (g : Geo) (I : List ℕ) → g ≡ geo (mount (g .K)) (g .n) → Sound g (length I) → Fit (superBlock g) I
 fit-of g I e s = record {
   bitmap = refl;
   area = ap dataAt e;
@@ -22,11 +22,22 @@ fit-of g I e s = record {
 }
 
 -- so does a struct that was read from the image, or made for it
-pub opened-fit : (K : ℕ) (I : List ℕ) (s : SuperBlock) → openRefusal K I ≡ 0 → s ≡ superBlock (geoAt K I) → Fit s I
-opened-fit K I s e f = subst (λ (x : SuperBlock). Fit x I) (sym f) (fit-of (geoAt K I) I refl (opens-sound K I e .0))
+pub opened-fit : (M : Mount) (I : List ℕ) (s : SuperBlock) → openRefusal M I ≡ 0 → s ≡ superBlock (geoAt M I) → Fit s I
+opened-fit M I s e f =
+    let d : Sound (geoAt M I) (length I) = opens-sound M I e .0 in
+    subst (λ (x : SuperBlock). Fit x I) (sym f) (fit-of (geoAt M I) I (sound-geo _ _ d) d)
 
-pub made-fit : (K : ℕ) (I : List ℕ) (s : SuperBlock) → formatRefusal K (length I) ≡ 0 → s ≡ superBlock (formatGeo K (length I)) → Fit s I
-made-fit K I s e f = subst (λ (x : SuperBlock). Fit x I) (sym f) (fit-of (formatGeo K (length I)) I refl (format-sound K (length I) e))
+pub made-fit : (M : Mount) (I : List ℕ) (s : SuperBlock) → formatRefusal M (length I) ≡ 0 → s ≡ superBlock (formatGeo M (length I)) → Fit s I
+made-fit M I s e f =
+    let d : Sound (formatGeo M (length I)) (length I) = format-sound M (length I) e in
+    subst (λ (x : SuperBlock). Fit x I) (sym f) (fit-of (formatGeo M (length I)) I (sound-geo _ _ d) d)
+
+-- Its numbers are then those of the image, or those that are made.
+pub opened-geo : (M : Mount) (I : List ℕ) (s : SuperBlock) → openRefusal M I ≡ 0 → s ≡ superBlock (geoAt M I) → geoOf s ≡ geoAt M I
+opened-geo M I s e f = ap geoOf f ∙ sym (sound-geo (geoAt M I) (length I) (opens-sound M I e .0))
+
+pub made-geo : (M : Mount) (len : ℕ) (s : SuperBlock) → formatRefusal M len ≡ 0 → s ≡ superBlock (formatGeo M len) → geoOf s ≡ formatGeo M len
+made-geo M len s e f = ap geoOf f ∙ sym (sound-geo (formatGeo M len) len (format-sound M len e))
 
 -- it goes by the image's length alone
 pub fit-long : {s : SuperBlock} {I J : List ℕ} → length J ≡ length I → Fit s I → Fit s J
@@ -75,5 +86,5 @@ pub fit-inside : (s : SuperBlock) (I J : List ℕ) (a b : ℕ) → Fit s I → l
 fit-inside s I J a b f e q h = omega (arith, placed f .inside)
 
 -- The volume of a checked image, by the struct's own numbers.
-pub well-volume : (s : SuperBlock) (I : List ℕ) (w : WellFormed (s .addr .0) I) → s .blocks ≡ countAt (s .addr .0) I → Volume (geoOf s) I maxDepth (w .tree)
-well-volume s I w b = subst (λ (g : Geo). Volume g I maxDepth (w .tree)) (well-formed-geo (s .addr .0) I w ∙ ap (geo (s .addr .0)) (sym b)) (w .volume)
+pub well-volume : (s : SuperBlock) (I : List ℕ) (w : WellFormed (mountOf s) I) → s .blocks ≡ countAt (mountOf s) I → Volume (geoOf s) I maxDepth (w .tree)
+well-volume s I w b = subst (λ (g : Geo). Volume g I maxDepth (w .tree)) (well-formed-geo (mountOf s) I w ∙ ap (geo (mountOf s)) (sym b)) (w .volume)

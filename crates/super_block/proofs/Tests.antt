@@ -1,5 +1,5 @@
 -- The tests of refusals 1 to 3 as code makes them; the stores of a superblock.
-use mathlib.Core.Path.{_≡_, sym, ap, _∙_, subst}
+use mathlib.Core.Path.{_≡_, refl, sym, ap, _∙_, subst}
 use mathlib.Core.Bool.{Bool, true, false}
 use mathlib.Core.List.{List, [], _∷_, _++_, append-assoc}
 use Prim.Native.Nat.{ℕ, _+_, _-_, _*_, _/_, _%_, _≤_, _<_}
@@ -9,40 +9,44 @@ use lib.ListN.{length, length-append, length-replicate}
 use borrow.Author.Tests.{eq-eqb, ne-eqb, lt-ltb, le-ltb}
 use Rattle.wire.specs.Be.{be, bytes, splice, zeros}
 use Rattle.wire.proofs.Numbers.{splice-append, length-bytes}
-use Rattle.model.specs.Geometry.{geo, geoAt, countAt, openRefusal, rest, dataAt, reach, imageLimit, badImage, badMark, badCount, signature, superBytes}
+use Rattle.model.specs.Geometry.{mount, geo, geoAt, countAt, openRefusal, rest, dataAt, reach, imageLimit, badCode, badImage, badMark, badCount, signature, superBytes}
 use Rattle.model.specs.Render.{padded}
-use Rattle.model.proofs.Opens.{good-image, good-count, open-3, open-0}
+use Rattle.model.proofs.Opens.{code-good, good-image, good-count, open-3, open-0}
 use Rattle.super_block.specs.declared.SuperBlock.{SuperBlock}
 use Rattle.super_block.specs.Super.{superBlock}
 
+-- code names size code 0, which is known
+pub known-code : (K : ℕ) → badCode (mount K) ≡ false
+known-code K = code-good (mount K) refl
+
 module _ (K len : ℕ) where
-  pub image-empty : len ≡ 0 → true ≡ badImage K len
+  pub image-empty : len ≡ 0 → true ≡ badImage (mount K) len
   unfolding badImage
   image-empty e = simp (eq-eqb _ _ e)
 
-  pub image-odd : (len ≡ 0 → ⊥) → (len % 512 ≡ 0 → ⊥) → true ≡ badImage K len
+  pub image-odd : (len ≡ 0 → ⊥) → (len % 512 ≡ 0 → ⊥) → true ≡ badImage (mount K) len
   unfolding badImage
   image-odd a b = simp (ne-eqb _ _ a, ne-eqb _ _ b)
 
-  pub image-over : (len ≡ 0 → ⊥) → len % 512 ≡ 0 → imageLimit < len → true ≡ badImage K len
+  pub image-over : (len ≡ 0 → ⊥) → len % 512 ≡ 0 → imageLimit < len → true ≡ badImage (mount K) len
   unfolding badImage
   image-over a b c = simp (ne-eqb _ _ a, eq-eqb _ _ b, lt-ltb _ _ c)
 
-  pub image-last : (len ≡ 0 → ⊥) → len % 512 ≡ 0 → len ≤ imageLimit → leb (len / 512) (K + 2) ≡ badImage K len
+  pub image-last : (len ≡ 0 → ⊥) → len % 512 ≡ 0 → len ≤ imageLimit → leb (len / 512) (K + 2) ≡ badImage (mount K) len
   unfolding badImage
   image-last a b c = simp (ne-eqb _ _ a, eq-eqb _ _ b, le-ltb _ _ c)
 
 -- r is N, as code computes it
-module _ (K n len r : ℕ) (e : r ≡ rest (geo K n)) where
-  pub count-few : n ≤ len / 512 → r < 2 → true ≡ badCount (geo K n) len
+module _ (K n len r : ℕ) (e : r ≡ rest (geo (mount K) n)) where
+  pub count-few : n ≤ len / 512 → r < 2 → true ≡ badCount (geo (mount K) n) len
   unfolding badCount
-  count-few a b = simp (le-ltb _ _ a, lt-ltb (rest (geo K n)) 2 (omega arith))
+  count-few a b = simp (le-ltb _ _ a, lt-ltb (rest (geo (mount K) n)) 2 (omega arith))
 
-  pub count-last : n ≤ len / 512 → 2 ≤ r → eqb (r % 4097) 1 ≡ badCount (geo K n) len
+  pub count-last : n ≤ len / 512 → 2 ≤ r → eqb (r % 4097) 1 ≡ badCount (geo (mount K) n) len
   unfolding badCount
-  count-last a b = rw e (simp (le-ltb _ _ a, le-ltb (rest (geo K n)) 2 (omega arith)))
+  count-last a b = rw e (simp (le-ltb _ _ a, le-ltb (rest (geo (mount K) n)) 2 (omega arith)))
 
-pub count-over : (K n len : ℕ) → len / 512 < n → true ≡ badCount (geo K n) len
+pub count-over : (K n len : ℕ) → len / 512 < n → true ≡ badCount (geo (mount K) n) len
 unfolding badCount
 count-over K n len a = simp (lt-ltb _ _ a)
 
@@ -55,44 +59,44 @@ pub record Long (K len : ℕ) : Type 0 where
   pub blocks : len / 512 ≤ 8388608
   pub top : 512 * K + 1024 ≤ len
 
-pub long : {b : Bool} (K len : ℕ) → b ≡ badImage K len → b ≡ false → Long K len
-long K len p q = let h = good-image K len (told p q) in record { blocks = omega arith; top = omega arith }
+pub long : {b : Bool} (K len : ℕ) → b ≡ badImage (mount K) len → b ≡ false → Long K len
+long K len p q = let h = good-image (mount K) len (told p q) in record { blocks = omega arith; top = omega arith }
 
-pub counts : {b : Bool} (K n len : ℕ) → b ≡ badCount (geo K n) len → b ≡ false → (n ≤ len / 512) × (2 ≤ n - (K + 2))
-counts K n len p q = let h = good-count (geo K n) len (told p q) in (h .0, h .1)
+pub counts : {b : Bool} (K n len : ℕ) → b ≡ badCount (geo (mount K) n) len → b ≡ false → (n ≤ len / 512) × (2 ≤ n - (K + 2))
+counts K n len p q = let h = good-count (geo (mount K) n) len (told p q) in (h .0, h .1)
 
 -- n is read where the superblock has it
-pub read-count : {n : ℕ} (K at : ℕ) (I : List ℕ) → n ≡ be 4 I at → at ≡ 512 * K + 10 → n ≡ countAt K I
+pub read-count : {n : ℕ} (K at : ℕ) (I : List ℕ) → n ≡ be 4 I at → at ≡ 512 * K + 10 → n ≡ countAt (mount K) I
 unfolding countAt
 read-count K at I e f = e ∙ ap (be 4 I) f
 
-pub read-3 : (K : ℕ) (I : List ℕ) (n : ℕ) {a b c : Bool} → n ≡ countAt K I → a ≡ badImage K (length I) → a ≡ false → b ≡ badMark K I → b ≡ false
-    → c ≡ badCount (geo K n) (length I) → c ≡ true → openRefusal K I ≡ 3
-read-3 K I n e p q r s t u = open-3 K I (told p q) (told r s) (subst (λ (m : ℕ). badCount (geo K m) (length I) ≡ true) e (told t u))
+pub read-3 : (K : ℕ) (I : List ℕ) (n : ℕ) {a b c : Bool} → n ≡ countAt (mount K) I → a ≡ badImage (mount K) (length I) → a ≡ false → b ≡ badMark (mount K) I → b ≡ false
+    → c ≡ badCount (geo (mount K) n) (length I) → c ≡ true → openRefusal (mount K) I ≡ 3
+read-3 K I n e p q r s t u = open-3 (mount K) I (known-code K) (told p q) (told r s) (subst (λ (m : ℕ). badCount (geo (mount K) m) (length I) ≡ true) e (told t u))
 
-pub read-0 : (K : ℕ) (I : List ℕ) (n : ℕ) {a b c : Bool} → n ≡ countAt K I → a ≡ badImage K (length I) → a ≡ false → b ≡ badMark K I → b ≡ false
-    → c ≡ badCount (geo K n) (length I) → c ≡ false → (s : SuperBlock) → s ≡ superBlock (geo K n) → (openRefusal K I ≡ 0) × (s ≡ superBlock (geoAt K I))
+pub read-0 : (K : ℕ) (I : List ℕ) (n : ℕ) {a b c : Bool} → n ≡ countAt (mount K) I → a ≡ badImage (mount K) (length I) → a ≡ false → b ≡ badMark (mount K) I → b ≡ false
+    → c ≡ badCount (geo (mount K) n) (length I) → c ≡ false → (s : SuperBlock) → s ≡ superBlock (geo (mount K) n) → (openRefusal (mount K) I ≡ 0) × (s ≡ superBlock (geoAt (mount K) I))
 read-0 K I n e p q r s t u x y =
-    (open-0 K I (told p q) (told r s) (subst (λ (m : ℕ). badCount (geo K m) (length I) ≡ false) e (told t u)), y ∙ ap (λ (m : ℕ). superBlock (geo K m)) e)
+    (open-0 (mount K) I (known-code K) (told p q) (told r s) (subst (λ (m : ℕ). badCount (geo (mount K) m) (length I) ≡ false) e (told t u)), y ∙ ap (λ (m : ℕ). superBlock (geo (mount K) m)) e)
 
 -- the struct, by its reach
-pub made : (K n r : ℕ) → r ≡ reach (geo K n)
-    → _≡_ {A = SuperBlock} (record { addr = record { 0 = K }; blocks = n; bitmap = record { 0 = K + 2 }; area = record { 0 = K + 2 + (n - (K + 2) + 4096) / 4097 }; reach = r }) (superBlock (geo K n))
+pub made : (K n r : ℕ) → r ≡ reach (geo (mount K) n)
+    → _≡_ {A = SuperBlock} (record { addr = record { 0 = K }; blocks = n; bitmap = record { 0 = K + 2 }; area = record { 0 = K + 2 + (n - (K + 2) + 4096) / 4097 }; reach = r }) (superBlock (geo (mount K) n))
 unfolding dataAt
 made K n r e = λ i. record { addr = record { 0 = K }; blocks = n; bitmap = record { 0 = K + 2 }; area = record { 0 = K + 2 + (n - (K + 2) + 4096) / 4097 }; reach = e i }
 
-pub reach-whole : (K n : ℕ) → 4096 * (n / 4096) < n - (K + 2 + (n - (K + 2) + 4096) / 4097) → 4096 * (n / 4096) ≡ reach (geo K n)
+pub reach-whole : (K n : ℕ) → 4096 * (n / 4096) < n - (K + 2 + (n - (K + 2) + 4096) / 4097) → 4096 * (n / 4096) ≡ reach (geo (mount K) n)
 unfolding reach dataAt
 reach-whole K n h = omega arith
 
-pub reach-all : (K n : ℕ) → n - (K + 2 + (n - (K + 2) + 4096) / 4097) ≤ 4096 * (n / 4096) → n - (K + 2 + (n - (K + 2) + 4096) / 4097) ≡ reach (geo K n)
+pub reach-all : (K n : ℕ) → n - (K + 2 + (n - (K + 2) + 4096) / 4097) ≤ 4096 * (n / 4096) → n - (K + 2 + (n - (K + 2) + 4096) / 4097) ≡ reach (geo (mount K) n)
 unfolding reach dataAt
 reach-all K n h = omega arith
 
 -- the four stores of a superblock, side by side, are one
 pub super-stored : (I : List ℕ) (K n v : ℕ) → 512 * K + 512 ≤ length I
     → splice (splice (splice (splice I (512 * K) (signature ++ (2 ∷ (0 ∷ [])))) (512 * K + 10) (bytes 4 n)) (512 * K + 14) (bytes 4 v)) (512 * K + 18) (zeros 494)
-    ≡ splice I (512 * K) (superBytes (geo K n) v)
+    ≡ splice I (512 * K) (superBytes (geo (mount K) n) v)
 unfolding superBytes padded
 super-stored I K n v h =
     let at : ℕ = 512 * K in

@@ -5,14 +5,17 @@ use Prim.Native.Nat.{ℕ, _+_, _*_}
 use lib.ListN.{length}
 use Rattle.wire.specs.Be.{bytes, splice}
 use Rattle.limits.specs.Refusals.{refusalNumber}
-use Rattle.model.specs.Geometry.{Geo, blockSize, mapAt, dataAt, reach, geo, geoAt, superBytes, Sound, openRefusal, formatRefusal, formatGeo}
+use Rattle.model.specs.Geometry.{Mount, mount, Geo, blockSize, mapAt, dataAt, reach, geo, geoAt, superBytes, Sound, openRefusal, formatRefusal, formatGeo}
 use Rattle.super_block.specs.declared.SuperBlock.{SuperBlock}
 use Rattle.super_block.specs.declared.Opened.{Opened}
 use Rattle.super_block.specs.declared.Opened.the-variants.{At, Refused}
 
--- F2: the numbers of a volume that a struct stands for, and the struct of such numbers.
+-- F1, F2: the mount and the numbers of a volume that a struct stands for, and the struct of such numbers.
+abbrev pub mountOf : SuperBlock → Mount
+mountOf s = mount (s .addr .0)
+
 abbrev pub geoOf : SuperBlock → Geo
-geoOf s = geo (s .addr .0) (s .blocks)
+geoOf s = geo (mountOf s) (s .blocks)
 
 abbrev pub superBlock : Geo → SuperBlock
 superBlock g =
@@ -32,14 +35,14 @@ pub record Fit (s : SuperBlock) (I : List ℕ) : Type 0 where
   pub sound : Sound (geoOf s) (length I)
 
 -- R1 to R3: reading gives the first of them that holds, or the numbers that the image's superblock says.
-abbrev pub OpenedIs : ℕ → List ℕ → Opened → Type 0
-OpenedIs K I (At s) = (openRefusal K I ≡ 0) × (s ≡ superBlock (geoAt K I))
-OpenedIs K I (Refused r) = openRefusal K I ≡ refusalNumber r
+abbrev pub OpenedIs : Mount → List ℕ → Opened → Type 0
+OpenedIs M I (At s) = (openRefusal M I ≡ 0) × (s ≡ superBlock (geoAt M I))
+OpenedIs M I (Refused r) = openRefusal M I ≡ refusalNumber r
 
 -- Making: the first of 1, 3 that holds, or the numbers of an image of len bytes.
-abbrev pub MadeIs : ℕ → ℕ → Opened → Type 0
-MadeIs K len (At s) = (formatRefusal K len ≡ 0) × (s ≡ superBlock (formatGeo K len))
-MadeIs K len (Refused r) = formatRefusal K len ≡ refusalNumber r
+abbrev pub MadeIs : Mount → ℕ → Opened → Type 0
+MadeIs M len (At s) = (formatRefusal M len ≡ 0) × (s ≡ superBlock (formatGeo M len))
+MadeIs M len (Refused r) = formatRefusal M len ≡ refusalNumber r
 
 -- The image with v as its used count.
 unfoldable pub counted : Geo → List ℕ → ℕ → List ℕ

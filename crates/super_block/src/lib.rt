@@ -5,14 +5,14 @@ use limits::Refusal;
 ghost use mathlib.Core.Path.{_≡_};
 ghost use Prim.Native.Nat.{_+_, _-_, _*_, _≤_, _<_};
 ghost use lib.ListN.{length};
-ghost use Rattle.model.specs.Geometry.{geo, rest, badImage, badMark, badCount, usedCount};
+ghost use Rattle.model.specs.Geometry.{mount, geo, rest, badImage, badMark, badCount, usedCount};
 ghost use Rattle.super_block.specs.Super.{geoOf, superBlock, Fit, OpenedIs, MadeIs, counted, superWritten};
 
 // Blocks, and so bytes, of the largest image.
 const MAX_IMAGE: usize = 4_294_967_296;
 
 // The indexes whose bits one bitmap block holds.
-const BITMAP_SIZE: u32 = 4096;
+pub const BITMAP_SIZE: u32 = 4096;
 
 // The bytes of a superblock that never change: signature, version, size code.
 const MARK: [u8; 10] = [77, 79, 82, 79, 83, 32, 70, 83, 2, 0];
@@ -37,7 +37,7 @@ pub enum Opened {
 
 // Refusal 1, by the image's length alone.
 fn bad_image(len: usize, k: u32) -> bool
-    ensures { λ r. ⌜ r ≡ badImage k len ⌝ }
+    ensures { λ r. ⌜ r ≡ badImage (mount k) len ⌝ }
 {
     if len == 0 {
         return true;
@@ -54,7 +54,7 @@ fn bad_image(len: usize, k: u32) -> bool
 // Refusal 2.
 fn bad_mark(img: &[u8], k: u32) -> bool
     requires { ⌜ 512 * k + 10 ≤ length (now img) ⌝ }
-    ensures { λ r. ⌜ r ≡ badMark k (now (img .entry)) ⌝ }
+    ensures { λ r. ⌜ r ≡ badMark (mount k) (now (img .entry)) ⌝ }
 {
     let at = block::offset(Addr(k));
     !wire::same_bytes(img, at, &MARK)
@@ -62,7 +62,7 @@ fn bad_mark(img: &[u8], k: u32) -> bool
 
 // The blocks from the bitmap on.
 fn after_bitmap(n: u32, k: u32) -> u32
-    ensures { λ r. ⌜ r ≡ rest (geo k n) ⌝ }
+    ensures { λ r. ⌜ r ≡ rest (geo (mount k) n) ⌝ }
 {
     let a = (k as u64) + 2;
     let n = n as u64;
@@ -74,7 +74,7 @@ fn after_bitmap(n: u32, k: u32) -> u32
 
 // Refusal 3.
 fn bad_count(n: u32, k: u32, len: usize) -> bool
-    ensures { λ r. ⌜ r ≡ badCount (geo k n) len ⌝ }
+    ensures { λ r. ⌜ r ≡ badCount (geo (mount k) n) len ⌝ }
 {
     if len / block::BLOCK_SIZE < (n as usize) {
         return true;
@@ -91,7 +91,7 @@ impl SuperBlock {
     fn new(k: u32, n: u32) -> Self
         requires { ⌜ 2 ≤ n - (k + 2) ⌝ }
         requires { ⌜ n ≤ 8388608 ⌝ }
-        ensures { λ r. ⌜ r ≡ superBlock (geo k n) ⌝ }
+        ensures { λ r. ⌜ r ≡ superBlock (geo (mount k) n) ⌝ }
     {
         let a = k + 2;
         let d = a + (n - a + BITMAP_SIZE) / (BITMAP_SIZE + 1);
@@ -111,7 +111,7 @@ impl SuperBlock {
 
     // The numbers of the image's superblock, at block k.
     pub fn read(img: &[u8], k: u32) -> Opened
-        ensures { λ r. ⌜ OpenedIs k (now (img .entry)) r ⌝ }
+        ensures { λ r. ⌜ OpenedIs (mount k) (now (img .entry)) r ⌝ }
     {
         let len = img.len();
         if bad_image(len, k) {
@@ -130,7 +130,7 @@ impl SuperBlock {
 
     // The numbers that a volume over a whole image of len bytes would have.
     pub fn for_image(len: usize, k: u32) -> Opened
-        ensures { λ r. ⌜ MadeIs k len r ⌝ }
+        ensures { λ r. ⌜ MadeIs (mount k) len r ⌝ }
     {
         if bad_image(len, k) {
             return Opened::Refused(Refusal::BadImage);

@@ -34,10 +34,11 @@ use Rattle.model.proofs.Entries.{next-shown}
 use Rattle.dir_entry.specs.Entry.{isFile}
 use Rattle.dir_entry.specs.Shown.{kindIs, headOf}
 use Rattle.read_dir.specs.Walk.{Walk, walk}
-use Rattle.file.specs.declared.Handle.{Handle}
-use Rattle.file.specs.File.{nameOf, staleFields, current, heldIn, toRead, chain, blocksRead, chainRead, dataOf, missing, bytesOf, readRefusal, bytesRead}
-use Rattle.file.proofs.Currents.{own, not-own, own-node}
-use Rattle.file.proofs.Seeks.{fresh as fields-fresh}
+use Rattle.handle.specs.declared.Handle.{Handle}
+use Rattle.handle.specs.Handles.{nameOf, staleFields, current, heldIn}
+use Rattle.file_read.specs.Read.{toRead, chain, blocksRead, chainRead, dataOf, missing, bytesOf, readRefusal, bytesRead}
+use Rattle.handle.proofs.Currents.{own, not-own, own-node}
+use Rattle.handle.proofs.Seeks.{fresh as fields-fresh}
 use Rattle.thm_walk.specs.Shown.{itemsOf, walkOf}
 use Rattle.thm_walk.proofs.Parts.{Stored, Part, laid-part, part-find, stored-tail, stored-in, stored-few, stored-lookup}
 use Rattle.thm_walk.proofs.Walks.{in-area, walk-is}

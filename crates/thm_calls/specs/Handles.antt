@@ -8,8 +8,8 @@ use Rattle.wire.specs.Pick.{pick}
 use Rattle.model.specs.Tree.{Name, Cell, Entry}
 use Rattle.model.specs.Render.{View, cellsAt}
 use Rattle.dir_entry.specs.Shown.{headOf}
-use Rattle.file.specs.declared.Handle.{Handle}
-use Rattle.file.specs.File.{nameOf, current}
+use Rattle.handle.specs.declared.Handle.{Handle}
+use Rattle.handle.specs.Handles.{nameOf, current}
 
 -- The handle is one of the file n in the directory that starts at a, z bytes in the blocks cs, and its position is in the file.
 pub record HandleOf (a : ℕ) (n : Name) (z : ℕ) (cs : List Cell) (h : Handle) : Type 0 where

@@ -6,6 +6,7 @@ use Prim.Native.Nat.{ℕ, suc, _+_}
 use lib.Dec.{ltb}
 use lib.ListN.{length, take, drop}
 use Rattle.wire.specs.Pick.{pick}
+use Rattle.model.specs.Geometry.{Mount}
 use Rattle.model.specs.Tree.{Name, Entry, Below, Some, find}
 use Rattle.model.specs.Render.{View, view}
 use Rattle.model.specs.Volume.{WellFormed, maxDepth}
@@ -25,14 +26,14 @@ lastOf cwd p = lastName (realPath cwd p)
 abbrev pub allOf : List ℕ → List ℕ → List Name
 allOf cwd p = steps (realPath cwd p)
 
-module _ (K : ℕ) (I : List ℕ) where
+module _ (M : Mount) (I : List ℕ) where
   -- The names lead from the root to the directory s.
-  abbrev pub LeadsTo : WellFormed K I → List Name → Some → Type 0
+  abbrev pub LeadsTo : WellFormed M I → List Name → Some → Type 0
   LeadsTo w q s = find maxDepth q (w .tree) ≡ some s
 
   -- What the image shows of a directory of d levels, and of its entries the fixed part.
   abbrev pub viewAt : (d : ℕ) → View (Below d)
-  viewAt d = view (size K I) d
+  viewAt d = view (size M I) d
 
   abbrev pub headAt : (d : ℕ) → Entry (Below d) → DirEntry
   headAt d e = headOf (viewAt d) e

@@ -115,15 +115,6 @@ fn resize(img: &mut [u8], s: SuperBlock, a: Addr, old: u32, new: u32)
     }
 }
 
-// How many of k bytes stand in a block from data byte o on.
-pub fn run_of(o: usize, k: usize) -> usize
-    requires { ⌜ o < 508 ⌝ }
-    ensures { λ r. ⌜ r ≡ min k (508 - o) ⌝ }
-{
-    let room = LinkedBlock::CAPACITY - o;
-    if k < room { k } else { room }
-}
-
 // As many bytes of the buffer from i on as block b has room for from data byte `at` on; answers how many.
 fn put_run(img: &mut [u8], b: Addr, at: usize, buf: &[u8], i: usize) -> usize
     requires { ⌜ at < 508 ⌝ }
@@ -131,7 +122,7 @@ fn put_run(img: &mut [u8], b: Addr, at: usize, buf: &[u8], i: usize) -> usize
     requires { ⌜ blockBytes * b .0 + blockBytes ≤ length (now img) ⌝ }
     ensures { λ r. ⌜ (now (img .exit) ≡ splice (now (img .entry)) (placeAt blockBytes (b .0) at) (take (508 - at) (drop i (now (buf .entry))))) × (r ≡ min (length (now (buf .entry)) - i) (508 - at)) ⌝ }
 {
-    let run = run_of(at, buf.len() - i);
+    let run = limits::run_of(at, buf.len() - i);
     wire::copy(img, dir_entry::place(b, at), buf, i, run);
     run
 }

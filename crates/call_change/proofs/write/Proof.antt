@@ -5,7 +5,7 @@ use Rattle.call_change.proofs.write.Statement.{statement}
 use Rattle.call_change.proofs.write.Tie as tie
 use Rattle.call_change.proofs.write.Reads as reads
 use Rattle.call_change.proofs.write.Lts as lts
-use Rattle.file.proofs.Handle.write.Reads as write-reads
+use Rattle.write.proofs.write.Reads as write-reads
 use Rattle.call_volume.proofs.open_checked.Reads as open-checked-reads
 
 -- src/lib.rt:564:9

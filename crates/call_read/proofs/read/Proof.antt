@@ -5,7 +5,7 @@ use Rattle.call_read.proofs.read.Statement.{statement}
 use Rattle.call_read.proofs.read.Tie as tie
 use Rattle.call_read.proofs.read.Reads as reads
 use Rattle.call_read.proofs.read.Lts as lts
-use Rattle.file.proofs.Handle.read.Reads as Handle-read-reads
+use Rattle.file_read.proofs.read.Reads as Handle-read-reads
 use Rattle.super_block.proofs.SuperBlock.read.Reads as SuperBlock-read-reads
 
 -- src/lib.rt:387:9

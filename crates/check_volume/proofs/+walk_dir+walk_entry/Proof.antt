@@ -6,8 +6,8 @@ use borrow.Author.Tests.{not-true, not-false}
 use lib.ListN.{length}
 use Rattle.read_dir.specs.Cursor.{cursorWalk, items}
 use Rattle.read_dir.proofs.Along.{step-less}
-use Rattle.check_volume.specs.Steps.{entryCheck}
-use Rattle.check_volume.proofs.Chains.{still-long}
+use Rattle.thm_survey.specs.Steps.{entryCheck}
+use Rattle.check_chain.proofs.Chains.{still-long}
 use Rattle.check_volume.proofs.Walks.{Rest, rest-start, rest-no, rest-on, rest-end, rest-bad, inside-image, entry-file, entry-device, entry-deep, entry-shut, entry-size, entry-down, still-clear, kept-filter, kept-long}
 use borrow.Fn.Kinds.{In}
 use borrow.Fn.PlainCycle.{Measures, is, falls, and}
@@ -20,10 +20,10 @@ use Rattle.check_volume.proofs.walk_entry.Kinds as walk-entry-kinds
 use Rattle.check_volume.proofs.+walk_dir+walk_entry.Lts-walk_entry as walk-entry-lts
 use Rattle.read_dir.proofs.ReadDir.new.Reads as new-reads
 use Rattle.read_dir.proofs.ReadDir.next.Reads as next-reads
-use Rattle.check_volume.proofs.chain.Reads as chain-reads
-use Rattle.check_volume.proofs.file_chain.Reads as file-chain-reads
-use Rattle.check_volume.proofs.open_dir.Reads as open-dir-reads
-use Rattle.check_volume.proofs.sized.Reads as sized-reads
+use Rattle.check_chain.proofs.chain.Reads as chain-reads
+use Rattle.check_chain.proofs.file_chain.Reads as file-chain-reads
+use Rattle.check_dir.proofs.open_dir.Reads as open-dir-reads
+use Rattle.check_dir.proofs.sized.Reads as sized-reads
 use Rattle.check_volume.proofs.+walk_dir+walk_entry.{statement}
 use Rattle.check_volume.proofs.+walk_dir+walk_entry.Tie.{close}
 

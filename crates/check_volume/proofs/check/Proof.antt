@@ -1,5 +1,5 @@
 use borrow.Author.Needs.{needs}
-use Rattle.check_volume.proofs.Chains.{still-long}
+use Rattle.check_chain.proofs.Chains.{still-long}
 use Rattle.check_volume.proofs.Decides.{none-marked, again-zero}
 use Rattle.check_volume.proofs.check.Statement.{statement}
 use Rattle.check_volume.proofs.check.Tie as tie

@@ -1,7 +1,7 @@
 use borrow.Author.Needs.{needs}
 use borrow.Author.Tests.{not-true, not-false}
 use Rattle.check_names.proofs.Marks.{clear-zeros}
-use Rattle.check_volume.proofs.Claims.{beyond-refl}
+use Rattle.check_chain.proofs.Claims.{beyond-refl}
 use Rattle.check_volume.proofs.Decides.{not-rest, not-tree, not-agreed, answer-count}
 use Rattle.check_volume.proofs.decide.Statement.{statement}
 use Rattle.check_volume.proofs.decide.Tie as tie

@@ -1,13 +1,13 @@
 use borrow.Author.Needs.{needs}
 use borrow.Author.Tests.{not-true, not-false}
-use Rattle.check_volume.proofs.Chains.{still-long}
+use Rattle.check_chain.proofs.Chains.{still-long}
 use Rattle.check_volume.proofs.Walks.{still-clear}
 use Rattle.check_volume.proofs.Decides.{tree-no, tree-yes}
 use Rattle.check_volume.proofs.tree.Statement.{statement}
 use Rattle.check_volume.proofs.tree.Tie as tie
 use Rattle.check_volume.proofs.tree.Reads as reads
 use Rattle.check_volume.proofs.tree.Lts as lts
-use Rattle.check_volume.proofs.open_dir.Reads as open-dir-reads
+use Rattle.check_dir.proofs.open_dir.Reads as open-dir-reads
 use Rattle.check_volume.proofs.walk_dir.Reads as walk-dir-reads
 
 -- src/lib.rt:348:9

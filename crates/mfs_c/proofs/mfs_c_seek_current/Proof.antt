@@ -1,4 +1,4 @@
-use Rattle.file.specs.declared.SeekFrom.the-variants as from
+use Rattle.handle.specs.declared.SeekFrom.the-variants as from
 use Rattle.mfs_c.proofs.Told.{seek-by}
 use borrow.Author.Needs.{needs}
 use Rattle.mfs_c.proofs.mfs_c_seek_current.Statement.{statement}

@@ -1,5 +1,5 @@
 use native.Mathlib.Omega.{arith}
-use Rattle.super_block.proofs.Tests.{told, long, counts}
+use Rattle.super_block.proofs.Tests.{known-code, told, long, counts}
 use Rattle.model.proofs.Opens.{format-1, format-3, format-0}
 use borrow.Author.Needs.{needs}
 use Rattle.super_block.proofs.SuperBlock.for_image.Statement.{statement}
@@ -16,7 +16,7 @@ bad-image-requires c κs = search needs
 
 -- src/lib.rt:137:13
 returns : tie.Need-returns
-returns c = search (format-1, told)
+returns c = search (format-1, known-code, told)
 
 -- src/lib.rt:139:17
 cast-n : tie.Need-cast-n
@@ -28,7 +28,7 @@ bad-count-requires c κs = search needs
 
 -- src/lib.rt:141:13
 returns-2 : tie.Need-returns-2
-returns-2 c = search (format-3, told)
+returns-2 c = search (format-3, known-code, told)
 
 -- src/lib.rt:143:20
 new-requires : tie.Need-new-requires
@@ -38,7 +38,7 @@ new-requires c κs =
 
 -- src/lib.rt:133:5
 returns-3 : tie.Need-returns-3
-returns-3 c = (search (format-0, told), c .new .ensures)
+returns-3 c = (search (format-0, known-code, told), c .new .ensures)
 
 pub for-image-spec : {M : Type 1} → statement M
 for-image-spec =

@@ -1,5 +1,5 @@
 use native.Mathlib.Omega.{arith}
-use Rattle.super_block.proofs.Tests.{told, long, counts, read-count, read-3, read-0}
+use Rattle.super_block.proofs.Tests.{known-code, told, long, counts, read-count, read-3, read-0}
 use Rattle.model.proofs.Opens.{open-1, open-2}
 use borrow.Author.Needs.{needs}
 use Rattle.super_block.proofs.SuperBlock.read.Statement.{statement}
@@ -19,7 +19,7 @@ bad-image-requires c κs = search needs
 
 -- src/lib.rt:119:13
 returns : tie.Need-returns
-returns c = search (open-1, told)
+returns c = search (open-1, known-code, told)
 
 -- src/lib.rt:121:12
 bad-mark-requires : tie.Need-bad-mark-requires
@@ -27,7 +27,7 @@ bad-mark-requires c κs = omega (arith, long _ _ (c .before .bad-image .ensures)
 
 -- src/lib.rt:122:13
 returns-2 : tie.Need-returns-2
-returns-2 c = search (open-2, told)
+returns-2 c = search (open-2, known-code, told)
 
 -- src/lib.rt:124:18
 offset-requires : tie.Need-offset-requires

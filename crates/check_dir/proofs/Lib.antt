@@ -1,0 +1,3 @@
+pub mod WalkedBlocks
+pub mod Holds
+pub mod DirBlocks

@@ -1,0 +1,4 @@
+pub mod Currents
+pub mod Entries
+pub mod Handles
+pub mod Seeks

@@ -1,0 +1,3 @@
+pub mod Handles
+pub mod Post
+pub mod OnTree

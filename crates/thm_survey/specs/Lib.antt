@@ -1,0 +1,4 @@
+pub mod Survey
+pub mod Found
+pub mod Steps
+pub mod Whole

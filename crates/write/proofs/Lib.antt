@@ -1,0 +1,5 @@
+pub mod Aims
+pub mod Limits
+pub mod Renewed
+pub mod Stores
+pub mod Targets

@@ -1,0 +1,61 @@
+-- What the code of a write knows before its stores, and where it ends.
+use mathlib.Core.Path.{_≡_, sym, ap, _∙_}
+use mathlib.Core.List.{List}
+use Prim.Native.Nat.{ℕ, _+_, _≤_, _<_}
+use native.Mathlib.Omega.{arith}
+use lib.ListN.{length}
+use Rattle.model.specs.Answers.{accepted, refused, andThen}
+use Rattle.limits.specs.Refusals.{refusalNumber}
+use Rattle.limits.specs.declared.Refusal.{Refusal}
+use Rattle.model.specs.Geometry.{countAt}
+use Rattle.model.specs.Volume.{WellFormed}
+use Rattle.super_block.specs.declared.SuperBlock.{SuperBlock}
+use Rattle.super_block.specs.Super.{mountOf, geoOf}
+use Rattle.super_block.proofs.Fits.{well-volume}
+use Rattle.dir_entry.specs.declared.DirEntry.{DirEntry}
+use Rattle.read_dir.specs.declared.Place.{Place}
+use Rattle.write_store.specs.Write.{wrote, CanWrite}
+use Rattle.handle.specs.declared.Handle.{Handle}
+use Rattle.handle.specs.declared.Counted.the-variants as counted
+use Rattle.write.specs.declared.Targeted.{Targeted}
+use Rattle.write.specs.declared.Targeted.the-variants as targeted
+use Rattle.write.specs.Writing.{targetOf, imageAt, writtenImage, grownHandle, handleAfter, countOf}
+use Rattle.write.specs.Written.{targetedSays, WriteIs}
+use Rattle.write.proofs.Targets.{accepted-can}
+
+module _ (s : SuperBlock) (I : List ℕ) (h : Handle) (buf : List ℕ) (r : Targeted) (er : targetedSays r ≡ targetOf (geoOf s) I h (length buf)) where
+  -- ---- before the stores
+
+  module _ (w : WellFormed (mountOf s) I) (b : s .blocks ≡ countAt (mountOf s) I) (e : DirEntry) (p : Place) (q : r ≡ targeted.At e p) where
+    pub store-can : CanWrite (geoOf s) I e p (h .position) (length buf)
+    store-can = accepted-can (geoOf s) I (w .tree) (well-volume s I w b) h buf (record { entry = e; place = p }) (sym er ∙ ap targetedSays q)
+
+    pub store-end : h .position + length buf ≤ 2147483647
+    store-end = store-can .limit
+
+    pub store-few : length buf < 4294967296
+    store-few = omega (arith, store-end)
+
+  -- ---- the end
+
+  module _ (time : ℕ) where
+    pub write-refused : (k : Refusal) → r ≡ targeted.Refused k → WriteIs (geoOf s) h buf time I I (record { answer = counted.Refused k; handle = h })
+    unfolding countOf andThen writtenImage
+    write-refused k q =
+        let t : refused (refusalNumber k) ≡ targetOf (geoOf s) I h (length buf) = sym (ap targetedSays q) ∙ er in
+        record {
+          answer = ap (countOf (length buf)) t;
+          handle = ap (handleAfter h (length buf)) t;
+          image = ap (imageAt (geoOf s) I h buf time) t;
+        }
+
+    pub write-done : (e : DirEntry) (p : Place) (J : List ℕ) (after : Handle) → r ≡ targeted.At e p → J ≡ wrote (geoOf s) I e p (h .position) buf time → after ≡ grownHandle h (length buf)
+        → WriteIs (geoOf s) h buf time I J (record { answer = counted.Bytes (length buf); handle = after })
+    unfolding countOf andThen writtenImage
+    write-done e p J after q j g =
+        let t : accepted (record { entry = e; place = p }) ≡ targetOf (geoOf s) I h (length buf) = sym (ap targetedSays q) ∙ er in
+        record {
+          answer = ap (countOf (length buf)) t;
+          handle = g ∙ ap (handleAfter h (length buf)) t;
+          image = j ∙ ap (imageAt (geoOf s) I h buf time) t;
+        }
