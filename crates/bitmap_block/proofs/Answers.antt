@@ -10,12 +10,13 @@ use Rattle.bits.specs.Find.{Lowest}
 use Rattle.bits.specs.declared.Found.{Found}
 use Rattle.bits.specs.declared.Found.the-variants.{At, Nothing}
 use Rattle.block.specs.Block.{zeroed}
+use Rattle.block.proofs.Blocks.{zeroed-kept}
 use Rattle.model.specs.Geometry.{blockSize, mapAt, dataAt, reach, usedCount}
 use Rattle.model.specs.Calls.{clearFrom}
 use Rattle.model.proofs.Free.{LowestClear, lowest-clear, clear-lowest}
 use Rattle.super_block.specs.declared.SuperBlock.{SuperBlock}
 use Rattle.super_block.specs.Super.{geoOf, Fit}
-use Rattle.super_block.proofs.Fits.{placed, fit-long}
+use Rattle.super_block.proofs.Fits.{placed, fit-long, fit-inside}
 use Rattle.bitmap_block.specs.Bitmap.{mark, marked, clears}
 use Rattle.bitmap_block.proofs.Stores.{used-marked, length-half, used-half, length-marked, clears-first, first-in}
 
@@ -23,10 +24,10 @@ use Rattle.bitmap_block.proofs.Stores.{used-marked, length-half, used-h
 pub reach-few : {s : SuperBlock} {I : List ℕ} → Fit s I → s .reach ≤ 16777216
 reach-few f = let p = placed f in omega arith
 
-module _ {s : SuperBlock} {I : List ℕ} {at : ℕ} (f : Fit s I) (e : at ≡ 512 * s .bitmap .0) where
+module _ {s : SuperBlock} {I : List ℕ} {at : ℕ} (f : Fit s I) (e : at ≡ s .size * s .bitmap .0) where
   -- the bitmap begins where the definitions have it
   pub from-is : at ≡ blockSize (geoOf s) * mapAt (geoOf s)
-  from-is = e ∙ ap (λ (a : ℕ). 512 * a) (f .bitmap)
+  from-is = e ∙ ap (λ (a : ℕ). s .size * a) (f .bitmap) ∙ ap (λ (z : ℕ). z * mapAt (geoOf s)) (f .size)
 
   -- the byte of an index in the data
   pub bit-place : (x : ℕ) → s .area .0 + x < s .blocks → at + x / 8 < length I
@@ -93,14 +94,21 @@ module _ {s : SuperBlock} {I : List ℕ} (x : ℕ) (f : Fit s I) (h : s .area .0
   in-data = omega (arith, f .area)
 
   -- the block is zeroed and its bit set
-  half-is : {a : ℕ} {J L : List ℕ} → a ≡ s .area .0 + x → J ≡ zeroed 512 I a 1 → L ≡ marked (geoOf s) J x 1 → L ≡ marked (geoOf s) (zeroed 512 I (dataAt (geoOf s) + x) 1) x 1
-  half-is p q r = r ∙ ap (λ (z : List ℕ). marked (geoOf s) z x 1) (q ∙ ap (λ (z : ℕ). zeroed 512 I z 1) (p ∙ ap (λ (z : ℕ). z + x) (f .area)))
+  half-is : {a : ℕ} {J L : List ℕ} → a ≡ s .area .0 + x → J ≡ zeroed (s .size) I a 1 → L ≡ marked (geoOf s) J x 1 → L ≡ marked (geoOf s) (zeroed (blockSize (geoOf s)) I (dataAt (geoOf s) + x) 1) x 1
+  half-is p q r = r ∙ ap (λ (z : List ℕ). marked (geoOf s) z x 1) (q ∙ ap (λ (z : ℕ). zeroed (s .size) I z 1) (p ∙ ap (λ (z : ℕ). z + x) (f .area)) ∙ ap (λ (z : ℕ). zeroed z I (dataAt (geoOf s) + x) 1) (f .size))
 
-  pub half-fit : {a : ℕ} {J L : List ℕ} → a ≡ s .area .0 + x → J ≡ zeroed 512 I a 1 → L ≡ marked (geoOf s) J x 1 → Fit s L
+  pub half-fit : {a : ℕ} {J L : List ℕ} → a ≡ s .area .0 + x → J ≡ zeroed (s .size) I a 1 → L ≡ marked (geoOf s) J x 1 → Fit s L
   half-fit p q r = fit-long (ap length (half-is p q r) ∙ length-half (geoOf s) I (f .sound) x in-data) f
 
-  pub half-used : {a : ℕ} {J L : List ℕ} → a ≡ s .area .0 + x → J ≡ zeroed 512 I a 1 → L ≡ marked (geoOf s) J x 1 → usedCount (geoOf s) I < s .blocks → usedCount (geoOf s) L < s .blocks
+  pub half-used : {a : ℕ} {J L : List ℕ} → a ≡ s .area .0 + x → J ≡ zeroed (s .size) I a 1 → L ≡ marked (geoOf s) J x 1 → usedCount (geoOf s) I < s .blocks → usedCount (geoOf s) L < s .blocks
   half-used p q r u = omega (arith, ap (usedCount (geoOf s)) (half-is p q r), used-half (geoOf s) I (f .sound) x in-data)
+
+  -- before that, only zeroed
+  pub zero-inside : {a : ℕ} → a ≡ s .area .0 + x → s .size * a + s .size * 1 ≤ length I
+  zero-inside p = omega (arith, fit-inside s I I _ (s .area .0 + x) f refl p h)
+
+  pub zero-fit : {a : ℕ} {J : List ℕ} → a ≡ s .area .0 + x → J ≡ zeroed (s .size) I a 1 → Fit s J
+  zero-fit p q = fit-long (ap length q ∙ zeroed-kept (s .size) I _ 1 (zero-inside p) .size) f
 
   -- its bit is clear
   pub clear-fit : {L : List ℕ} → L ≡ marked (geoOf s) I x 0 → Fit s L

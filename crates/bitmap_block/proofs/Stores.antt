@@ -4,7 +4,7 @@ use mathlib.Core.Path.{_≡_, refl, sym, ap, _∙_, subst}
 use mathlib.Core.Logic.{_⊎_, inl, inr, _≢_}
 use mathlib.Core.List.{List, [], _∷_, _++_}
 use Prim.Native.Nat.{ℕ, _+_, _-_, _*_, _/_, _%_, _^_, _≤_, _<_}
-use native.Mathlib.Nat.{mul-one, mul-add, mul-comm, mul-le-mul-left, div-add-mod, mod-lt, div-lt-iff-lt-mul}
+use native.Mathlib.Nat.{mul-one, mul-add, mul-assoc, mul-comm, mul-le-mul-left, div-add-mod, mod-lt, div-lt-iff-lt-mul}
 use native.Mathlib.Decide.{decLt}
 use native.Mathlib.Omega.{arith}
 use lib.ListN.{length, getD, drop, length-append}
@@ -16,7 +16,7 @@ use Rattle.block.specs.Block.{cell, zeroed, Off, Kept}
 use Rattle.block.proofs.Blocks.{block-below, kept-trans, kept-less, be-kept, splice-kept, zeroed-kept, cell-zeroed}
 use Rattle.model.specs.Tree.{Tree}
 use Rattle.model.specs.Render.{blocks, count, padded, Shows}
-use Rattle.model.specs.Geometry.{mount, Geo, blockSize, mapAt, dataAt, reach, mapBits, signature, superBytes, geo, usedCount, Sound}
+use Rattle.model.specs.Geometry.{mount, Geo, blockSize, mapSize, mapAt, dataAt, reach, mapBits, signature, superBytes, usedCount, Sound}
 use Rattle.model.specs.Volume.{Volume}
 use Rattle.model.specs.Calls.{freeBlocks}
 use Rattle.model.proofs.Areas.{area, few, size-large, block-inside}
@@ -33,11 +33,15 @@ use Rattle.bitmap_block.specs.Bitmap.{mark, marked, clears, more, fewer,
 -- ---- places
 
 -- F5, as the rule has it: first the bitmap block of index x, then the byte in that block, then the place in that byte.
-pub mark-place : (K n : ℕ) (I : List ℕ) (x : ℕ) → mark (geo (mount K) n) I x ≡ bit I (512 * (K + 2 + x / 4096)) (x % 4096)
+pub mark-place : (g : Geo) (I : List ℕ) (x : ℕ) → mark g I x ≡ bit I (blockSize g * (mapAt g + x / mapSize g)) (x % mapSize g)
 unfolding mark bit
-mark-place K n I x =
-    let e : 512 * (K + 2) + x / 8 ≡ 512 * (K + 2 + x / 4096) + x % 4096 / 8 = omega arith in
-    let f : x % 8 ≡ x % 4096 % 8 = omega arith in
+mark-place g I x =
+    let B : ℕ = blockSize g in
+    let q : ℕ = x / (8 * B) in
+    let r : ℕ = x % (8 * B) in
+    let w : 8 * (B * q) + r ≡ x = sym (ap (λ (z : ℕ). z + r) (mul-assoc 8 B q)) ∙ div-add-mod x (8 * B) in
+    let e : B * mapAt g + x / 8 ≡ B * (mapAt g + q) + r / 8 = omega (arith, w, mul-add B (mapAt g) q) in
+    let f : x % 8 ≡ r % 8 = omega (arith, w) in
     λ i. digit (getD I (e i) 0) (f i)
 
 -- The bit that W5 speaks of.

@@ -17,7 +17,7 @@ fn set_mark(img: &mut [u8], s: SuperBlock, x: Index)
     ensures { λ _. ⌜ now (img .exit) ≡ marked (geoOf s) (now (img .entry)) (x .0) 1 ⌝ }
 {
     let a = s.bitmap;
-    let from = block::offset(a);
+    let from = block::offset(s.size, a);
     bits::set_bit(img, from, x.0);
 }
 
@@ -28,7 +28,7 @@ fn clear_mark(img: &mut [u8], s: SuperBlock, x: Index)
     ensures { λ _. ⌜ now (img .exit) ≡ marked (geoOf s) (now (img .entry)) (x .0) 0 ⌝ }
 {
     let a = s.bitmap;
-    let from = block::offset(a);
+    let from = block::offset(s.size, a);
     bits::clear_bit(img, from, x.0);
 }
 
@@ -61,7 +61,7 @@ pub fn take(img: &mut [u8], s: SuperBlock, x: Index)
 {
     let d = s.area;
     let a = x.addr(d);
-    block::clear(img, a, 1);
+    block::clear(img, s.size, a, 1);
     set_mark(img, s, x);
     inc_alloc_count(img, s);
 }
@@ -85,7 +85,7 @@ pub fn next_free(img: &[u8], s: SuperBlock, from: Index) -> Index
     ensures { λ r. ⌜ dataAt (geoOf s) + r .0 ≡ getD (clears (geoOf s) (now (img .entry))) 0 0 ⌝ }
 {
     let a = s.bitmap;
-    let at = block::offset(a);
+    let at = block::offset(s.size, a);
     let found = bits::lowest_clear(img, at, from.0, s.reach);
     match found {
         Found::At(x) => Index(x),

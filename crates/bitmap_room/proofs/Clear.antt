@@ -203,7 +203,7 @@ clear-reach g I =
     omega (arith, clear-all I from (reach g) (bytesFor (reach g)) (omega arith), clear-count I from (dataAt g) (reach g))
 
 module _ (s : SuperBlock) (I : List ℕ) (k : ℕ) where
-  pub room-of : (at : ℕ) (r : Told) → Fit s I → at ≡ 512 * s .bitmap .0 → r ≡ toldOf I at (s .reach) k → r ≡ roomIn (geoOf s) I k
+  pub room-of : (at : ℕ) (r : Told) → Fit s I → at ≡ s .size * s .bitmap .0 → r ≡ toldOf I at (s .reach) k → r ≡ roomIn (geoOf s) I k
   unfolding toldOf roomIn
   room-of at r f e q =
       let g = geoOf s in

@@ -113,7 +113,7 @@ pub fn room_in(img: &[u8], s: SuperBlock, count: u32) -> Told
     ensures { λ r. ⌜ r ≡ roomIn (geoOf s) (now (img .entry)) count ⌝ }
 {
     let a = s.bitmap;
-    let from = block::offset(a);
+    let from = block::offset(s.size, a);
     search(img, from, s.reach, count)
 }
 

@@ -2,19 +2,34 @@
 use mathlib.Core.Path.{_≡_, refl, ap, _∙_}
 use mathlib.Core.Logic.{_⊎_, inl, inr}
 use mathlib.Core.List.{List}
-use Prim.Native.Nat.{ℕ, _+_, _-_, _*_, _≤_, _<_}
-use native.Mathlib.Nat.{add-zero, add-assoc, mul-suc, mul-add, mul-le-mul-left}
+use Prim.Native.Nat.{ℕ, _+_, _-_, _*_, _^_, _≤_, _<_}
+use native.Mathlib.Nat.{add-zero, add-assoc, mul-suc, mul-add, mul-le-mul-left, mul-le-mul-right}
 use native.Mathlib.Decide.{decLt}
 use native.Mathlib.Omega.{arith}
 use lib.ListN.{length, getD, length-replicate, getD-replicate}
 use Rattle.wire.specs.Be.{be, bytes, splice, zeros}
 use Rattle.wire.proofs.Numbers.{be-ext, length-bytes, length-splice, splice-before, splice-in, splice-after}
-use Rattle.block.specs.Block.{cell, next, linked, zeroed, Off, Kept}
+use Rattle.block.specs.Block.{BlockSize, cell, next, linked, zeroed, Off, Kept}
 
 -- ---- places: a block's bytes end where the next block's begin
 
 pub block-below : (B a b o : ℕ) → a < b → o < B → B * a + o < B * b
 block-below B a b o h k = omega (arith, mul-le-mul-left B h, mul-suc B a)
+
+-- an address of 32 bits is that of a byte of 64 bits
+pub offset-fits : {B : ℕ} (a : ℕ) → BlockSize B → a < 2 ^ 32 → B * a < 2 ^ 64
+offset-fits a s h = omega (arith, mul-le-mul-right a (s .most))
+
+-- and so is one behind it in the block
+pub link-fits : {B r : ℕ} (a : ℕ) → BlockSize B → a < 2 ^ 32 → r ≡ B * a → r + 4 < 2 ^ 64
+link-fits a s h e = omega (arith, mul-le-mul-right a (s .most))
+
+pub behind-fits : {B r : ℕ} (a o : ℕ) → BlockSize B → a < 2 ^ 32 → r ≡ B * a → o ≤ B → r + 4 + o < 2 ^ 64
+behind-fits a o s h e l = omega (arith, mul-le-mul-right a (s .most), s .most)
+
+-- the linked block of an address lies where the block does
+pub linked-inside : {B z m n : ℕ} (a : ℕ) → z ≡ B → m ≡ a → B * a + B ≤ n → z * m + z ≤ n
+linked-inside a e f h = rw (e, f) h
 
 -- ---- Kept: the frame
 

@@ -5,9 +5,20 @@ use Prim.Native.Nat.{ℕ, _+_, _*_, _≤_, _<_}
 use lib.ListN.{length, getD}
 use Rattle.wire.specs.Be.{be, bytes, splice, zeros}
 
--- F1: the bytes of a block
+-- F1: the bytes of a block where the size code is 0; each code more doubles them
 abbrev pub blockBytes : ℕ
 blockBytes = 512
+
+-- F1: what is asked of a block's size: no fewer bytes than that, and so many that a directory's sum has four bytes.
+pub record BlockSize (B : ℕ) : Type 0 where
+  pub least : blockBytes ≤ B
+  pub most : B ≤ 1024
+
+-- F1, F3: the blocks that chains run in: the size of a block, the data area's first address, and the volume's end, which is none of it.
+pub record Area : Type 0 where
+  pub size : ℕ
+  pub first : ℕ
+  pub end : ℕ
 
 -- Byte o of block a.
 unfoldable pub cell : ℕ → List ℕ → ℕ → ℕ → ℕ

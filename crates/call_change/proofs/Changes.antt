@@ -103,7 +103,7 @@ module _ (M : Mount) (I W Z : List ℕ) (r : Opened) (h : Checked M I W r Z) whe
       passed = subst (CheckedIs M I (length W)) e (h .answer)
 
       geo-next : geoOf s ≡ geoAt M I
-      geo-next = opened-geo M I s (checked-opens M I (length W) (passed .0)) (passed .1)
+      geo-next = opened-geo M I s (passed .1)
 
       path-next : pathRefusal cwd p ≡ changeCall M I (length W) cwd p
       unfolding changeCall
@@ -120,7 +120,7 @@ module _ (M : Mount) (I W Z : List ℕ) (r : Opened) (h : Checked M I W r Z) whe
   ready b s e =
       let q : (checkRefusal M I (length W) ≡ 0) × (s ≡ superBlock (geoAt M I)) = subst (CheckedIs M I (length W)) e (h .answer) in
       let c = check-passed M I (length W) b (q .0) in
-      let m : M ≡ mountOf s = sym (ap mounted (opened-geo M I s (c .1) (q .1))) in
+      let m : M ≡ mountOf s = sym (ap mounted (opened-geo M I s (q .1))) in
       record {
         fit = opened-fit M I s (c .1) (q .1);
         well = subst (λ (x : Mount). WellFormed x I) m (c .2);
@@ -272,7 +272,7 @@ module _ (M : Mount) (I W Z : List ℕ) (r : Opened) (c : Checked M I W r Z) (h 
   unfolding writeReply
   write-yes s e o J w =
       let q : (checkRefusal M I (length W) ≡ 0) × (s ≡ superBlock (geoAt M I)) = subst (CheckedIs M I (length W)) e (c .answer) in
-      let g : geoOf s ≡ geoAt M I = opened-geo M I s (checked-opens M I (length W) (q .0)) (q .1) in
+      let g : geoOf s ≡ geoAt M I = opened-geo M I s (q .1) in
       let t : targetOf (geoOf s) I h (length buf) ≡ given (checkRefusal M I (length W)) (targetOf (geoAt M I) I h (length buf))
       = ap (λ (x : Geo). targetOf x I h (length buf)) g ∙ given-none _ _ (q .0) in
       record {

@@ -12,15 +12,16 @@ use Rattle.wire.proofs.Picks.{pick-true, pick-false}
 use Rattle.model.specs.Answers.{Reply, refused, andThen, firstOf, given}
 use Rattle.limits.specs.Refusals.{refusalNumber}
 use Rattle.limits.specs.declared.Refusal.{Refusal}
-use Rattle.model.specs.Geometry.{Mount, codeSize, geoAt, openRefusal}
-use Rattle.model.proofs.Opens.{opens-sound, when-true, when-false, first-of-head, first-of-tail, first-of-one}
+use Rattle.model.specs.Geometry.{Mount, geoAt, openRefusal}
+use Rattle.model.proofs.Opens.{when-true, when-false, first-of-head, first-of-tail, first-of-one}
 use Rattle.model.proofs.Replies.{given-none as given-nothing, given-some as given-refusal}
 use Rattle.limits.proofs.Numbers.{number-some}
 use Rattle.super_block.specs.declared.SuperBlock.{SuperBlock}
 use Rattle.super_block.specs.declared.Opened.{Opened}
 use Rattle.super_block.specs.declared.Opened.the-variants.{At, Refused}
-use Rattle.super_block.specs.Super.{superBlock, OpenedIs}
+use Rattle.super_block.specs.Super.{areaIn, superBlock, OpenedIs}
 use Rattle.block.specs.declared.Addr.{Addr}
+use Rattle.block.specs.Block.{Area}
 use Rattle.read_dir.specs.Walk.{walk}
 use Rattle.read_dir.specs.Finds.{sumFrom, skip, listFrom, recordsFrom}
 use Rattle.path.specs.declared.Real.{Real}
@@ -38,7 +39,7 @@ use Rattle.dir.specs.declared.Located.the-variants as located
 use Rattle.dir.specs.Post.{openedSays, locatedSays}
 use Rattle.call_read.specs.declared.Listing.{Listing}
 use Rattle.call_read.specs.declared.Listing.the-variants as listing
-use Rattle.call_read.specs.Reading.{size, area, end, pathCall, openReply, infoReply, listReply, openEntry, openOn, aboutEntry, aboutRoot, infoOn, Counts, onReply, ListIs, listOn, recordsOn, recordsAt, countsOf}
+use Rattle.call_read.specs.Reading.{areaAt, pathCall, openReply, infoReply, listReply, openEntry, openOn, aboutEntry, aboutRoot, infoOn, Counts, onReply, ListIs, listOn, recordsOn, recordsAt, countsOf}
 
 -- ---- an earlier refusal
 
@@ -62,23 +63,16 @@ module _ (M : Mount) (I : List ℕ) (r : Opened) (o : OpenedIs M I r) where
     opens : (openRefusal M I ≡ 0) × (s ≡ superBlock (geoAt M I))
     opens = subst (OpenedIs M I) e o
 
-    -- The block size, where the data begins and where the volume ends are the struct's; so what goes by them goes by the struct.
-    pub parts-is : _≡_ {A = ℕ × ℕ × ℕ} (512, s .area .0, s .blocks) (size M I, area M I, end M I)
-    parts-is =
-        let k : M .code ≡ 0 = opens-sound M I (opens .0) .0 .known .1 in
-        let a : _≡_ {A = ℕ × ℕ × ℕ} (512, s .area .0, s .blocks) (512, area M I, end M I) = λ i. (512, opens .1 i .area .0, opens .1 i .blocks) in
-        let b : _≡_ {A = ℕ × ℕ × ℕ} (512, area M I, end M I) (size M I, area M I, end M I) = λ i. (codeSize (sym k i), area M I, end M I) in
-        a ∙ b
+    -- The data area is the struct's; so what goes by it goes by the struct.
+    pub area-at : areaIn s ≡ areaAt M I
+    area-at = ap areaIn (opens .1)
 
-    parts-at : {A : Type 0} (f : ℕ → ℕ → ℕ → A) → f 512 (s .area .0) (s .blocks) ≡ f (size M I) (area M I) (end M I)
-    parts-at f = ap (λ (x : ℕ × ℕ × ℕ). f (x .0) (x .1) (x .2)) parts-is
-
-    call-at : {A : Type 0} (cwd p : List ℕ) (f : ℕ → ℕ → ℕ → Reply A)
-        → given (pathRefusal cwd p) (f 512 (s .area .0) (s .blocks)) ≡ given (pathCall M I cwd p) (f (size M I) (area M I) (end M I))
+    call-at : {T : Type 0} (cwd p : List ℕ) (f : Area → Reply T)
+        → given (pathRefusal cwd p) (f (areaIn s)) ≡ given (pathCall M I cwd p) (f (areaAt M I))
     unfolding pathCall
     call-at cwd p f =
         let c : pathRefusal cwd p ≡ firstOf (openRefusal M I ∷ (pathRefusal cwd p ∷ [])) = sym (first-of-tail _ _ (opens .0) ∙ first-of-one (pathRefusal cwd p)) in
-        ap (λ (k : ℕ). given k (f 512 (s .area .0) (s .blocks))) c ∙ ap (given _) (parts-at f)
+        ap (λ (k : ℕ). given k (f (areaIn s))) c ∙ ap (λ (A : Area). given (firstOf (openRefusal M I ∷ (pathRefusal cwd p ∷ []))) (f A)) area-at
 
 -- ---- the path
 
@@ -110,42 +104,42 @@ module _ (cwd p l m : List ℕ) (r : Real) (o : RealIs cwd p l m r) where
 
 -- ---- the entry
 
-module _ (B D n : ℕ) (I l : List ℕ) (r : Located) (o : locatedSays r ≡ entryOf B D n I l) where
-  located-refused : {A : Type 0} (f : Held → Reply A) (x : Refusal) → r ≡ located.Refused x → refused (refusalNumber x) ≡ andThen (entryOf B D n I l) f
+module _ (A : Area) (I l : List ℕ) (r : Located) (o : locatedSays r ≡ entryOf A I l) where
+  located-refused : {T : Type 0} (f : Held → Reply T) (x : Refusal) → r ≡ located.Refused x → refused (refusalNumber x) ≡ andThen (entryOf A I l) f
   unfolding andThen
   located-refused f x e = ap (λ (q : Reply Held). andThen q f) (sym (ap locatedSays e) ∙ o)
 
-  module _ {A : Type 0} (f : Held → Reply A) where
-    located-at : (d : Addr) (e : DirEntry) → r ≡ located.At d e → f (held (d .0) e) ≡ andThen (entryOf B D n I l) f
+  module _ {T : Type 0} (f : Held → Reply T) where
+    located-at : (d : Addr) (e : DirEntry) → r ≡ located.At d e → f (held (d .0) e) ≡ andThen (entryOf A I l) f
     unfolding andThen
     located-at d e q = ap (λ (x : Reply Held). andThen x f) (sym (ap locatedSays q) ∙ o)
 
   -- a name that was found has at most 255 bytes
   pub located-short : ((i : ℕ) → getD I i 0 < 256) → (d : Addr) (e : DirEntry) → r ≡ located.At d e → length (lastName l) ≤ 255
-  located-short bytes d e q = entry-short B D n I bytes l (held (d .0) e) (sym o ∙ ap locatedSays q)
+  located-short bytes d e q = entry-short A I bytes l (held (d .0) e) (sym o ∙ ap locatedSays q)
 
-  pub open-lost : (x : Refusal) → r ≡ located.Refused x → refused (refusalNumber x) ≡ openOn B D n I l
+  pub open-lost : (x : Refusal) → r ≡ located.Refused x → refused (refusalNumber x) ≡ openOn A I l
   unfolding openOn
   open-lost x e = located-refused (openEntry (lastName l)) x e
 
-  pub open-found : (d : Addr) (e : DirEntry) → r ≡ located.At d e → openEntry (lastName l) (held (d .0) e) ≡ openOn B D n I l
+  pub open-found : (d : Addr) (e : DirEntry) → r ≡ located.At d e → openEntry (lastName l) (held (d .0) e) ≡ openOn A I l
   unfolding openOn
   open-found d e q = located-at (openEntry (lastName l)) d e q
 
-  pub info-lost : (x : Refusal) → r ≡ located.Refused x → refused (refusalNumber x) ≡ andThen (entryOf B D n I l) (aboutEntry (lastName l))
+  pub info-lost : (x : Refusal) → r ≡ located.Refused x → refused (refusalNumber x) ≡ andThen (entryOf A I l) (aboutEntry (lastName l))
   info-lost x e = located-refused (aboutEntry (lastName l)) x e
 
-  pub info-found : (d : Addr) (e : DirEntry) → r ≡ located.At d e → aboutEntry (lastName l) (held (d .0) e) ≡ andThen (entryOf B D n I l) (aboutEntry (lastName l))
+  pub info-found : (d : Addr) (e : DirEntry) → r ≡ located.At d e → aboutEntry (lastName l) (held (d .0) e) ≡ andThen (entryOf A I l) (aboutEntry (lastName l))
   info-found d e q = located-at (aboutEntry (lastName l)) d e q
 
 -- ---- the root's own info
 
-module _ (B D n : ℕ) (I l p : List ℕ) (b : Bool) (o : b ≡ same p (slash ∷ [])) where
-  info-is-root : b ≡ true → aboutRoot (sumFrom 0 (walk B D n I D)) ≡ infoOn B D n I l p
+module _ (A : Area) (I l p : List ℕ) (b : Bool) (o : b ≡ same p (slash ∷ [])) where
+  info-is-root : b ≡ true → aboutRoot (sumFrom 0 (walk A I (A .first))) ≡ infoOn A I l p
   unfolding infoOn
   info-is-root e = sym (pick-true _ _ (sym o ∙ e))
 
-  info-is-other : b ≡ false → andThen (entryOf B D n I l) (aboutEntry (lastName l)) ≡ infoOn B D n I l p
+  info-is-other : b ≡ false → andThen (entryOf A I l) (aboutEntry (lastName l)) ≡ infoOn A I l p
   unfolding infoOn
   info-is-other e = sym (pick-false _ _ (sym o ∙ e))
 
@@ -159,54 +153,54 @@ list-as {r} {q} {rs} {ss} {buf} {out} {x} i e f =
 pub list-refused : (r : Reply Counts) (rs buf : List ℕ) (x : Refusal) → refused (refusalNumber x) ≡ r → ListIs r rs buf buf (listing.Refused x)
 list-refused r rs buf x e = record { answer = e; buffer = ap (λ (z : Reply Counts). onReply z (splice buf 0 rs) buf) e }
 
-module _ (B D n : ℕ) (I l : List ℕ) (i cap : ℕ) (r : DirOpened) (o : openedSays r ≡ openDir B D n I l) where
-  pub list-lost : (x : Refusal) → r ≡ dir.Refused x → refused (refusalNumber x) ≡ listOn B D n I l i cap
+module _ (A : Area) (I l : List ℕ) (i cap : ℕ) (r : DirOpened) (o : openedSays r ≡ openDir A I l) where
+  pub list-lost : (x : Refusal) → r ≡ dir.Refused x → refused (refusalNumber x) ≡ listOn A I l i cap
   unfolding listOn andThen
-  list-lost x e = ap (λ (q : Reply ℕ). andThen q (λ a. countsOf (listFrom cap 0 i (skip i (walk B D n I a))))) (sym (ap openedSays e) ∙ o)
+  list-lost x e = ap (λ (q : Reply ℕ). andThen q (λ a. countsOf (listFrom cap 0 i (skip i (walk A I a))))) (sym (ap openedSays e) ∙ o)
 
-  pub list-found : (a : Addr) → r ≡ dir.At a → countsOf (listFrom cap 0 i (skip i (walk B D n I (a .0)))) ≡ listOn B D n I l i cap
+  pub list-found : (a : Addr) → r ≡ dir.At a → countsOf (listFrom cap 0 i (skip i (walk A I (a .0)))) ≡ listOn A I l i cap
   unfolding listOn andThen
-  list-found a e = ap (λ (q : Reply ℕ). andThen q (λ a. countsOf (listFrom cap 0 i (skip i (walk B D n I a))))) (sym (ap openedSays e) ∙ o)
+  list-found a e = ap (λ (q : Reply ℕ). andThen q (λ a. countsOf (listFrom cap 0 i (skip i (walk A I a))))) (sym (ap openedSays e) ∙ o)
 
-  pub records-found : (a : Addr) → r ≡ dir.At a → recordsFrom cap 0 (skip i (walk B D n I (a .0))) ≡ recordsOn B D n I l i cap
+  pub records-found : (a : Addr) → r ≡ dir.At a → recordsFrom cap 0 (skip i (walk A I (a .0))) ≡ recordsOn A I l i cap
   unfolding recordsOn
-  records-found a e = ap (recordsAt B D n I i cap) (sym (ap openedSays e) ∙ o)
+  records-found a e = ap (recordsAt A I i cap) (sym (ap openedSays e) ∙ o)
 
 -- ---- the same, for each call
 
-module _ (cwd p l m : List ℕ) (r : Real) (o : RealIs cwd p l m r) (k : ℕ) (e : r ≡ real.Len k) (long : length l ≡ 1024) (B D n : ℕ) (I : List ℕ) where
-  pub open-path-at : openOn B D n I (take k m) ≡ given (pathRefusal cwd p) (openOn B D n I (realPath cwd p))
-  open-path-at = path-at cwd p l m r o k e (openOn B D n I) long
+module _ (cwd p l m : List ℕ) (r : Real) (o : RealIs cwd p l m r) (k : ℕ) (e : r ≡ real.Len k) (long : length l ≡ 1024) (A : Area) (I : List ℕ) where
+  pub open-path-at : openOn A I (take k m) ≡ given (pathRefusal cwd p) (openOn A I (realPath cwd p))
+  open-path-at = path-at cwd p l m r o k e (openOn A I) long
 
   -- (the code tests all of the path's bytes)
-  pub info-root-at : (b : Bool) → b ≡ same (take (length p) p) (slash ∷ []) → b ≡ true → aboutRoot (sumFrom 0 (walk B D n I D)) ≡ given (pathRefusal cwd p) (infoOn B D n I (realPath cwd p) p)
-  info-root-at b q t = info-is-root B D n I (take k m) p b (q ∙ ap (λ (x : List ℕ). same x (slash ∷ [])) (take-all (length p) p (omega arith))) t ∙ path-at cwd p l m r o k e (λ x. infoOn B D n I x p) long
+  pub info-root-at : (b : Bool) → b ≡ same (take (length p) p) (slash ∷ []) → b ≡ true → aboutRoot (sumFrom 0 (walk A I (A .first))) ≡ given (pathRefusal cwd p) (infoOn A I (realPath cwd p) p)
+  info-root-at b q t = info-is-root A I (take k m) p b (q ∙ ap (λ (x : List ℕ). same x (slash ∷ [])) (take-all (length p) p (omega arith))) t ∙ path-at cwd p l m r o k e (λ x. infoOn A I x p) long
 
   pub info-path-at : (b : Bool) → b ≡ same (take (length p) p) (slash ∷ []) → b ≡ false
-      → andThen (entryOf B D n I (take k m)) (aboutEntry (lastName (take k m))) ≡ given (pathRefusal cwd p) (infoOn B D n I (realPath cwd p) p)
-  info-path-at b q t = info-is-other B D n I (take k m) p b (q ∙ ap (λ (x : List ℕ). same x (slash ∷ [])) (take-all (length p) p (omega arith))) t ∙ path-at cwd p l m r o k e (λ x. infoOn B D n I x p) long
+      → andThen (entryOf A I (take k m)) (aboutEntry (lastName (take k m))) ≡ given (pathRefusal cwd p) (infoOn A I (realPath cwd p) p)
+  info-path-at b q t = info-is-other A I (take k m) p b (q ∙ ap (λ (x : List ℕ). same x (slash ∷ [])) (take-all (length p) p (omega arith))) t ∙ path-at cwd p l m r o k e (λ x. infoOn A I x p) long
 
-  pub list-path-at : (i cap : ℕ) → listOn B D n I (take k m) i cap ≡ given (pathRefusal cwd p) (listOn B D n I (realPath cwd p) i cap)
-  list-path-at i cap = path-at cwd p l m r o k e (λ x. listOn B D n I x i cap) long
+  pub list-path-at : (i cap : ℕ) → listOn A I (take k m) i cap ≡ given (pathRefusal cwd p) (listOn A I (realPath cwd p) i cap)
+  list-path-at i cap = path-at cwd p l m r o k e (λ x. listOn A I x i cap) long
 
-  pub records-path-at : (i cap : ℕ) → recordsOn B D n I (take k m) i cap ≡ recordsOn B D n I (realPath cwd p) i cap
-  records-path-at i cap = ap (λ (x : List ℕ). recordsOn B D n I x i cap) (path-taken cwd p l m r o k e long)
+  pub records-path-at : (i cap : ℕ) → recordsOn A I (take k m) i cap ≡ recordsOn A I (realPath cwd p) i cap
+  records-path-at i cap = ap (λ (x : List ℕ). recordsOn A I x i cap) (path-taken cwd p l m r o k e long)
 
 module _ (M : Mount) (I : List ℕ) (r : Opened) (o : OpenedIs M I r) (cwd p : List ℕ) (s : SuperBlock) (e : r ≡ At s) where
-  pub open-call : given (pathRefusal cwd p) (openOn 512 (s .area .0) (s .blocks) I (realPath cwd p)) ≡ openReply M I cwd p
+  pub open-call : given (pathRefusal cwd p) (openOn (areaIn s) I (realPath cwd p)) ≡ openReply M I cwd p
   unfolding openReply
-  open-call = call-at M I r o s e cwd p (λ b d n. openOn b d n I (realPath cwd p))
+  open-call = call-at M I r o s e cwd p (λ A. openOn A I (realPath cwd p))
 
-  pub info-call : given (pathRefusal cwd p) (infoOn 512 (s .area .0) (s .blocks) I (realPath cwd p) p) ≡ infoReply M I cwd p
+  pub info-call : given (pathRefusal cwd p) (infoOn (areaIn s) I (realPath cwd p) p) ≡ infoReply M I cwd p
   unfolding infoReply
-  info-call = call-at M I r o s e cwd p (λ b d n. infoOn b d n I (realPath cwd p) p)
+  info-call = call-at M I r o s e cwd p (λ A. infoOn A I (realPath cwd p) p)
 
-  pub list-call : (i cap : ℕ) → given (pathRefusal cwd p) (listOn 512 (s .area .0) (s .blocks) I (realPath cwd p) i cap) ≡ listReply M I cwd p i cap
+  pub list-call : (i cap : ℕ) → given (pathRefusal cwd p) (listOn (areaIn s) I (realPath cwd p) i cap) ≡ listReply M I cwd p i cap
   unfolding listReply
-  list-call i cap = call-at M I r o s e cwd p (λ b d n. listOn b d n I (realPath cwd p) i cap)
+  list-call i cap = call-at M I r o s e cwd p (λ A. listOn A I (realPath cwd p) i cap)
 
-  pub records-call : (i cap : ℕ) → recordsOn 512 (s .area .0) (s .blocks) I (realPath cwd p) i cap ≡ recordsOn (size M I) (area M I) (end M I) I (realPath cwd p) i cap
-  records-call i cap = parts-at M I r o s e (λ b d n. recordsOn b d n I (realPath cwd p) i cap)
+  pub records-call : (i cap : ℕ) → recordsOn (areaIn s) I (realPath cwd p) i cap ≡ recordsOn (areaAt M I) I (realPath cwd p) i cap
+  records-call i cap = ap (λ (A : Area). recordsOn A I (realPath cwd p) i cap) (area-at M I r o s e)
 
 module _ (M : Mount) (I : List ℕ) (r : Opened) (o : OpenedIs M I r) (cwd p : List ℕ) (x : Refusal) (e : r ≡ Refused x) where
   pub open-no : refused (refusalNumber x) ≡ openReply M I cwd p

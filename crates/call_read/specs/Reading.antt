@@ -7,10 +7,11 @@ use lib.Dec.{ltb}
 use lib.ListN.{length}
 use Rattle.wire.specs.Be.{zeros, splice}
 use Rattle.wire.specs.Pick.{pick, same}
+use Rattle.block.specs.Block.{Area}
 use Rattle.model.specs.Answers.{Reply, accepted, refused, andThen, firstOf, given}
 use Rattle.limits.specs.Refusals.{refusalNumber}
 use Rattle.model.specs.Render.{padded}
-use Rattle.model.specs.Geometry.{Mount, blockSize, dataAt, geoAt, openRefusal}
+use Rattle.model.specs.Geometry.{Mount, blockSize, areaOf, geoAt, openRefusal}
 use Rattle.model.specs.Volume.{fileLimit}
 use Rattle.dir_entry.specs.declared.Kind.{Kind}
 use Rattle.dir_entry.specs.declared.Kind.the-variants.{Dir}
@@ -39,15 +40,12 @@ use Rattle.call_volume.specs.Says.{onAnswer, IfRefused}
 unfoldable pub pathCall : Mount → List ℕ → List ℕ → List ℕ → ℕ
 pathCall M I cwd p = firstOf (openRefusal M I ∷ (pathRefusal cwd p ∷ []))
 
--- The block size, D and n of the image's volume.
+-- F1, F3: the block size and the data area of the image's volume.
 abbrev pub size : Mount → List ℕ → ℕ
 size M I = blockSize (geoAt M I)
 
-abbrev pub area : Mount → List ℕ → ℕ
-area M I = dataAt (geoAt M I)
-
-abbrev pub end : Mount → List ℕ → ℕ
-end M I = geoAt M I .n
+abbrev pub areaAt : Mount → List ℕ → Area
+areaAt M I = areaOf (geoAt M I)
 
 -- ---- open
 
@@ -65,11 +63,11 @@ openEntry x h =
     pick (isFile (h .entry .kind)) (pick (ltb fileLimit (h .entry .size)) (refused 10) (accepted (handleFor (h .dir) (h .entry) x))) (refused 6)
 
 -- at the full path l
-unfoldable pub openOn : ℕ → ℕ → ℕ → List ℕ → List ℕ → Reply Handle
-openOn B D n I l = andThen (entryOf B D n I l) (openEntry (lastName l))
+unfoldable pub openOn : Area → List ℕ → List ℕ → Reply Handle
+openOn A I l = andThen (entryOf A I l) (openEntry (lastName l))
 
 unfoldable pub openReply : Mount → List ℕ → List ℕ → List ℕ → Reply Handle
-openReply M I cwd p = given (pathCall M I cwd p) (openOn (size M I) (area M I) (end M I) I (realPath cwd p))
+openReply M I cwd p = given (pathCall M I cwd p) (openOn (areaAt M I) I (realPath cwd p))
 
 -- ---- info
 
@@ -97,11 +95,11 @@ aboutRoot (summed.Total s) = accepted (about Dir s 0 [])
 aboutRoot summed.Damaged = refused 17
 
 -- P6: of the path p, whose full path is l; the root only where p is a slash and nothing else
-unfoldable pub infoOn : ℕ → ℕ → ℕ → List ℕ → List ℕ → List ℕ → Reply About
-infoOn B D n I l p = pick (same p (slash ∷ [])) (aboutRoot (sumFrom 0 (walk B D n I D))) (andThen (entryOf B D n I l) (aboutEntry (lastName l)))
+unfoldable pub infoOn : Area → List ℕ → List ℕ → List ℕ → Reply About
+infoOn A I l p = pick (same p (slash ∷ [])) (aboutRoot (sumFrom 0 (walk A I (A .first)))) (andThen (entryOf A I l) (aboutEntry (lastName l)))
 
 unfoldable pub infoReply : Mount → List ℕ → List ℕ → List ℕ → Reply About
-infoReply M I cwd p = given (pathCall M I cwd p) (infoOn (size M I) (area M I) (end M I) I (realPath cwd p) p)
+infoReply M I cwd p = given (pathCall M I cwd p) (infoOn (areaAt M I) I (realPath cwd p) p)
 
 -- ---- list
 
@@ -115,19 +113,19 @@ countsOf (listed.Records b i) = accepted (record { bytes = b; next = i })
 countsOf listed.Damaged = refused 17
 
 -- P5: all of the full path l leads to the directory; from entry number i on, into a buffer of cap bytes.
-unfoldable pub listOn : ℕ → ℕ → ℕ → List ℕ → List ℕ → ℕ → ℕ → Reply Counts
-listOn B D n I l i cap = andThen (openDir B D n I l) (λ a. countsOf (listFrom cap 0 i (skip i (walk B D n I a))))
+unfoldable pub listOn : Area → List ℕ → List ℕ → ℕ → ℕ → Reply Counts
+listOn A I l i cap = andThen (openDir A I l) (λ a. countsOf (listFrom cap 0 i (skip i (walk A I a))))
 
 unfoldable pub listReply : Mount → List ℕ → List ℕ → List ℕ → ℕ → ℕ → Reply Counts
-listReply M I cwd p i cap = given (pathCall M I cwd p) (listOn (size M I) (area M I) (end M I) I (realPath cwd p) i cap)
+listReply M I cwd p i cap = given (pathCall M I cwd p) (listOn (areaAt M I) I (realPath cwd p) i cap)
 
 -- The bytes of the records, where the directory is found.
-abbrev pub recordsAt : ℕ → ℕ → ℕ → List ℕ → ℕ → ℕ → Reply ℕ → List ℕ
-recordsAt B D n I i cap (accepted a) = recordsFrom cap 0 (skip i (walk B D n I a))
-recordsAt B D n I i cap (refused k) = []
+abbrev pub recordsAt : Area → List ℕ → ℕ → ℕ → Reply ℕ → List ℕ
+recordsAt A I i cap (accepted a) = recordsFrom cap 0 (skip i (walk A I a))
+recordsAt A I i cap (refused k) = []
 
-unfoldable pub recordsOn : ℕ → ℕ → ℕ → List ℕ → List ℕ → ℕ → ℕ → List ℕ
-recordsOn B D n I l i cap = recordsAt B D n I i cap (openDir B D n I l)
+unfoldable pub recordsOn : Area → List ℕ → List ℕ → ℕ → ℕ → List ℕ
+recordsOn A I l i cap = recordsAt A I i cap (openDir A I l)
 
 -- x where the call is accepted, else y
 abbrev pub onReply : {A B : Type 0} → Reply A → B → B → B
@@ -173,12 +171,12 @@ pub record ListIs (r : Reply Counts) (rs buf out : List ℕ) (q : Listing) : Typ
 
 abbrev pub Lists : Mount → List ℕ → List ℕ → List ℕ → ℕ → List ℕ → Listing → List ℕ → Type 0
 Lists M I cwd p i buf q out =
-    ListIs (listReply M I cwd p i (length buf)) (recordsOn (size M I) (area M I) (end M I) I (realPath cwd p) i (length buf)) buf out q
+    ListIs (listReply M I cwd p i (length buf)) (recordsOn (areaAt M I) I (realPath cwd p) i (length buf)) buf out q
 
 -- C7, O6: 1, 2, 3, then what handle, directory and chain are refused by; the count, the handle and the buffer, from buf to out.
 unfoldable pub readCall : Mount → List ℕ → Handle → ℕ → ℕ
-readCall M I h len = firstOf (openRefusal M I ∷ (readRefusal (size M I) (area M I) (end M I) I h len ∷ []))
+readCall M I h len = firstOf (openRefusal M I ∷ (readRefusal (areaAt M I) I h len ∷ []))
 
 abbrev pub Reads : Mount → List ℕ → Handle → List ℕ → List ℕ → CountedOut → Type 0
 Reads M I h buf out o =
-    CountedIs (readCall M I h (length buf)) h (o .handle) (bytesRead (size M I) (area M I) (end M I) I h (length buf)) buf out (o .answer)
+    CountedIs (readCall M I h (length buf)) h (o .handle) (bytesRead (areaAt M I) I h (length buf)) buf out (o .answer)

@@ -18,9 +18,8 @@ use super_block::SuperBlock;
 ghost use mathlib.Core.Path.{_≡_};
 ghost use Prim.Native.Nat.{_-_, _≤_};
 ghost use lib.ListN.{length, take};
-ghost use Rattle.block.specs.Block.{blockBytes};
 ghost use Rattle.model.specs.Geometry.{mount};
-ghost use Rattle.super_block.specs.Super.{Fit};
+ghost use Rattle.super_block.specs.Super.{areaIn, Fit};
 ghost use Rattle.model.specs.Answers.{accepted, refused, andThen, given};
 ghost use Rattle.limits.specs.Refusals.{refusalNumber};
 ghost use Rattle.path.specs.Path.{pathLimit, realPath, pathRefusal, lastName};
@@ -149,7 +148,7 @@ fn about_entry(full: &[u8], len: usize, e: DirEntry) -> InfoOut
 // The root itself: a directory of no name, whose size is its sum.
 fn info_root(img: &[u8], s: SuperBlock) -> InfoOut
     requires { ⌜ Fit s (now img) ⌝ }
-    ensures { λ o. ⌜ InfoIs (aboutRoot (sumFrom 0 (walk blockBytes (s .area .0) (s .blocks) (now (img .entry)) (s .area .0)))) o ⌝ }
+    ensures { λ o. ⌜ InfoIs (aboutRoot (sumFrom 0 (walk (areaIn s) (now (img .entry)) (s .area .0)))) o ⌝ }
 {
     let d = s.area;
     let summed = read_dir::sum(img, s, d);
@@ -169,7 +168,7 @@ fn info_root(img: &[u8], s: SuperBlock) -> InfoOut
 // Lists the directory that begins at block a, from entry number i on.
 fn list_dir(img: &[u8], s: SuperBlock, a: Addr, i: u32, buf: &mut [u8]) -> Listing
     requires { ⌜ Fit s (now img) ⌝ }
-    ensures { λ r. ⌜ ListIs (countsOf (listFrom (length (now (buf .entry))) 0 i (skip i (walk blockBytes (s .area .0) (s .blocks) (now (img .entry)) (a .0))))) (recordsFrom (length (now (buf .entry))) 0 (skip i (walk blockBytes (s .area .0) (s .blocks) (now (img .entry)) (a .0)))) (now (buf .entry)) (now (buf .exit)) r ⌝ }
+    ensures { λ r. ⌜ ListIs (countsOf (listFrom (length (now (buf .entry))) 0 i (skip i (walk (areaIn s) (now (img .entry)) (a .0))))) (recordsFrom (length (now (buf .entry))) 0 (skip i (walk (areaIn s) (now (img .entry)) (a .0)))) (now (buf .entry)) (now (buf .exit)) r ⌝ }
 {
     let l = read_dir::list(img, s, a, i, buf);
     match l {
@@ -183,7 +182,7 @@ fn open_full(img: &[u8], s: SuperBlock, full: &[u8], len: usize) -> OpenOut
     requires { ⌜ Fit s (now img) ⌝ }
     requires { ⌜ len ≤ length (now full) ⌝ }
     requires { ⌜ length (now full) ≤ pathLimit ⌝ }
-    ensures { λ o. ⌜ OpenIs (openOn blockBytes (s .area .0) (s .blocks) (now (img .entry)) (take len (now (full .entry)))) o ⌝ }
+    ensures { λ o. ⌜ OpenIs (openOn (areaIn s) (now (img .entry)) (take len (now (full .entry)))) o ⌝ }
 {
     let found = dir::find(img, s, full, len);
     match found {
@@ -195,7 +194,7 @@ fn open_full(img: &[u8], s: SuperBlock, full: &[u8], len: usize) -> OpenOut
 // The file at a path.
 fn open_path(img: &[u8], s: SuperBlock, cwd: &[u8], path: &[u8]) -> OpenOut
     requires { ⌜ Fit s (now img) ⌝ }
-    ensures { λ o. ⌜ OpenIs (given (pathRefusal (now (cwd .entry)) (now (path .entry))) (openOn blockBytes (s .area .0) (s .blocks) (now (img .entry)) (realPath (now (cwd .entry)) (now (path .entry))))) o ⌝ }
+    ensures { λ o. ⌜ OpenIs (given (pathRefusal (now (cwd .entry)) (now (path .entry))) (openOn (areaIn s) (now (img .entry)) (realPath (now (cwd .entry)) (now (path .entry))))) o ⌝ }
 {
     let mut full = [0u8; 1024];
     let real = path::realpath(&mut full, cwd, path);
@@ -221,7 +220,7 @@ fn info_full(img: &[u8], s: SuperBlock, full: &[u8], len: usize) -> InfoOut
     requires { ⌜ Fit s (now img) ⌝ }
     requires { ⌜ len ≤ length (now full) ⌝ }
     requires { ⌜ length (now full) ≤ pathLimit ⌝ }
-    ensures { λ o. ⌜ InfoIs (andThen (entryOf blockBytes (s .area .0) (s .blocks) (now (img .entry)) (take len (now (full .entry)))) (aboutEntry (lastName (take len (now (full .entry)))))) o ⌝ }
+    ensures { λ o. ⌜ InfoIs (andThen (entryOf (areaIn s) (now (img .entry)) (take len (now (full .entry)))) (aboutEntry (lastName (take len (now (full .entry)))))) o ⌝ }
 {
     let found = dir::find(img, s, full, len);
     match found {
@@ -233,7 +232,7 @@ fn info_full(img: &[u8], s: SuperBlock, full: &[u8], len: usize) -> InfoOut
 // What stands at a path; the path `/` itself is the root.
 fn info_path(img: &[u8], s: SuperBlock, cwd: &[u8], path: &[u8]) -> InfoOut
     requires { ⌜ Fit s (now img) ⌝ }
-    ensures { λ o. ⌜ InfoIs (given (pathRefusal (now (cwd .entry)) (now (path .entry))) (infoOn blockBytes (s .area .0) (s .blocks) (now (img .entry)) (realPath (now (cwd .entry)) (now (path .entry))) (now (path .entry)))) o ⌝ }
+    ensures { λ o. ⌜ InfoIs (given (pathRefusal (now (cwd .entry)) (now (path .entry))) (infoOn (areaIn s) (now (img .entry)) (realPath (now (cwd .entry)) (now (path .entry))) (now (path .entry)))) o ⌝ }
 {
     let mut full = [0u8; 1024];
     let real = path::realpath(&mut full, cwd, path);
@@ -264,7 +263,7 @@ fn list_full(img: &[u8], s: SuperBlock, full: &[u8], len: usize, i: u32, buf: &m
     requires { ⌜ Fit s (now img) ⌝ }
     requires { ⌜ len ≤ length (now full) ⌝ }
     requires { ⌜ length (now full) ≤ pathLimit ⌝ }
-    ensures { λ r. ⌜ ListIs (listOn blockBytes (s .area .0) (s .blocks) (now (img .entry)) (take len (now (full .entry))) i (length (now (buf .entry)))) (recordsOn blockBytes (s .area .0) (s .blocks) (now (img .entry)) (take len (now (full .entry))) i (length (now (buf .entry)))) (now (buf .entry)) (now (buf .exit)) r ⌝ }
+    ensures { λ r. ⌜ ListIs (listOn (areaIn s) (now (img .entry)) (take len (now (full .entry))) i (length (now (buf .entry)))) (recordsOn (areaIn s) (now (img .entry)) (take len (now (full .entry))) i (length (now (buf .entry)))) (now (buf .entry)) (now (buf .exit)) r ⌝ }
 {
     let opened = dir::open(img, s, full, len);
     match opened {
@@ -276,7 +275,7 @@ fn list_full(img: &[u8], s: SuperBlock, full: &[u8], len: usize, i: u32, buf: &m
 // Lists the directory at a path.
 fn list_path(img: &[u8], s: SuperBlock, cwd: &[u8], path: &[u8], i: u32, buf: &mut [u8]) -> Listing
     requires { ⌜ Fit s (now img) ⌝ }
-    ensures { λ r. ⌜ ListIs (given (pathRefusal (now (cwd .entry)) (now (path .entry))) (listOn blockBytes (s .area .0) (s .blocks) (now (img .entry)) (realPath (now (cwd .entry)) (now (path .entry))) i (length (now (buf .entry))))) (recordsOn blockBytes (s .area .0) (s .blocks) (now (img .entry)) (realPath (now (cwd .entry)) (now (path .entry))) i (length (now (buf .entry)))) (now (buf .entry)) (now (buf .exit)) r ⌝ }
+    ensures { λ r. ⌜ ListIs (given (pathRefusal (now (cwd .entry)) (now (path .entry))) (listOn (areaIn s) (now (img .entry)) (realPath (now (cwd .entry)) (now (path .entry))) i (length (now (buf .entry))))) (recordsOn (areaIn s) (now (img .entry)) (realPath (now (cwd .entry)) (now (path .entry))) i (length (now (buf .entry)))) (now (buf .entry)) (now (buf .exit)) r ⌝ }
 {
     let mut full = [0u8; 1024];
     let real = path::realpath(&mut full, cwd, path);

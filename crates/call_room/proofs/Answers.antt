@@ -26,7 +26,7 @@ module _ (M : Mount) (I : List ℕ) (k : ℕ) (r : Opened) (o : OpenedIs M I r) 
   pub room-known : (s : SuperBlock) (t : Told) → r ≡ At s → t ≡ roomIn (geoOf s) I k → Asks M I k (Known t)
   room-known s t e q =
       let u : OpenedIs M I (At s) = subst (OpenedIs M I) e o in
-      let g : geoOf s ≡ geoAt M I = opened-geo M I s (u .0) (u .1) in
+      let g : geoOf s ≡ geoAt M I = opened-geo M I s (u .1) in
       ap accepted (q ∙ ap (λ (x : Geo). roomIn x I k) g) ∙ sym (reply-none _ (u .0))
 
   pub room-refused : (x : Refusal) → r ≡ opened.Refused x → Asks M I k (Refused x)

@@ -23,7 +23,7 @@ use Rattle.limits.proofs.Numbers.{settle-refused, number-some, number-one}
 use Rattle.super_block.specs.declared.SuperBlock.{SuperBlock}
 use Rattle.super_block.specs.declared.Opened.{Opened}
 use Rattle.super_block.specs.declared.Opened.the-variants as opened
-use Rattle.super_block.specs.Super.{geoOf, Fit, OpenedIs}
+use Rattle.super_block.specs.Super.{areaIn, geoOf, Fit, OpenedIs}
 use Rattle.super_block.proofs.Fits.{placed, opened-fit, opened-geo}
 use Rattle.check_bitmap.specs.Tally.{markBytes, markLong}
 use Rattle.thm_survey.specs.Whole.{whole}
@@ -44,9 +44,9 @@ module _ (M : Mount) (I : List ℕ) (s : SuperBlock) (o : OpenedIs M I (opened.A
   pub area-opened : s .area .0 ≤ s .blocks
   area-opened = omega (arith, placed fit-opened .some-data)
 
-  module _ (W : List ℕ) (m : ℕ) (e : m ≡ markBytes (s .area .0) (s .blocks)) where
+  module _ (W : List ℕ) (m : ℕ) (e : m ≡ markBytes (areaIn s)) where
     mark-long : m ≡ markLong (geoAt M I)
-    mark-long = e ∙ ap (λ (x : SuperBlock). markBytes (x .area .0) (x .blocks)) (o .1)
+    mark-long = e ∙ ap (λ (x : SuperBlock). markBytes (areaIn x)) (o .1)
 
     pub call-short : length W < m → Checked M I W (opened.Refused ShortWork) W
     unfolding checkRefusal checkCall workAfter
@@ -60,10 +60,10 @@ module _ (M : Mount) (I : List ℕ) (s : SuperBlock) (o : OpenedIs M I (opened.A
       unfolding checkCall
       call-none = first-of-tail _ _ (o .0) ∙ first-of-one _ ∙ when-false 16 (le-ltb (length W) (markLong (geoAt M I)) (omega (arith, mark-long)))
 
-      module _ (b : Bool) (t : b ≡ whole (geoOf s) I) (Z : List ℕ) (z : Z ≡ splice W 0 (zeros (markBytes (s .area .0) (s .blocks)))) where
+      module _ (b : Bool) (t : b ≡ whole (geoOf s) I) (Z : List ℕ) (z : Z ≡ splice W 0 (zeros (markBytes (areaIn s)))) where
         number-is : checkRefusal M I (length W) ≡ when 17 (not b)
         unfolding checkRefusal
-        number-is = first-of-tail _ _ call-none ∙ first-of-one _ ∙ ap (λ (x : Bool). when 17 (not x)) (sym (t ∙ ap (λ (x : Geo). whole x I) (opened-geo M I s (o .0) (o .1))))
+        number-is = first-of-tail _ _ call-none ∙ first-of-one _ ∙ ap (λ (x : Bool). when 17 (not x)) (sym (t ∙ ap (λ (x : Geo). whole x I) (opened-geo M I s (o .1))))
 
         work-is : Z ≡ workAfter M I W
         unfolding workAfter

@@ -8,7 +8,7 @@ use super_block::SuperBlock;
 ghost use mathlib.Core.Path.{_≡_};
 ghost use Prim.Native.Nat.{_-_};
 ghost use lib.ListN.{take};
-ghost use Rattle.model.specs.Geometry.{mount};
+ghost use Rattle.model.specs.Geometry.{mount, blockSize};
 ghost use Rattle.super_block.specs.Super.{geoOf, Fit, OpenedIs};
 ghost use Rattle.super_block.specs.declared.Opened.the-variants as opened;
 ghost use Rattle.model.specs.Answers.{reply};
@@ -30,7 +30,7 @@ fn lay(img: &mut [u8], s: SuperBlock)
     let a = s.bitmap;
     let d = s.area;
     s.write(img, d.0);
-    block::clear(img, a, d.0 - a.0);
+    block::clear(img, s.size, a, d.0 - a.0);
     bitmap_block::take(img, s, Index(0));
 }
 
@@ -51,14 +51,16 @@ pub fn format(img: &mut [u8], k: u32) -> Answer
 
 // The sizes of an opened volume, or 17 for a used count above the volume's blocks.
 fn sizes_of(s: SuperBlock, used: u32) -> Space
+    requires { ⌜ s .size ≡ blockSize (geoOf s) ⌝ }
     ensures { λ r. ⌜ spaceSays r ≡ reply (overused (geoOf s) used) (sizesOf (geoOf s) used) ⌝ }
 {
     let n = s.blocks;
     if n < used {
         return Space::Refused(Refusal::Damaged);
     }
-    let size = (n as u64) * (block::BLOCK_SIZE as u64);
-    let taken = (used as u64) * (block::BLOCK_SIZE as u64);
+    let bytes = s.size as u64;
+    let size = (n as u64) * bytes;
+    let taken = (used as u64) * bytes;
     Space::Bytes {
         size,
         used: taken,

@@ -4,11 +4,12 @@ use mathlib.Core.List.{List}
 use Prim.Native.Nat.{ℕ, _+_, _-_, _*_, _/_}
 use lib.ListN.{take, drop}
 use Rattle.wire.specs.Pick.{same, zeroFrom}
-use Rattle.model.specs.Geometry.{Geo, blockSize, mapAt, dataAt}
+use Rattle.block.specs.Block.{Area}
+use Rattle.model.specs.Geometry.{areaOf, Geo, blockSize, mapAt, dataAt}
 
 -- C3, R16: how many bytes of the work buffer hold marks: a bit for each block of the data area.
-abbrev pub markBytes : ℕ → ℕ → ℕ
-markBytes D n = (n - D + 7) / 8
+abbrev pub markBytes : Area → ℕ
+markBytes A = (A .end - A .first + 7) / 8
 
 -- Where the bitmap begins in the image, how many bytes it has, and how many of them stand for blocks of the data.
 abbrev pub mapFrom : Geo → ℕ
@@ -18,7 +19,7 @@ abbrev pub mapLong : Geo → ℕ
 mapLong g = blockSize g * (dataAt g - mapAt g)
 
 abbrev pub markLong : Geo → ℕ
-markLong g = markBytes (dataAt g) (g .n)
+markLong g = markBytes (areaOf g)
 
 -- W5: the bitmap of I has the marks W, which are those of the blocks that were reached, then zeros.
 unfoldable pub agreed : Geo → List ℕ → List ℕ → Bool

@@ -7,9 +7,8 @@ ghost use Prim.Native.Nat.{_+_, _-_, _*_, _≤_};
 ghost use lib.Dec.{eqb};
 ghost use lib.ListN.{length};
 ghost use Rattle.wire.specs.Pick.{zeroFrom};
-ghost use Rattle.block.specs.Block.{blockBytes};
 ghost use Rattle.model.specs.Geometry.{dataAt, setBits, usedCount};
-ghost use Rattle.super_block.specs.Super.{geoOf, Fit};
+ghost use Rattle.super_block.specs.Super.{areaIn, geoOf, Fit};
 ghost use Rattle.check_bitmap.specs.Tally.{markBytes, agreed};
 
 // The bytes of a superblock that hold something: signature, version, size code, block count, used count.
@@ -18,18 +17,19 @@ const HEAD: usize = 18;
 // Whether the rest of the superblock is zero.
 pub fn rest_clear(img: &[u8], s: SuperBlock) -> bool
     requires { ⌜ Fit s (now img) ⌝ }
-    ensures { λ r. ⌜ r ≡ zeroFrom (now (img .entry)) (blockBytes * s .addr .0 + 18) (blockBytes - 18) ⌝ }
+    ensures { λ r. ⌜ r ≡ zeroFrom (now (img .entry)) (s .size * s .addr .0 + 18) (s .size - 18) ⌝ }
 {
     let a = s.addr;
-    let at = block::offset(a) + HEAD;
-    wire::zero_bytes(img, at, block::BLOCK_SIZE - HEAD)
+    let at = block::offset(s.size, a) + HEAD;
+    let len = s.size as usize;
+    wire::zero_bytes(img, at, len - HEAD)
 }
 
 // How many bytes of a work buffer hold marks.
 pub fn mark_bytes(s: SuperBlock) -> usize
     requires { ⌜ s .area .0 ≤ s .blocks ⌝ }
     requires { ⌜ s .blocks ≤ 8388608 ⌝ }
-    ensures { λ r. ⌜ r ≡ markBytes (s .area .0) (s .blocks) ⌝ }
+    ensures { λ r. ⌜ r ≡ markBytes (areaIn s) ⌝ }
 {
     let d = s.area;
     ((s.blocks - d.0 + 7) / 8) as usize
@@ -38,18 +38,18 @@ pub fn mark_bytes(s: SuperBlock) -> usize
 // Whether the bitmap has the marks of the work buffer, and no bit past them.
 pub fn agrees(img: &[u8], s: SuperBlock, work: &[u8]) -> bool
     requires { ⌜ Fit s (now img) ⌝ }
-    requires { ⌜ markBytes (s .area .0) (s .blocks) ≤ length (now work) ⌝ }
+    requires { ⌜ markBytes (areaIn s) ≤ length (now work) ⌝ }
     ensures { λ r. ⌜ r ≡ agreed (geoOf s) (now (img .entry)) (now (work .entry)) ⌝ }
 {
     let a = s.bitmap;
     let d = s.area;
     let m = mark_bytes(s);
-    let from = block::offset(a);
+    let from = block::offset(s.size, a);
     if !wire::same_bytes(img, from, &work[..m]) {
         return false;
     }
     let past = from + m;
-    let end = block::offset(d);
+    let end = block::offset(s.size, d);
     wire::zero_bytes(img, past, end - past)
 }
 
@@ -60,8 +60,8 @@ pub fn count_right(img: &[u8], s: SuperBlock) -> bool
 {
     let a = s.bitmap;
     let d = s.area;
-    let from = block::offset(a);
-    let limit = super_block::BITMAP_SIZE * (d.0 - a.0);
+    let from = block::offset(s.size, a);
+    let limit = 8 * (s.size * (d.0 - a.0));
     let set = bits::count(img, from, limit);
     let used = s.alloc_count(img);
     used == d.0 + set

@@ -10,8 +10,7 @@ ghost use lib.Dec.{leb};
 ghost use lib.ListN.{length};
 ghost use Rattle.wire.specs.Pick.{pick};
 ghost use Rattle.model.specs.Volume.{fileLimit, blocksFor};
-ghost use Rattle.block.specs.Block.{blockBytes};
-ghost use Rattle.super_block.specs.Super.{Fit};
+ghost use Rattle.super_block.specs.Super.{areaIn, Fit};
 ghost use Rattle.check_bitmap.specs.Tally.{markBytes};
 ghost use Rattle.thm_survey.specs.Survey.{claim, cellsOf, chainOf, seenOf};
 ghost use Rattle.check_chain.specs.Marks.{MarksAnswer, Inside};
@@ -19,9 +18,9 @@ ghost use Rattle.check_chain.specs.Marks.{MarksAnswer, Inside};
 // Claims block a: marked, unless it is outside the data area or claimed already.
 pub fn claim(work: &mut [u8], s: SuperBlock, a: Addr) -> bool
     requires { ⌜ s .blocks ≤ 8388608 ⌝ }
-    requires { ⌜ markBytes (s .area .0) (s .blocks) ≤ length (now work) ⌝ }
-    ensures { λ r. ⌜ MarksAnswer (s .area .0) (s .blocks) (claim blockBytes (s .area .0) (s .blocks) [] (a .0)) (now (work .entry)) (now (work .exit)) r ⌝ }
-    ensures { λ r. ⌜ Inside (s .area .0) (s .blocks) (a .0) r ⌝ }
+    requires { ⌜ markBytes (areaIn s) ≤ length (now work) ⌝ }
+    ensures { λ r. ⌜ MarksAnswer (areaIn s) (claim (areaIn s) [] (a .0)) (now (work .entry)) (now (work .exit)) r ⌝ }
+    ensures { λ r. ⌜ Inside (areaIn s) (a .0) r ⌝ }
 {
     let d = s.area;
     if a.0 < d.0 {
@@ -42,8 +41,8 @@ pub fn claim(work: &mut [u8], s: SuperBlock, a: Addr) -> bool
 // The chain of a file: exactly k blocks from a on, each claimed, and then its end.
 fn cells(img: &[u8], work: &mut [u8], s: SuperBlock, a: Addr, k: u32) -> bool
     requires { ⌜ Fit s (now img) ⌝ }
-    requires { ⌜ markBytes (s .area .0) (s .blocks) ≤ length (now work) ⌝ }
-    ensures { λ r. ⌜ MarksAnswer (s .area .0) (s .blocks) (λ seen. seenOf (cellsOf blockBytes (s .area .0) (s .blocks) (now (img .entry)) k (a .0) seen)) (now (work .entry)) (now (work .exit)) r ⌝ }
+    requires { ⌜ markBytes (areaIn s) ≤ length (now work) ⌝ }
+    ensures { λ r. ⌜ MarksAnswer (areaIn s) (λ seen. seenOf (cellsOf (areaIn s) (now (img .entry)) k (a .0) seen)) (now (work .entry)) (now (work .exit)) r ⌝ }
 {
     let mut b = a;
     let mut left = k;
@@ -51,7 +50,7 @@ fn cells(img: &[u8], work: &mut [u8], s: SuperBlock, a: Addr, k: u32) -> bool
         if !claim(work, s, b) {
             return false;
         }
-        b = LinkedBlock::new(b).next_addr(img);
+        b = LinkedBlock::new(s.size, b).next_addr(img);
         left -= 1;
     }
     if b.0 == 0 {
@@ -63,20 +62,20 @@ fn cells(img: &[u8], work: &mut [u8], s: SuperBlock, a: Addr, k: u32) -> bool
 // Whether a file of that size is within the limit and has the blocks for it, from a on.
 pub fn file_chain(img: &[u8], work: &mut [u8], s: SuperBlock, a: Addr, size: u32) -> bool
     requires { ⌜ Fit s (now img) ⌝ }
-    requires { ⌜ markBytes (s .area .0) (s .blocks) ≤ length (now work) ⌝ }
-    ensures { λ r. ⌜ MarksAnswer (s .area .0) (s .blocks) (λ seen. pick (leb size fileLimit) (seenOf (cellsOf blockBytes (s .area .0) (s .blocks) (now (img .entry)) (blocksFor blockBytes size) (a .0) seen)) none) (now (work .entry)) (now (work .exit)) r ⌝ }
+    requires { ⌜ markBytes (areaIn s) ≤ length (now work) ⌝ }
+    ensures { λ r. ⌜ MarksAnswer (areaIn s) (λ seen. pick (leb size fileLimit) (seenOf (cellsOf (areaIn s) (now (img .entry)) (blocksFor (s .size) size) (a .0) seen)) none) (now (work .entry)) (now (work .exit)) r ⌝ }
 {
     if limits::FILE_LIMIT < size {
         return false;
     }
-    cells(img, work, s, a, limits::blocks_for(size))
+    cells(img, work, s, a, limits::blocks_for(s.size, size))
 }
 
 // The chain of a device: as many blocks as there are, from a on, each claimed.
 pub fn chain(img: &[u8], work: &mut [u8], s: SuperBlock, a: Addr) -> bool
     requires { ⌜ Fit s (now img) ⌝ }
-    requires { ⌜ markBytes (s .area .0) (s .blocks) ≤ length (now work) ⌝ }
-    ensures { λ r. ⌜ MarksAnswer (s .area .0) (s .blocks) (λ seen. seenOf (chainOf blockBytes (s .area .0) (s .blocks) (now (img .entry)) (s .blocks - s .area .0) (a .0) seen)) (now (work .entry)) (now (work .exit)) r ⌝ }
+    requires { ⌜ markBytes (areaIn s) ≤ length (now work) ⌝ }
+    ensures { λ r. ⌜ MarksAnswer (areaIn s) (λ seen. seenOf (chainOf (areaIn s) (now (img .entry)) (s .blocks - s .area .0) (a .0) seen)) (now (work .entry)) (now (work .exit)) r ⌝ }
 {
     let d = s.area;
     let mut b = a;
@@ -85,7 +84,7 @@ pub fn chain(img: &[u8], work: &mut [u8], s: SuperBlock, a: Addr) -> bool
         if !claim(work, s, b) {
             return false;
         }
-        b = LinkedBlock::new(b).next_addr(img);
+        b = LinkedBlock::new(s.size, b).next_addr(img);
         if b.0 == 0 {
             return true;
         }

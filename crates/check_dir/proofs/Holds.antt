@@ -9,6 +9,7 @@ use lib.Dec.{eqb}
 use borrow.Author.Tests.{eq-eqb, ne-eqb}
 use Rattle.wire.specs.Pick.{pick, zeroFrom}
 use Rattle.wire.proofs.Picks.{pick-true, pick-false}
+use Rattle.block.specs.Block.{BlockSize}
 use Rattle.model.specs.Tree.{then}
 use Rattle.dir_entry.specs.declared.DirEntry.{DirEntry}
 use Rattle.dir_entry.specs.declared.Slot.{Slot}
@@ -68,8 +69,8 @@ total-none size s m e g = ap (isTotal size) (sym g ∙ e)
 -- ---- the loop
 
 -- what is left to look at from offset o on says what the block holds
-abbrev pub Looks : List ℕ → ℕ → ℕ → Type 0
-Looks I a o = heldAt 0 (rawsFrom 512 I 512 a 0) ≡ heldAt o (rawsFrom 512 I 512 a o)
+abbrev pub Looks : ℕ → List ℕ → ℕ → ℕ → Type 0
+Looks B I a o = heldAt 0 (rawsFrom B I B a 0) ≡ heldAt o (rawsFrom B I B a o)
 
 more-held : (o p : ℕ) (r : Raw) (x : Option (List Raw)) → 1 ≤ p → heldAt o (then x (λ rs. some (r ∷ rs))) ≡ heldAt p x
 unfolding heldAt then hasSome
@@ -84,20 +85,23 @@ more-held o p r (some rs) h =
     nothing-some : (o : ℕ) (r : Raw) (rs : List Raw) → (eqb o 0 && not (hasSome (r ∷ rs))) ≡ false
     nothing-some o r rs = both (eqb o 0)
 
-module _ (I : List ℕ) (a b o : ℕ) (v : Looks I a o) (l : o ≤ 507) (s : Slot) (same : b ≡ a) (read : s ≡ slotAt 512 I b o) where
-  d : s ≡ slotAt 512 I a o
-  d = read ∙ ap (λ (x : ℕ). slotAt 512 I x o) same
+module _ (B : ℕ) (I : List ℕ) (a b o z : ℕ) (known : BlockSize B) (v : Looks B I a o) (l : o ≤ B - 5)
+    (s : Slot) (large : z ≡ B) (same : b ≡ a) (read : s ≡ slotAt z I b o) where
+  d : s ≡ slotAt B I a o
+  d = read ∙ (λ i. slotAt (large i) I (same i) o)
 
-  stepped : rawsFrom 512 I 512 a o ≡ onSlot s (reads 512 I a 512 o) (stops 512 I a o)
-  stepped = raws-step 512 I a o (omega arith) (omega arith) ∙ ap (λ (z : Slot). onSlot z (reads 512 I a 512 o) (stops 512 I a o)) (sym d)
+  stepped : rawsFrom B I B a o ≡ onSlot s (reads B I a B o) (stops B I a o)
+  stepped =
+      raws-step B I a o l (omega (arith, known .least))
+      ∙ ap (λ (z : Slot). onSlot z (reads B I a B o) (stops B I a o)) (sym d)
 
   -- the entries stop here
-  pub looks-end : (r : Held) → s ≡ slot.Stop → r ≡ restAt I 508 (placeAt 512 a o) o → r ≡ heldAt 0 (rawsFrom 512 I 512 a 0)
+  pub looks-end : (r : Held) → s ≡ slot.Stop → r ≡ restAt I (B - 4) (placeAt B a o) o → r ≡ heldAt 0 (rawsFrom B I B a 0)
   unfolding onSlot
   looks-end r e h =
-      h ∙ sym (v ∙ ap (heldAt o) (stepped ∙ ap (λ (z : Slot). onSlot z (reads 512 I a 512 o) (stops 512 I a o)) e) ∙ go (zeroFrom I (placeAt 512 a o) (508 - o)) refl)
+      h ∙ sym (v ∙ ap (heldAt o) (stepped ∙ ap (λ (z : Slot). onSlot z (reads B I a B o) (stops B I a o)) e) ∙ go (zeroFrom I (placeAt B a o) (B - 4 - o)) refl)
     where
-      go : (b : Bool) → zeroFrom I (placeAt 512 a o) (508 - o) ≡ b → heldAt o (stops 512 I a o) ≡ restAt I 508 (placeAt 512 a o) o
+      go : (b : Bool) → zeroFrom I (placeAt B a o) (B - 4 - o) ≡ b → heldAt o (stops B I a o) ≡ restAt I (B - 4) (placeAt B a o) o
       go true z = unfold restAt in unfold heldAt in unfold hasSome in rw z (unfold pick in go-zero (eqb o 0))
         where
           go-zero : (b : Bool) → pick (b && not false) held.Nothing held.Entries ≡ pick b held.Nothing held.Entries
@@ -107,20 +111,20 @@ module _ (I : List ℕ) (a b o : ℕ) (v : Looks I a o) (l : o ≤ 507) (s : Slo
 
   module _ (e : DirEntry) (g : s ≡ slot.Entry e) where
     -- an entry here ends in the block
-    pub entry-fits : o + 18 + e .len ≤ 507
-    entry-fits = slot-stands 512 I a o e (sym d ∙ g) .ends
+    pub entry-fits : o + 18 + e .len ≤ B - 5
+    entry-fits = slot-stands B I a o e (sym d ∙ g) .ends
 
-    pub less-left : (p : ℕ) → p ≡ o + 18 + e .len → 507 - p < 507 - o
-    less-left p h = omega (arith, entry-fits)
+    pub less-left : (p : ℕ) → p ≡ o + 18 + e .len → B - p < B - o
+    less-left p h = omega (arith, entry-fits, known .least)
 
-    entry-read : rawsFrom 512 I 512 a o ≡ reads 512 I a 512 o e
+    entry-read : rawsFrom B I B a o ≡ reads B I a B o e
     unfolding onSlot
-    entry-read = stepped ∙ ap (λ (z : Slot). onSlot z (reads 512 I a 512 o) (stops 512 I a o)) g
+    entry-read = stepped ∙ ap (λ (z : Slot). onSlot z (reads B I a B o) (stops B I a o)) g
 
-    module _ (t : Bool) (h : t ≡ passes e (nameAt I (placeAt 512 a o) (e .len))) where
-      pub looks-bad : t ≡ false → held.Damaged ≡ heldAt 0 (rawsFrom 512 I 512 a 0)
+    module _ (t : Bool) (h : t ≡ passes e (nameAt I (placeAt B a o) (e .len))) where
+      pub looks-bad : t ≡ false → held.Damaged ≡ heldAt 0 (rawsFrom B I B a 0)
       unfolding heldAt
       looks-bad f = sym (v ∙ ap (heldAt o) (entry-read ∙ pick-false _ _ (sym h ∙ f)))
 
-      pub looks-more : t ≡ true → Looks I a (o + 18 + e .len)
-      looks-more f = v ∙ ap (heldAt o) (entry-read ∙ pick-true _ _ (sym h ∙ f)) ∙ more-held o (o + 18 + e .len) _ (rawsFrom 512 I 512 a (o + 18 + e .len)) (omega arith)
+      pub looks-more : t ≡ true → Looks B I a (o + 18 + e .len)
+      looks-more f = v ∙ ap (heldAt o) (entry-read ∙ pick-true _ _ (sym h ∙ f)) ∙ more-held o (o + 18 + e .len) _ (rawsFrom B I B a (o + 18 + e .len)) (omega arith)

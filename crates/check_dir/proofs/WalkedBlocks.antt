@@ -7,7 +7,7 @@ use Prim.Native.Nat.{ℕ, zero, suc, _-_}
 use borrow.Author.Tests.{eq-eqb, ne-eqb}
 use Rattle.wire.specs.Pick.{pick}
 use Rattle.wire.proofs.Picks.{pick-true, pick-false}
-use Rattle.block.specs.Block.{next}
+use Rattle.block.specs.Block.{Area, next}
 use Rattle.model.specs.Tree.{then}
 use Rattle.thm_survey.specs.Survey.{Raw, RawBlock, hasSome, Claimed, claim, rawsFrom, laterOf, blocksOf, seenOf}
 use Rattle.check_dir.specs.Blocks.{heldAt, mayStand, blockCheck}
@@ -28,39 +28,39 @@ later-stands none s f = refl
 later-stands (some []) s f = refl
 later-stands (some (r ∷ rs)) s f = refl
 
-module _ (B D n : ℕ) (I : List ℕ) where
+module _ (A : Area) (I : List ℕ) where
   -- the first block, then the later ones
   pub block-steps : (a : ℕ) (seen : List ℕ)
-      → seenOf (blocksOf B D n I a seen) ≡ then (blockCheck B D n I false a seen) (λ s. seenOf (laterOf B D n I (n - D - 1) (next B I a) s))
+      → seenOf (blocksOf A I a seen) ≡ then (blockCheck A I false a seen) (λ s. seenOf (laterOf A I (A .end - A .first - 1) (next (A .size) I a) s))
   unfolding blocksOf blockCheck
   block-steps a seen =
-      seen-then (claim B D n I a seen) _
-      ∙ then-same (claim B D n I a seen) _ _ (λ s _.
-      seen-then (rawsFrom B I B a 0) _
-      ∙ then-same (rawsFrom B I B a 0) _ _ (λ rs _. seen-with (λ bs. record { at = a; raws = rs } ∷ bs) (laterOf B D n I (n - D - 1) (next B I a) s))
-      ∙ sym (first-stands (rawsFrom B I B a 0) s (λ s. seenOf (laterOf B D n I (n - D - 1) (next B I a) s))))
-      ∙ sym (then-then (claim B D n I a seen) _ _)
+      seen-then (claim A I a seen) _
+      ∙ then-same (claim A I a seen) _ _ (λ s _.
+      seen-then (rawsFrom (A .size) I (A .size) a 0) _
+      ∙ then-same (rawsFrom (A .size) I (A .size) a 0) _ _ (λ rs _. seen-with (λ bs. record { at = a; raws = rs } ∷ bs) (laterOf A I (A .end - A .first - 1) (next (A .size) I a) s))
+      ∙ sym (first-stands (rawsFrom (A .size) I (A .size) a 0) s (λ s. seenOf (laterOf A I (A .end - A .first - 1) (next (A .size) I a) s))))
+      ∙ sym (then-then (claim A I a seen) _ _)
 
   -- a later block, then those after it; the end; more blocks than may be
   pub later-steps : (k a : ℕ) (seen : List ℕ) → (a ≡ 0 → ⊥)
-      → seenOf (laterOf B D n I (suc k) a seen) ≡ then (blockCheck B D n I true a seen) (λ s. seenOf (laterOf B D n I k (next B I a) s))
+      → seenOf (laterOf A I (suc k) a seen) ≡ then (blockCheck A I true a seen) (λ s. seenOf (laterOf A I k (next (A .size) I a) s))
   unfolding laterOf blockCheck
   later-steps k a seen z =
       ap seenOf (pick-false _ _ (ne-eqb a 0 z))
-      ∙ seen-then (claim B D n I a seen) _
-      ∙ then-same (claim B D n I a seen) _ _ (λ s _.
-      seen-then (rawsFrom B I B a 0) _
-      ∙ then-same (rawsFrom B I B a 0) _ _ (λ rs _.
+      ∙ seen-then (claim A I a seen) _
+      ∙ then-same (claim A I a seen) _ _ (λ s _.
+      seen-then (rawsFrom (A .size) I (A .size) a 0) _
+      ∙ then-same (rawsFrom (A .size) I (A .size) a 0) _ _ (λ rs _.
       seen-test (hasSome rs) _
-      ∙ ap (λ (o : Option (List ℕ)). pick (hasSome rs) o none) (seen-with (λ bs. record { at = a; raws = rs } ∷ bs) (laterOf B D n I k (next B I a) s)))
-      ∙ sym (later-stands (rawsFrom B I B a 0) s (λ s. seenOf (laterOf B D n I k (next B I a) s))))
-      ∙ sym (then-then (claim B D n I a seen) _ _)
+      ∙ ap (λ (o : Option (List ℕ)). pick (hasSome rs) o none) (seen-with (λ bs. record { at = a; raws = rs } ∷ bs) (laterOf A I k (next (A .size) I a) s)))
+      ∙ sym (later-stands (rawsFrom (A .size) I (A .size) a 0) s (λ s. seenOf (laterOf A I k (next (A .size) I a) s))))
+      ∙ sym (then-then (claim A I a seen) _ _)
 
-  pub later-end : (k a : ℕ) (seen : List ℕ) → a ≡ 0 → seenOf (laterOf B D n I k a seen) ≡ some seen
+  pub later-end : (k a : ℕ) (seen : List ℕ) → a ≡ 0 → seenOf (laterOf A I k a seen) ≡ some seen
   unfolding laterOf seenOf then
   later-end zero a seen z = ap (λ (o : Option (Claimed (List RawBlock))). then o (λ c. some (c .seen))) (pick-true _ _ (eq-eqb a 0 z))
   later-end (suc k) a seen z = ap (λ (o : Option (Claimed (List RawBlock))). then o (λ c. some (c .seen))) (pick-true _ _ (eq-eqb a 0 z))
 
-  pub later-over : (a : ℕ) (seen : List ℕ) → (a ≡ 0 → ⊥) → seenOf (laterOf B D n I 0 a seen) ≡ none
+  pub later-over : (a : ℕ) (seen : List ℕ) → (a ≡ 0 → ⊥) → seenOf (laterOf A I 0 a seen) ≡ none
   unfolding laterOf seenOf then
   later-over a seen z = ap (λ (o : Option (Claimed (List RawBlock))). then o (λ c. some (c .seen))) (pick-false _ _ (ne-eqb a 0 z))

@@ -5,6 +5,7 @@ use mathlib.Core.List.{List}
 use Prim.Native.Nat.{ℕ, _-_}
 use lib.Dec.{eqb}
 use Rattle.wire.specs.Pick.{pick, zeroFrom}
+use Rattle.block.specs.Block.{Area}
 use Rattle.model.specs.Tree.{then}
 use Rattle.thm_survey.specs.Survey.{Raw, hasSome, claim, rawsFrom}
 use Rattle.check_dir.specs.declared.Held.{Held}
@@ -25,7 +26,7 @@ mayStand later held.Damaged = false
 mayStand later held.Nothing = not later
 mayStand later held.Entries = true
 
-module _ (B D n : ℕ) (I : List ℕ) where
+module _ (A : Area) (I : List ℕ) where
   -- Block a is claimed, and what it holds may stand there.
   unfoldable pub blockCheck : Bool → ℕ → List ℕ → Option (List ℕ)
-  blockCheck later a seen = then (claim B D n I a seen) (λ s. pick (mayStand later (heldAt 0 (rawsFrom B I B a 0))) (some s) none)
+  blockCheck later a seen = then (claim A I a seen) (λ s. pick (mayStand later (heldAt 0 (rawsFrom (A .size) I (A .size) a 0))) (some s) none)

@@ -8,10 +8,11 @@ use lib.ListN.{take, drop, take-append-drop}
 use lib.Seq.{take-add, drop-drop}
 use Rattle.wire.specs.Pick.{same}
 use Rattle.block.specs.declared.Addr.{Addr}
+use Rattle.block.specs.Block.{Area}
 use Rattle.dir_entry.specs.declared.DirEntry.{DirEntry}
 use Rattle.dir_entry.specs.Entry.{placeAt, nameAt}
 use Rattle.super_block.specs.declared.SuperBlock.{SuperBlock}
-use Rattle.super_block.specs.Super.{Fit}
+use Rattle.super_block.specs.Super.{areaIn, Fit}
 use Rattle.super_block.proofs.Fits.{placed}
 use Rattle.model.specs.Tree.{Name}
 use Rattle.read_dir.specs.Walk.{Walk, walk}
@@ -40,77 +41,77 @@ pub record Met (F : List ℕ) (i : ℕ) (w v : Walk) : Type 0 where
 pub met-within : (F : List ℕ) (i : ℕ) (w v : Walk) → Met F i w v → Only F (namesIn w)
 met-within F i w v m = within-all F i (namesIn w) (m .within)
 
-pub met-start : (s : SuperBlock) (I F : List ℕ) (c : ReadDir) (dir : Addr) → Fit s I → F ≡ clear → c ≡ start (s .area .0) (s .blocks) dir
-    → Met F 0 (walk 512 (s .area .0) (s .blocks) I (dir .0)) (cursorWalk 512 (s .area .0) (s .blocks) I c)
+pub met-start : (s : SuperBlock) (I F : List ℕ) (c : ReadDir) (dir : Addr) → Fit s I → F ≡ clear → c ≡ start (areaIn s) dir
+    → Met F 0 (walk (areaIn s) I (dir .0)) (cursorWalk (areaIn s) I c)
 unfolding distinct
 met-start s I F c dir f e b =
-    let q : cursorWalk 512 (s .area .0) (s .blocks) I c ≡ walk 512 (s .area .0) (s .blocks) I (dir .0) = start-walk 512 (s .area .0) (s .blocks) I c dir b in
+    let q : cursorWalk (areaIn s) I c ≡ walk (areaIn s) I (dir .0) = start-walk (areaIn s) I c dir b in
     record {
       left = ap namesIn q;
       ending = ap ends q;
       apart = refl;
       covers = clear-covers F;
       within = clear-within F [] e;
-      few = omega (arith, ap items q, count-fits (s .area .0) (s .blocks) I (dir .0) (placed f .few));
+      few = omega (arith, ap items q, count-fits (areaIn s) I (dir .0) (placed f .bytes));
     }
 
 -- ---- one step
 
-module _ (D n : ℕ) (I : List ℕ) (c : ReadDir) (m : Step) (g : Stepped 512 D n I c m) where
-  gave : (x : Step) → m ≡ x → cursorWalk 512 D n I c ≡ onStep 512 D n I x
-  gave x e = g .walked ∙ ap (onStep 512 D n I) e
+module _ (A : Area) (I : List ℕ) (c : ReadDir) (m : Step) (g : Stepped A I c m) where
+  gave : (x : Step) → m ≡ x → cursorWalk A I c ≡ onStep A I x
+  gave x e = g .walked ∙ ap (onStep A I) e
 
-  names-end : m ≡ step.End → namesIn (cursorWalk 512 D n I c) ≡ []
+  names-end : m ≡ step.End → namesIn (cursorWalk A I c) ≡ []
   unfolding namesIn
   names-end e = ap namesIn (gave step.End e)
 
-  names-bad : m ≡ step.Damaged → namesIn (cursorWalk 512 D n I c) ≡ []
+  names-bad : m ≡ step.Damaged → namesIn (cursorWalk A I c) ≡ []
   unfolding namesIn
   names-bad e = ap namesIn (gave step.Damaged e)
 
   names-item : (e : DirEntry) (p : Place) (d : ReadDir) → m ≡ step.Entry e p d
-      → namesIn (cursorWalk 512 D n I c) ≡ nameAt I (placeAt 512 (p .block .0) (p .offset)) (e .len) ∷ namesIn (cursorWalk 512 D n I d)
+      → namesIn (cursorWalk A I c) ≡ nameAt I (placeAt (A .size) (p .block .0) (p .offset)) (e .len) ∷ namesIn (cursorWalk A I d)
   unfolding namesIn
   names-item e p d q = ap namesIn (gave (step.Entry e p d) q)
 
-  ends-item : (e : DirEntry) (p : Place) (d : ReadDir) → m ≡ step.Entry e p d → ends (cursorWalk 512 D n I c) ≡ ends (cursorWalk 512 D n I d)
+  ends-item : (e : DirEntry) (p : Place) (d : ReadDir) → m ≡ step.Entry e p d → ends (cursorWalk A I c) ≡ ends (cursorWalk A I d)
   unfolding ends
   ends-item e p d q = ap ends (gave (step.Entry e p d) q)
 
   -- ---- earlier: what is left to search is what was to be searched
 
-  module _ (x : Name) (c₀ : ReadDir) (i k : ℕ) (inv : oneOf x (take k (namesIn (cursorWalk 512 D n I c))) ≡ oneOf x (take i (namesIn (cursorWalk 512 D n I c₀)))) where
-    looked : (ys : List Name) → namesIn (cursorWalk 512 D n I c) ≡ ys → oneOf x (take k ys) ≡ oneOf x (take i (namesIn (cursorWalk 512 D n I c₀)))
+  module _ (x : Name) (c₀ : ReadDir) (i k : ℕ) (inv : oneOf x (take k (namesIn (cursorWalk A I c))) ≡ oneOf x (take i (namesIn (cursorWalk A I c₀)))) where
+    looked : (ys : List Name) → namesIn (cursorWalk A I c) ≡ ys → oneOf x (take k ys) ≡ oneOf x (take i (namesIn (cursorWalk A I c₀)))
     looked ys q = sym (ap (λ (zs : List Name). oneOf x (take k zs)) q) ∙ inv
 
     pub earlier-again : (e : DirEntry) (p : Place) (d : ReadDir) (t : Bool) → m ≡ step.Entry e p d → 0 < k
-        → t ≡ same (nameAt I (placeAt 512 (p .block .0) (p .offset)) (e .len)) x → t ≡ false
-        → oneOf x (take (k - 1) (namesIn (cursorWalk 512 D n I d))) ≡ oneOf x (take i (namesIn (cursorWalk 512 D n I c₀)))
+        → t ≡ same (nameAt I (placeAt (A .size) (p .block .0) (p .offset)) (e .len)) x → t ≡ false
+        → oneOf x (take (k - 1) (namesIn (cursorWalk A I d))) ≡ oneOf x (take i (namesIn (cursorWalk A I c₀)))
     earlier-again e p d t q h a f =
-        let y : Name = nameAt I (placeAt 512 (p .block .0) (p .offset)) (e .len) in
-        sym (search-miss x k y (namesIn (cursorWalk 512 D n I d)) h (sym a ∙ f)) ∙ looked (y ∷ namesIn (cursorWalk 512 D n I d)) (names-item e p d q)
+        let y : Name = nameAt I (placeAt (A .size) (p .block .0) (p .offset)) (e .len) in
+        sym (search-miss x k y (namesIn (cursorWalk A I d)) h (sym a ∙ f)) ∙ looked (y ∷ namesIn (cursorWalk A I d)) (names-item e p d q)
 
-    module _ (dir : Addr) (b : c₀ ≡ start D n dir) where
-      whole : oneOf x (take i (namesIn (cursorWalk 512 D n I c₀))) ≡ oneOf x (take i (namesIn (walk 512 D n I (dir .0))))
-      whole = ap (λ (v : Walk). oneOf x (take i (namesIn v))) (start-walk 512 D n I c₀ dir b)
+    module _ (dir : Addr) (b : c₀ ≡ start A dir) where
+      whole : oneOf x (take i (namesIn (cursorWalk A I c₀))) ≡ oneOf x (take i (namesIn (walk A I (dir .0))))
+      whole = ap (λ (v : Walk). oneOf x (take i (namesIn v))) (start-walk A I c₀ dir b)
 
       pub earlier-hit : (e : DirEntry) (p : Place) (d : ReadDir) (t : Bool) → m ≡ step.Entry e p d → 0 < k
-          → t ≡ same (nameAt I (placeAt 512 (p .block .0) (p .offset)) (e .len)) x → t ≡ true → true ≡ oneOf x (take i (namesIn (walk 512 D n I (dir .0))))
+          → t ≡ same (nameAt I (placeAt (A .size) (p .block .0) (p .offset)) (e .len)) x → t ≡ true → true ≡ oneOf x (take i (namesIn (walk A I (dir .0))))
       earlier-hit e p d t q h a f =
-          let y : Name = nameAt I (placeAt 512 (p .block .0) (p .offset)) (e .len) in
-          sym (search-hit x k y (namesIn (cursorWalk 512 D n I d)) h (sym a ∙ f)) ∙ looked (y ∷ namesIn (cursorWalk 512 D n I d)) (names-item e p d q) ∙ whole
+          let y : Name = nameAt I (placeAt (A .size) (p .block .0) (p .offset)) (e .len) in
+          sym (search-hit x k y (namesIn (cursorWalk A I d)) h (sym a ∙ f)) ∙ looked (y ∷ namesIn (cursorWalk A I d)) (names-item e p d q) ∙ whole
 
-      pub earlier-end : m ≡ step.End → false ≡ oneOf x (take i (namesIn (walk 512 D n I (dir .0))))
+      pub earlier-end : m ≡ step.End → false ≡ oneOf x (take i (namesIn (walk A I (dir .0))))
       earlier-end q = sym (search-end x k) ∙ looked [] (names-end q) ∙ whole
 
-      pub earlier-bad : m ≡ step.Damaged → false ≡ oneOf x (take i (namesIn (walk 512 D n I (dir .0))))
+      pub earlier-bad : m ≡ step.Damaged → false ≡ oneOf x (take i (namesIn (walk A I (dir .0))))
       earlier-bad q = sym (search-end x k) ∙ looked [] (names-bad q) ∙ whole
 
   -- ---- tested
 
-  module _ (F : List ℕ) (i : ℕ) (w : Walk) (v : Met F i w (cursorWalk 512 D n I c)) where
+  module _ (F : List ℕ) (i : ℕ) (w : Walk) (v : Met F i w (cursorWalk A I c)) where
     -- all names are met
-    at-end : namesIn (cursorWalk 512 D n I c) ≡ [] → distinct (namesIn w) ≡ true
+    at-end : namesIn (cursorWalk A I c) ≡ [] → distinct (namesIn w) ≡ true
     at-end z =
         let t : take i (namesIn w) ≡ namesIn w
         = sym (append-nil (take i (namesIn w))) ∙ ap (λ (ys : List Name). take i (namesIn w) ++ ys) (sym z ∙ v .left) ∙ take-append-drop i (namesIn w) in
@@ -129,11 +130,11 @@ module _ (D n : ℕ) (I : List ℕ) (c : ReadDir) (m : Step) (g : Stepped 512 D 
         sym (ap (λ (b : Bool). b && distinct (namesIn w)) t)
 
     -- at a name
-    module _ (e : DirEntry) (p : Place) (d : ReadDir) (x : Name) (q : m ≡ step.Entry e p d) (a : x ≡ nameAt I (placeAt 512 (p .block .0) (p .offset)) (e .len)) where
-      rest : drop i (namesIn w) ≡ x ∷ namesIn (cursorWalk 512 D n I d)
-      rest = sym (v .left) ∙ names-item e p d q ∙ ap (λ (y : Name). y ∷ namesIn (cursorWalk 512 D n I d)) (sym a)
+    module _ (e : DirEntry) (p : Place) (d : ReadDir) (x : Name) (q : m ≡ step.Entry e p d) (a : x ≡ nameAt I (placeAt (A .size) (p .block .0) (p .offset)) (e .len)) where
+      rest : drop i (namesIn w) ≡ x ∷ namesIn (cursorWalk A I d)
+      rest = sym (v .left) ∙ names-item e p d q ∙ ap (λ (y : Name). y ∷ namesIn (cursorWalk A I d)) (sym a)
 
-      parts : take i (namesIn w) ++ (x ∷ namesIn (cursorWalk 512 D n I d)) ≡ namesIn w
+      parts : take i (namesIn w) ++ (x ∷ namesIn (cursorWalk A I d)) ≡ namesIn w
       parts = ap (λ (ys : List Name). take i (namesIn w) ++ ys) (sym rest) ∙ take-append-drop i (namesIn w)
 
       one-more : take (i + 1) (namesIn w) ≡ take i (namesIn w) ++ (x ∷ [])
@@ -141,10 +142,10 @@ module _ (D n : ℕ) (I : List ℕ) (c : ReadDir) (m : Step) (g : Stepped 512 D 
 
       pub tested-hit : (t : Bool) → t ≡ oneOf x (take i (namesIn w)) → t ≡ true → false ≡ (ends w && distinct (namesIn w))
       tested-hit t o k =
-          sym (and-false (ends w) (distinct (namesIn w)) (ap distinct (sym parts) ∙ distinct-hit (take i (namesIn w)) x (namesIn (cursorWalk 512 D n I d)) (sym o ∙ k)))
+          sym (and-false (ends w) (distinct (namesIn w)) (ap distinct (sym parts) ∙ distinct-hit (take i (namesIn w)) x (namesIn (cursorWalk A I d)) (sym o ∙ k)))
 
       pub tested-again : (h : ℕ) (G : List ℕ) (t : Bool) → t ≡ oneOf x (take i (namesIn w)) → t ≡ false → h ≡ hashOf x → G ≡ noted F h
-          → Met G (i + 1) w (cursorWalk 512 D n I d)
+          → Met G (i + 1) w (cursorWalk A I d)
       tested-again h G t o k u f =
           let z : G ≡ noted F (hashOf x) = f ∙ ap (noted F) u in
           record {
@@ -153,18 +154,18 @@ module _ (D n : ℕ) (I : List ℕ) (c : ReadDir) (m : Step) (g : Stepped 512 D 
             apart = ap distinct one-more ∙ distinct-more (take i (namesIn w)) x (v .apart) (sym o ∙ k);
             covers = subst (Covers G) (sym one-more) (subst (λ (y : List ℕ). Covers y (take i (namesIn w) ++ (x ∷ []))) (sym z) (covers-more F (take i (namesIn w)) x (v .within .long) (v .covers)));
             within = subst (Only G) (sym one-more) (subst (λ (y : List ℕ). Only y (take i (namesIn w) ++ (x ∷ []))) (sym z) (within-more F (take i (namesIn w)) x (v .within)));
-            few = count-again D n I c m g i e p d (v .few) q;
+            few = count-again A I c m g i e p d (v .few) q;
           }
 
   -- ---- forget
 
-  module _ (F : List ℕ) (v : Only F (namesIn (cursorWalk 512 D n I c))) where
-    pub forget-again : (e : DirEntry) (p : Place) (d : ReadDir) (x : Name) (h : ℕ) (G : List ℕ) → m ≡ step.Entry e p d → x ≡ nameAt I (placeAt 512 (p .block .0) (p .offset)) (e .len)
-        → h ≡ hashOf x → G ≡ wiped F h → Only G (namesIn (cursorWalk 512 D n I d))
+  module _ (F : List ℕ) (v : Only F (namesIn (cursorWalk A I c))) where
+    pub forget-again : (e : DirEntry) (p : Place) (d : ReadDir) (x : Name) (h : ℕ) (G : List ℕ) → m ≡ step.Entry e p d → x ≡ nameAt I (placeAt (A .size) (p .block .0) (p .offset)) (e .len)
+        → h ≡ hashOf x → G ≡ wiped F h → Only G (namesIn (cursorWalk A I d))
     forget-again e p d x h G q a u f =
-        let t : namesIn (cursorWalk 512 D n I c) ≡ x ∷ namesIn (cursorWalk 512 D n I d) = names-item e p d q ∙ ap (λ (y : Name). y ∷ namesIn (cursorWalk 512 D n I d)) (sym a) in
+        let t : namesIn (cursorWalk A I c) ≡ x ∷ namesIn (cursorWalk A I d) = names-item e p d q ∙ ap (λ (y : Name). y ∷ namesIn (cursorWalk A I d)) (sym a) in
         let z : G ≡ wiped F (hashOf x) = f ∙ ap (wiped F) u in
-        subst (λ (y : List ℕ). Only y (namesIn (cursorWalk 512 D n I d))) (sym z) (within-wiped F x (namesIn (cursorWalk 512 D n I d)) (subst (Only F) t v))
+        subst (λ (y : List ℕ). Only y (namesIn (cursorWalk A I d))) (sym z) (within-wiped F x (namesIn (cursorWalk A I d)) (subst (Only F) t v))
 
     pub forget-end : m ≡ step.End → F ≡ clear
     forget-end q = within-none F (subst (Only F) (names-end q) v)
@@ -175,13 +176,13 @@ module _ (D n : ℕ) (I : List ℕ) (c : ReadDir) (m : Step) (g : Stepped 512 D 
 -- ---- the ends that no step makes
 
 -- no name is left to search
-pub earlier-none : (D n : ℕ) (I : List ℕ) (x : Name) (c c₀ : ReadDir) (i k : ℕ) (dir : Addr)
-    → oneOf x (take k (namesIn (cursorWalk 512 D n I c))) ≡ oneOf x (take i (namesIn (cursorWalk 512 D n I c₀))) → k ≤ 0 → c₀ ≡ start D n dir
-    → false ≡ oneOf x (take i (namesIn (walk 512 D n I (dir .0))))
-earlier-none D n I x c c₀ i k dir inv h b =
-    sym (search-none x k (namesIn (cursorWalk 512 D n I c)) (omega arith)) ∙ inv ∙ ap (λ (v : Walk). oneOf x (take i (namesIn v))) (start-walk 512 D n I c₀ dir b)
+pub earlier-none : (A : Area) (I : List ℕ) (x : Name) (c c₀ : ReadDir) (i k : ℕ) (dir : Addr)
+    → oneOf x (take k (namesIn (cursorWalk A I c))) ≡ oneOf x (take i (namesIn (cursorWalk A I c₀))) → k ≤ 0 → c₀ ≡ start A dir
+    → false ≡ oneOf x (take i (namesIn (walk A I (dir .0))))
+earlier-none A I x c c₀ i k dir inv h b =
+    sym (search-none x k (namesIn (cursorWalk A I c)) (omega arith)) ∙ inv ∙ ap (λ (v : Walk). oneOf x (take i (namesIn v))) (start-walk A I c₀ dir b)
 
 -- every name is still to be forgotten
-pub forget-start : (D n : ℕ) (I F : List ℕ) (c : ReadDir) (dir : Addr) → Only F (namesIn (walk 512 D n I (dir .0))) → c ≡ start D n dir
-    → Only F (namesIn (cursorWalk 512 D n I c))
-forget-start D n I F c dir w b = subst (λ (v : Walk). Only F (namesIn v)) (sym (start-walk 512 D n I c dir b)) w
+pub forget-start : (A : Area) (I F : List ℕ) (c : ReadDir) (dir : Addr) → Only F (namesIn (walk A I (dir .0))) → c ≡ start A dir
+    → Only F (namesIn (cursorWalk A I c))
+forget-start A I F c dir w b = subst (λ (v : Walk). Only F (namesIn v)) (sym (start-walk A I c dir b)) w

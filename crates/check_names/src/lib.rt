@@ -7,8 +7,7 @@ use super_block::SuperBlock;
 ghost use mathlib.Core.Path.{_≡_};
 ghost use mathlib.Core.Bool.{_&&_};
 ghost use lib.ListN.{length, take};
-ghost use Rattle.block.specs.Block.{blockBytes};
-ghost use Rattle.super_block.specs.Super.{Fit};
+ghost use Rattle.super_block.specs.Super.{areaIn, Fit};
 ghost use Rattle.read_dir.specs.Walk.{walk};
 ghost use Rattle.check_names.specs.Names.{oneOf, distinct, namesIn, ends};
 ghost use Rattle.check_names.specs.Filter.{hashOf, filterBytes, clear, filtered, noted, wiped, Covers, Only};
@@ -74,14 +73,14 @@ fn wipe(filter: &mut [u8], h: u32)
 // Whether a name is one of the first i of the directory that begins at block dir: the search itself.
 fn earlier(img: &[u8], s: SuperBlock, dir: Addr, i: u32, name: &[u8]) -> bool
     requires { ⌜ Fit s (now img) ⌝ }
-    ensures { λ r. ⌜ r ≡ oneOf (now (name .entry)) (take i (namesIn (walk blockBytes (s .area .0) (s .blocks) (now (img .entry)) (dir .0)))) ⌝ }
+    ensures { λ r. ⌜ r ≡ oneOf (now (name .entry)) (take i (namesIn (walk (areaIn s) (now (img .entry)) (dir .0)))) ⌝ }
 {
     let mut c = ReadDir::new(s, dir);
     let mut left = i;
     while 0 < left {
         match c.next(img, s) {
             Step::Entry(e, p, d) => {
-                if read_dir::named(img, e, p, name) {
+                if read_dir::named(img, s.size, e, p, name) {
                     return true;
                 }
                 c = d;
@@ -98,9 +97,9 @@ fn earlier(img: &[u8], s: SuperBlock, dir: Addr, i: u32, name: &[u8]) -> bool
 fn seen(img: &[u8], s: SuperBlock, dir: Addr, filter: &[u8], i: u32, name: &[u8], h: u32) -> bool
     requires { ⌜ Fit s (now img) ⌝ }
     requires { ⌜ length (now filter) ≡ filterBytes ⌝ }
-    requires { ⌜ Covers (now filter) (take i (namesIn (walk blockBytes (s .area .0) (s .blocks) (now img) (dir .0)))) ⌝ }
+    requires { ⌜ Covers (now filter) (take i (namesIn (walk (areaIn s) (now img) (dir .0)))) ⌝ }
     requires { ⌜ h ≡ hashOf (now name) ⌝ }
-    ensures { λ r. ⌜ r ≡ oneOf (now (name .entry)) (take i (namesIn (walk blockBytes (s .area .0) (s .blocks) (now (img .entry)) (dir .0)))) ⌝ }
+    ensures { λ r. ⌜ r ≡ oneOf (now (name .entry)) (take i (namesIn (walk (areaIn s) (now (img .entry)) (dir .0)))) ⌝ }
 {
     if maybe(filter, h) {
         return earlier(img, s, dir, i, name);
@@ -112,15 +111,15 @@ fn seen(img: &[u8], s: SuperBlock, dir: Addr, filter: &[u8], i: u32, name: &[u8]
 fn tested(img: &[u8], s: SuperBlock, dir: Addr, filter: &mut [u8]) -> bool
     requires { ⌜ Fit s (now img) ⌝ }
     requires { ⌜ now filter ≡ clear ⌝ }
-    ensures { λ r. ⌜ r ≡ (ends (walk blockBytes (s .area .0) (s .blocks) (now (img .entry)) (dir .0)) && distinct (namesIn (walk blockBytes (s .area .0) (s .blocks) (now (img .entry)) (dir .0)))) ⌝ }
-    ensures { λ _. ⌜ Only (now (filter .exit)) (namesIn (walk blockBytes (s .area .0) (s .blocks) (now (img .entry)) (dir .0))) ⌝ }
+    ensures { λ r. ⌜ r ≡ (ends (walk (areaIn s) (now (img .entry)) (dir .0)) && distinct (namesIn (walk (areaIn s) (now (img .entry)) (dir .0)))) ⌝ }
+    ensures { λ _. ⌜ Only (now (filter .exit)) (namesIn (walk (areaIn s) (now (img .entry)) (dir .0))) ⌝ }
 {
     let mut c = ReadDir::new(s, dir);
     let mut i: u32 = 0;
     loop {
         match c.next(img, s) {
             Step::Entry(e, p, d) => {
-                let name = read_dir::name_of(img, e, p);
+                let name = read_dir::name_of(img, s.size, e, p);
                 let h = hash(name);
                 if seen(img, s, dir, filter, i, name, h) {
                     return false;
@@ -138,14 +137,14 @@ fn tested(img: &[u8], s: SuperBlock, dir: Addr, filter: &mut [u8]) -> bool
 // The undoing: the bytes of every name become zero again, however far the test came.
 fn forget(img: &[u8], s: SuperBlock, dir: Addr, filter: &mut [u8])
     requires { ⌜ Fit s (now img) ⌝ }
-    requires { ⌜ Only (now filter) (namesIn (walk blockBytes (s .area .0) (s .blocks) (now img) (dir .0))) ⌝ }
+    requires { ⌜ Only (now filter) (namesIn (walk (areaIn s) (now img) (dir .0))) ⌝ }
     ensures { λ _. ⌜ now (filter .exit) ≡ clear ⌝ }
 {
     let mut c = ReadDir::new(s, dir);
     loop {
         match c.next(img, s) {
             Step::Entry(e, p, d) => {
-                let h = hash(read_dir::name_of(img, e, p));
+                let h = hash(read_dir::name_of(img, s.size, e, p));
                 wipe(filter, h);
                 c = d;
             }
@@ -160,7 +159,7 @@ fn forget(img: &[u8], s: SuperBlock, dir: Addr, filter: &mut [u8])
 pub fn distinct(img: &[u8], s: SuperBlock, dir: Addr, filter: &mut [u8]) -> bool
     requires { ⌜ Fit s (now img) ⌝ }
     requires { ⌜ now filter ≡ clear ⌝ }
-    ensures { λ r. ⌜ r ≡ (ends (walk blockBytes (s .area .0) (s .blocks) (now (img .entry)) (dir .0)) && distinct (namesIn (walk blockBytes (s .area .0) (s .blocks) (now (img .entry)) (dir .0)))) ⌝ }
+    ensures { λ r. ⌜ r ≡ (ends (walk (areaIn s) (now (img .entry)) (dir .0)) && distinct (namesIn (walk (areaIn s) (now (img .entry)) (dir .0)))) ⌝ }
     ensures { λ _. ⌜ now (filter .exit) ≡ now (filter .entry) ⌝ }
 {
     let r = tested(img, s, dir, filter);

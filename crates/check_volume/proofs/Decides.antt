@@ -16,6 +16,7 @@ use Rattle.wire.proofs.Numbers.{length-splice, splice-in, splice-after}
 use Rattle.wire.proofs.Picks.{either, not-both}
 use Rattle.bits.specs.Bit.{bit, digit}
 use Rattle.bits.proofs.Digits.{digit-of-zero}
+use Rattle.block.specs.Block.{Area}
 use Rattle.model.specs.Tree.{then}
 use Rattle.model.specs.Render.{count}
 use Rattle.model.specs.Geometry.{Geo, blockSize, mapAt, dataAt, mapBits, setBits, usedCount}
@@ -23,7 +24,8 @@ use Rattle.model.specs.Volume.{maxDepth}
 use Rattle.model.specs.Steps.{Bytes}
 use Rattle.model.proofs.Counts.{count-none}
 use Rattle.super_block.specs.declared.SuperBlock.{SuperBlock}
-use Rattle.super_block.specs.Super.{geoOf, Fit}
+use Rattle.super_block.specs.Super.{areaIn, geoOf, Fit}
+use Rattle.super_block.proofs.Fits.{area-is}
 use Rattle.read_dir.specs.Walk.{walk}
 use Rattle.check_bitmap.specs.Tally.{markBytes, markLong, agreed}
 use Rattle.check_bitmap.proofs.Marks.{agrees-sound, agrees-complete}
@@ -37,22 +39,22 @@ use Rattle.thm_survey.proofs.Wholes.{bits-told, bits-pass, claimsOf, claimed-pa
 
 -- ---- the tree
 
-module _ (D n : ℕ) (I : List ℕ) (a : ℕ) (W Z : List ℕ) (r : Bool) (q : MarksAnswer D n (λ seen. seenOf (openDir 512 D n I a seen)) W Z r) where
+module _ (A : Area) (I : List ℕ) (a : ℕ) (W Z : List ℕ) (r : Bool) (q : MarksAnswer A (λ seen. seenOf (openDir A I a seen)) W Z r) where
   abbrev treeCheck : Check
-  treeCheck seen = seenOf (survey 512 D n I maxDepth a seen)
+  treeCheck seen = seenOf (survey A I maxDepth a seen)
 
   abbrev entries : Check
-  entries = through (entryCheck 512 D n I maxDepth) (walk 512 D n I a)
+  entries = through (entryCheck A I maxDepth) (walk A I a)
 
-  as-steps : (seen : List ℕ) → treeCheck seen ≡ then (seenOf (openDir 512 D n I a seen)) entries
+  as-steps : (seen : List ℕ) → treeCheck seen ≡ then (seenOf (openDir A I a seen)) entries
   unfolding dirCheck
-  as-steps seen = dir-steps 512 D n I maxDepth a seen
+  as-steps seen = dir-steps A I maxDepth a seen
 
-  pub tree-no : r ≡ false → MarksAnswer D n treeCheck W Z false
-  tree-no e = step-no D n _ entries treeCheck W Z r q as-steps e
+  pub tree-no : r ≡ false → MarksAnswer A treeCheck W Z false
+  tree-no e = step-no A _ entries treeCheck W Z r q as-steps e
 
-  pub tree-yes : r ≡ true → (Y : List ℕ) (t : Bool) → MarksAnswer D n entries Z Y t → MarksAnswer D n treeCheck W Y t
-  tree-yes e Y t p = goes-last D n treeCheck entries W Z Y t (step-yes D n _ entries treeCheck W Z r q as-steps e) p
+  pub tree-yes : r ≡ true → (Y : List ℕ) (t : Bool) → MarksAnswer A entries Z Y t → MarksAnswer A treeCheck W Y t
+  tree-yes e Y t p = goes-last A treeCheck entries W Z Y t (step-yes A _ entries treeCheck W Z r q as-steps e) p
 
 -- ---- the answer
 
@@ -60,46 +62,48 @@ module _ (s : SuperBlock) (I : List ℕ) (f : Fit s I) where
   abbrev g : Geo
   g = geoOf s
 
-  abbrev D : ℕ
-  D = s .area .0
-
   abbrev surveyed : Check
-  surveyed seen = seenOf (survey 512 D (s .blocks) I maxDepth D seen)
+  surveyed seen = seenOf (survey (areaIn s) I maxDepth (s .area .0) seen)
 
   surveyed-is : (o : Option (List ℕ)) → surveyed [] ≡ o → claimsOf g I ≡ o
-  surveyed-is o e = ap (λ (d : ℕ). seenOf (survey 512 d (s .blocks) I maxDepth d [])) (sym (f .area)) ∙ e
+  surveyed-is o e = ap (λ (A : Area). seenOf (survey A I maxDepth (A .first) [])) (sym (area-is f)) ∙ e
 
-  pub not-rest : (t : Bool) → t ≡ zeroFrom I (512 * s .addr .0 + 18) 494 → t ≡ false → false ≡ whole g I
+  rest-is : zeroFrom I (s .size * s .addr .0 + 18) (s .size - 18) ≡ zeroFrom I (blockSize g * g .K + 18) (blockSize g - 18)
+  rest-is = ap (λ (B : ℕ). zeroFrom I (B * s .addr .0 + 18) (B - 18)) (f .size)
+
+  pub not-rest : (t : Bool) → t ≡ zeroFrom I (s .size * s .addr .0 + 18) (s .size - 18) → t ≡ false → false ≡ whole g I
   unfolding whole
-  not-rest t h e = sym (ap (λ (b : Bool). b && (bitsOf g I (claimsOf g I) && eqb (usedCount g I) (dataAt g + setBits I g))) (sym h ∙ e))
+  not-rest t h e = sym (ap (λ (b : Bool). b && (bitsOf g I (claimsOf g I) && eqb (usedCount g I) (dataAt g + setBits I g))) (sym (h ∙ rest-is) ∙ e))
 
-  module _ (t : Bool) (h : t ≡ zeroFrom I (512 * s .addr .0 + 18) 494) (e : t ≡ true) where
+  module _ (t : Bool) (h : t ≡ zeroFrom I (s .size * s .addr .0 + 18) (s .size - 18)) (e : t ≡ true) where
     rest-then : (o : Option (List ℕ)) → claimsOf g I ≡ o → whole g I ≡ (bitsOf g I o && eqb (usedCount g I) (dataAt g + setBits I g))
     unfolding whole
     rest-then o c =
-        ap (λ (b : Bool). b && (bitsOf g I (claimsOf g I) && eqb (usedCount g I) (dataAt g + setBits I g))) (sym h ∙ e)
+        ap (λ (b : Bool). b && (bitsOf g I (claimsOf g I) && eqb (usedCount g I) (dataAt g + setBits I g))) (sym (h ∙ rest-is) ∙ e)
         ∙ ap (λ (x : Option (List ℕ)). bitsOf g I x && eqb (usedCount g I) (dataAt g + setBits I g)) c
 
-    module _ (W Z : List ℕ) (r : Bool) (m : Marks D (s .blocks) W []) (q : MarksAnswer D (s .blocks) surveyed W Z r) where
+    module _ (W Z : List ℕ) (r : Bool) (m : Marks (areaIn s) W []) (q : MarksAnswer (areaIn s) surveyed W Z r) where
       pub not-tree : r ≡ false → false ≡ whole g I
       unfolding bitsOf
-      not-tree z = sym (rest-then none (surveyed-is none (subst (Answers D (s .blocks) surveyed W Z) z (q .answer) [] m)))
+      not-tree z = sym (rest-then none (surveyed-is none (subst (Answers (areaIn s) surveyed W Z) z (q .answer) [] m)))
 
-      module _ (z : r ≡ true) (b : Bytes I) (w : Bytes Z) (l : markBytes D (s .blocks) ≤ length W) (v : Bool) (k : v ≡ agreed g I Z) where
-        abbrev claimed : (seen : List ℕ) × (surveyed [] ≡ some seen) × Marks D (s .blocks) Z seen
-        claimed = subst (Answers D (s .blocks) surveyed W Z) z (q .answer) [] m
+      module _ (z : r ≡ true) (b : Bytes I) (w : Bytes Z) (l : markBytes (areaIn s) ≤ length W) (v : Bool) (k : v ≡ agreed g I Z) where
+        abbrev claimed : (seen : List ℕ) × (surveyed [] ≡ some seen) × Marks (areaIn s) Z seen
+        claimed = subst (Answers (areaIn s) surveyed W Z) z (q .answer) [] m
 
         there : claimsOf g I ≡ some (claimed .0)
         there = surveyed-is (some (claimed .0)) (claimed .1)
 
         marks : (x : ℕ) → x < 8 * markLong g → bit Z 0 x ≡ count (dataAt g + x) (claimed .0)
-        marks = subst (λ (d : ℕ). (x : ℕ) → x < 8 * markBytes d (s .blocks) → bit Z 0 x ≡ count (d + x) (claimed .0)) (f .area) (claimed .2)
+        marks =
+            subst (λ (A : Area). (x : ℕ) → x < 8 * markBytes A → bit Z 0 x ≡ count (A .first + x) (claimed .0)) (area-is f)
+            (claimed .2)
 
         past : (x : ℕ) → g .n - dataAt g ≤ x → count (dataAt g + x) (claimed .0) ≡ 0
         past x j = claimed-past g I (f .sound) b (claimed .0) there (dataAt g + x) (omega arith)
 
         long : markLong g ≤ length Z
-        long = subst (λ (d : ℕ). markBytes d (s .blocks) ≤ length Z) (f .area) (omega (arith, q .beyond .long))
+        long = subst (λ (A : Area). markBytes A ≤ length Z) (area-is f) (omega (arith, q .beyond .long))
 
         same-bits : agreed g I Z ≡ bitsOf g I (some (claimed .0))
         unfolding bitsOf
@@ -124,20 +128,20 @@ module _ (s : SuperBlock) (I : List ℕ) (f : Fit s I) where
 
 -- ---- the work buffer
 
-module _ (D n : ℕ) (W : List ℕ) (m : ℕ) (e : m ≡ markBytes D n) (l : markBytes D n ≤ length W) (Y : List ℕ) (h : Y ≡ splice W 0 (replicate m 0)) where
+module _ (A : Area) (W : List ℕ) (m : ℕ) (e : m ≡ markBytes A) (l : markBytes A ≤ length W) (Y : List ℕ) (h : Y ≡ splice W 0 (replicate m 0)) where
   fits : 0 + length (replicate {A = ℕ} m 0) ≤ length W
   fits = omega (arith, length-replicate {A = ℕ} m 0)
 
   -- its bytes of marks are zero, so nothing is marked
-  pub none-marked : Marks D n Y []
+  pub none-marked : Marks A Y []
   unfolding bit digit
   none-marked x p =
       let j : x / 8 < m = omega arith in
       let z : getD Y (0 + x / 8) 0 ≡ 0 = ap (λ (y : List ℕ). getD y (0 + x / 8) 0) h ∙ splice-in W 0 (replicate m 0) fits (x / 8) (omega (arith, length-replicate {A = ℕ} m 0)) ∙ getD-replicate m (x / 8) 0 0 j in
-      ap (λ (y : ℕ). digit y (x % 8)) z ∙ digit-of-zero (x % 8) ∙ sym (count-none (D + x))
+      ap (λ (y : ℕ). digit y (x % 8)) z ∙ digit-of-zero (x % 8) ∙ sym (count-none (A .first + x))
 
   -- and zero again they are as they were the first time
-  pub again-zero : (Z U : List ℕ) → Beyond D n Y Z → U ≡ splice Z 0 (replicate m 0) → U ≡ splice W 0 (replicate (markBytes D n) 0)
+  pub again-zero : (Z U : List ℕ) → Beyond A Y Z → U ≡ splice Z 0 (replicate m 0) → U ≡ splice W 0 (replicate (markBytes A) 0)
   again-zero Z U b u = u ∙ ext-getD 0 (splice Z 0 (replicate m 0)) (splice W 0 (replicate m 0)) lengths (λ j _. go j (decLt j m)) ∙ ap (λ (k : ℕ). splice W 0 (replicate k 0)) e
     where
       k : length (replicate {A = ℕ} m 0) ≡ m

@@ -13,8 +13,7 @@ ghost use mathlib.Core.List.{[]};
 ghost use lib.ListN.{length};
 ghost use Rattle.wire.specs.Be.{zeros, splice};
 ghost use Rattle.model.specs.Volume.{maxDepth};
-ghost use Rattle.block.specs.Block.{blockBytes};
-ghost use Rattle.super_block.specs.Super.{geoOf, Fit};
+ghost use Rattle.super_block.specs.Super.{areaIn, geoOf, Fit};
 ghost use Rattle.check_bitmap.specs.Tally.{markBytes};
 ghost use Rattle.read_dir.specs.Walk.{walk};
 ghost use Rattle.check_names.specs.Filter.{clear};
@@ -33,9 +32,9 @@ fn walk_entry(
     depth: u32,
 ) -> bool
     requires { ⌜ Fit s (now img) ⌝ }
-    requires { ⌜ markBytes (s .area .0) (s .blocks) ≤ length (now work) ⌝ }
+    requires { ⌜ markBytes (areaIn s) ≤ length (now work) ⌝ }
     requires { ⌜ now filter ≡ clear ⌝ }
-    ensures { λ r. ⌜ MarksAnswer (s .area .0) (s .blocks) (entryCheck blockBytes (s .area .0) (s .blocks) (now (img .entry)) depth e) (now (work .entry)) (now (work .exit)) r ⌝ }
+    ensures { λ r. ⌜ MarksAnswer (areaIn s) (entryCheck (areaIn s) (now (img .entry)) depth e) (now (work .entry)) (now (work .exit)) r ⌝ }
     ensures { λ _. ⌜ now (filter .exit) ≡ now (filter .entry) ⌝ }
 {
     let a = e.addr;
@@ -68,9 +67,9 @@ fn walk_dir(
     depth: u32,
 ) -> bool
     requires { ⌜ Fit s (now img) ⌝ }
-    requires { ⌜ markBytes (s .area .0) (s .blocks) ≤ length (now work) ⌝ }
+    requires { ⌜ markBytes (areaIn s) ≤ length (now work) ⌝ }
     requires { ⌜ now filter ≡ clear ⌝ }
-    ensures { λ r. ⌜ MarksAnswer (s .area .0) (s .blocks) (through (entryCheck blockBytes (s .area .0) (s .blocks) (now (img .entry)) depth) (walk blockBytes (s .area .0) (s .blocks) (now (img .entry)) (a .0))) (now (work .entry)) (now (work .exit)) r ⌝ }
+    ensures { λ r. ⌜ MarksAnswer (areaIn s) (through (entryCheck (areaIn s) (now (img .entry)) depth) (walk (areaIn s) (now (img .entry)) (a .0))) (now (work .entry)) (now (work .exit)) r ⌝ }
     ensures { λ _. ⌜ now (filter .exit) ≡ now (filter .entry) ⌝ }
 {
     let mut c = ReadDir::new(s, a);
@@ -91,9 +90,9 @@ fn walk_dir(
 // The tree from the root on: W2 to W4.
 fn tree(img: &[u8], work: &mut [u8], filter: &mut [u8], s: SuperBlock) -> bool
     requires { ⌜ Fit s (now img) ⌝ }
-    requires { ⌜ markBytes (s .area .0) (s .blocks) ≤ length (now work) ⌝ }
+    requires { ⌜ markBytes (areaIn s) ≤ length (now work) ⌝ }
     requires { ⌜ now filter ≡ clear ⌝ }
-    ensures { λ r. ⌜ MarksAnswer (s .area .0) (s .blocks) (λ seen. seenOf (survey blockBytes (s .area .0) (s .blocks) (now (img .entry)) maxDepth (s .area .0) seen)) (now (work .entry)) (now (work .exit)) r ⌝ }
+    ensures { λ r. ⌜ MarksAnswer (areaIn s) (λ seen. seenOf (survey (areaIn s) (now (img .entry)) maxDepth (s .area .0) seen)) (now (work .entry)) (now (work .exit)) r ⌝ }
 {
     let d = s.area;
     if !check_dir::open_dir(img, work, filter, s, d) {
@@ -105,10 +104,10 @@ fn tree(img: &[u8], work: &mut [u8], filter: &mut [u8], s: SuperBlock) -> bool
 // W1 to W5, where nothing is marked yet. The filter of names stands here once, outside the walk.
 fn decide(img: &[u8], work: &mut [u8], s: SuperBlock) -> bool
     requires { ⌜ Fit s (now img) ⌝ }
-    requires { ⌜ markBytes (s .area .0) (s .blocks) ≤ length (now work) ⌝ }
-    requires { ⌜ Marks (s .area .0) (s .blocks) (now work) [] ⌝ }
+    requires { ⌜ markBytes (areaIn s) ≤ length (now work) ⌝ }
+    requires { ⌜ Marks (areaIn s) (now work) [] ⌝ }
     ensures { λ r. ⌜ r ≡ whole (geoOf s) (now (img .entry)) ⌝ }
-    ensures { λ _. ⌜ Beyond (s .area .0) (s .blocks) (now (work .entry)) (now (work .exit)) ⌝ }
+    ensures { λ _. ⌜ Beyond (areaIn s) (now (work .entry)) (now (work .exit)) ⌝ }
 {
     if !check_bitmap::rest_clear(img, s) {
         return false;
@@ -127,9 +126,9 @@ fn decide(img: &[u8], work: &mut [u8], s: SuperBlock) -> bool
 // and the others stay.
 pub fn check(img: &[u8], work: &mut [u8], s: SuperBlock) -> bool
     requires { ⌜ Fit s (now img) ⌝ }
-    requires { ⌜ markBytes (s .area .0) (s .blocks) ≤ length (now work) ⌝ }
+    requires { ⌜ markBytes (areaIn s) ≤ length (now work) ⌝ }
     ensures { λ r. ⌜ r ≡ whole (geoOf s) (now (img .entry)) ⌝ }
-    ensures { λ _. ⌜ now (work .exit) ≡ splice (now (work .entry)) 0 (zeros (markBytes (s .area .0) (s .blocks))) ⌝ }
+    ensures { λ _. ⌜ now (work .exit) ≡ splice (now (work .entry)) 0 (zeros (markBytes (areaIn s))) ⌝ }
 {
     let m = check_bitmap::mark_bytes(s);
     wire::fill(work, 0, m, 0);

@@ -15,10 +15,10 @@ use Rattle.model.specs.Volume.{WellFormed, maxDepth}
 use Rattle.limits.specs.declared.Refusal.{Refusal}
 use Rattle.model.proofs.Opens.{when-true, when-false, or-false}
 use Rattle.model.proofs.Replies.{given-none, given-some, and-then-ok, and-then-no}
-use Rattle.block.specs.Block.{next}
+use Rattle.block.specs.Block.{Area, next}
 use Rattle.super_block.specs.declared.SuperBlock.{SuperBlock}
-use Rattle.super_block.specs.Super.{mountOf, geoOf, Fit}
-use Rattle.super_block.proofs.Fits.{well-volume}
+use Rattle.super_block.specs.Super.{areaIn, mountOf, geoOf, Fit}
+use Rattle.super_block.proofs.Fits.{area-is, well-volume}
 use Rattle.bitmap_block.specs.Bitmap.{clears, Room}
 use Rattle.bitmap_block.proofs.Stores.{volume-clears, volume-room}
 use Rattle.dir_entry.specs.declared.DirEntry.{DirEntry}
@@ -71,29 +71,30 @@ deep-dir k d e = ap (λ (z : Kind). isDir z && leb 16 d) (sym e)
 
 -- ---- a spot
 
-module _ (B D n : ℕ) (I : List ℕ) (len : ℕ) where
+module _ (A : Area) (I : List ℕ) (len : ℕ) where
   abbrev Lies : Spot → Type 0
-  Lies p = 1 ≤ needed p → SpotIn B D n len p
+  Lies p = 1 ≤ needed p → SpotIn A len p
 
-  spot-lies : (k a : ℕ) → Lies (spotFrom B D n I len k a)
+  spot-lies : (k a : ℕ) → Lies (spotFrom A I len k a)
   unfolding spotFrom
   spot-lies zero a = λ h. absurd (omega arith)
   spot-lies (suc k) a =
-      pick-case Lies (inArea B D n I a) _ _
-      (λ t. pick-case Lies (leb (usedAt B I a + header + len) (B - 5)) _ _
-      (λ r h. (area-true B D n I a t .0, area-true B D n I a t .1, leb-true _ _ r))
-      (λ _. pick-case Lies (eqb (next B I a) 0) _ _ (λ _ h. area-true B D n I a t) (λ _. spot-lies k (next B I a))))
+      pick-case Lies (inArea A I a) _ _
+      (λ t. pick-case Lies (leb (usedAt (A .size) I a + header + len) (A .size - 5)) _ _
+      (λ r h. (area-true A I a t .0, area-true A I a t .1, leb-true _ _ r))
+      (λ _. pick-case Lies (eqb (next (A .size) I a) 0) _ _ (λ _ h. area-true A I a t) (λ _. spot-lies k (next (A .size) I a))))
       (λ _ h. absurd (omega arith))
 
 module _ (s : SuperBlock) (I : List ℕ) (p : Spot) (k : ℕ) (needs : k ≡ needed p) where
-  pub spot-in : (a len : ℕ) → p ≡ spotFor 512 (s .area .0) (s .blocks) I a len → (k ≡ 0 → ⊥) → SpotIn 512 (s .area .0) (s .blocks) len p
+  pub spot-in : (a len : ℕ) → p ≡ spotFor (areaIn s) I a len → (k ≡ 0 → ⊥) → SpotIn (areaIn s) len p
   spot-in a len e z =
-      subst (SpotIn 512 (s .area .0) (s .blocks) len) (sym e)
-      (spot-lies 512 (s .area .0) (s .blocks) I len (s .blocks - s .area .0) a (subst (λ (q : Spot). 1 ≤ needed q) e (omega arith)))
+      subst (SpotIn (areaIn s) len) (sym e)
+      (spot-lies (areaIn s) I len (s .blocks - s .area .0) a (subst (λ (q : Spot). 1 ≤ needed q) e (omega arith)))
 
-  pub spot-room : (b : Bool) → WellFormed (mountOf s) I → s .blocks ≡ countAt (mountOf s) I → b ≡ ltb (length (clears (geoOf s) I)) k → b ≡ false → Room (geoOf s) I (needed p)
-  spot-room b w e q h =
-      let v = well-volume s I w e in
+  pub spot-room : (b : Bool) → Fit s I → WellFormed (mountOf s) I → s .blocks ≡ countAt (mountOf s) I
+      → b ≡ ltb (length (clears (geoOf s) I)) k → b ≡ false → Room (geoOf s) I (needed p)
+  spot-room b f w e q h =
+      let v = well-volume s I f w e in
       let r = ltb-false (length (clears (geoOf s) I)) k (sym q ∙ h) in
       volume-room (geoOf s) I maxDepth (w .tree) v (needed p) (subst (λ (l : List ℕ). needed p ≤ length l) (volume-clears (geoOf s) I maxDepth (w .tree) v) (omega arith))
 
@@ -141,13 +142,14 @@ module _ (s : SuperBlock) (I : List ℕ) (fit : Fit s I) (h : Holding) (k : Kind
   unfolding siteIn tooDeep
   in-deep y = sym (given-some 15 _ (omega arith) (when-true 15 (sym t ∙ y)))
 
-  module _ (f : Found) (shallow : b ≡ false) (q : f ≡ findIn x (walk 512 (s .area .0) (s .blocks) I (h .dir .0))) where
-    looked : siteIn (geoOf s) I k x (holdOf h) ≡ given (existsNumber f) (siteAt (geoOf s) I (holdOf h) (spotFor 512 (s .area .0) (s .blocks) I (h .dir .0) (length x)))
+  module _ (f : Found) (shallow : b ≡ false) (q : f ≡ findIn x (walk (areaIn s) I (h .dir .0))) where
+    looked : siteIn (geoOf s) I k x (holdOf h) ≡ given (existsNumber f) (siteAt (geoOf s) I (holdOf h) (spotFor (areaIn s) I (h .dir .0) (length x)))
     unfolding siteIn tooDeep
     looked =
         given-none _ (when-false 15 (sym t ∙ shallow))
-        ∙ ap (λ (D : ℕ). given (existsNumber (findIn x (walk 512 D (s .blocks) I (h .dir .0)))) (siteAt (geoOf s) I (holdOf h) (spotFor 512 D (s .blocks) I (h .dir .0) (length x)))) (sym (fit .area))
-        ∙ ap (λ (y : Found). given (existsNumber y) (siteAt (geoOf s) I (holdOf h) (spotFor 512 (s .area .0) (s .blocks) I (h .dir .0) (length x)))) (sym q)
+        ∙ ap (λ (A : Area). given (existsNumber (findIn x (walk A I (h .dir .0))))
+        (siteAt (geoOf s) I (holdOf h) (spotFor A I (h .dir .0) (length x)))) (sym (area-is fit))
+        ∙ ap (λ (y : Found). given (existsNumber y) (siteAt (geoOf s) I (holdOf h) (spotFor (areaIn s) I (h .dir .0) (length x)))) (sym q)
 
     pub in-exists : (e : DirEntry) (p : Place) → f ≡ found.At e p → refused 7 ≡ siteIn (geoOf s) I k x (holdOf h)
     in-exists e p g = sym (looked ∙ given-some 7 _ (omega arith) (ap existsNumber g))
@@ -155,7 +157,7 @@ module _ (s : SuperBlock) (I : List ℕ) (fit : Fit s I) (h : Holding) (k : Kind
     pub in-damaged : f ≡ found.Damaged → refused 17 ≡ siteIn (geoOf s) I k x (holdOf h)
     in-damaged g = sym (looked ∙ given-some 17 _ (omega arith) (ap existsNumber g))
 
-    pub in-free : (r : Reply Site) → f ≡ found.Missing → r ≡ siteAt (geoOf s) I (holdOf h) (spotFor 512 (s .area .0) (s .blocks) I (h .dir .0) (length x))
+    pub in-free : (r : Reply Site) → f ≡ found.Missing → r ≡ siteAt (geoOf s) I (holdOf h) (spotFor (areaIn s) I (h .dir .0) (length x))
         → r ≡ siteIn (geoOf s) I k x (holdOf h)
     in-free r g e = e ∙ sym (looked ∙ given-none _ (ap existsNumber g))
 
@@ -185,7 +187,7 @@ module _ (s : SuperBlock) (I : List ℕ) (len : ℕ) (r : Sited) (h : SitedIn s 
   pub asked-room : Room (geoOf s) I (needed p)
   asked-room = subst (SitedIn s I len) q h .0
 
-  pub asked-spot : SpotIn 512 (s .area .0) (s .blocks) len p
+  pub asked-spot : SpotIn (areaIn s) len p
   asked-spot = subst (SitedIn s I len) q h .1
 
 -- ---- at a path
@@ -212,13 +214,13 @@ module _ (s : SuperBlock) (I : List ℕ) (k : Kind) (full : List ℕ) (len time 
   unfolding createdImage
   path-bad-leaves y = ap (imageAt (geoOf s) I k (lastName path) time) (sym (bad y))
 
-  module _ (fit : Fit s I) (hs : Holds) (good : b ≡ false) (held : holdsSays hs ≡ holdDir 512 (s .area .0) (s .blocks) I (take (ps .dir) full)) where
+  module _ (fit : Fit s I) (hs : Holds) (good : b ≡ false) (held : holdsSays hs ≡ holdDir (areaIn s) I (take (ps .dir) full)) where
     site-held : siteOf (geoOf s) I k path ≡ andThen (holdsSays hs) (siteIn (geoOf s) I k (lastName path))
     unfolding siteOf
     site-held =
         given-none _ (when-false 8 (sym named ∙ good))
-        ∙ ap (λ (D : ℕ). andThen (holdDir 512 D (s .blocks) I (dirPart path)) (siteIn (geoOf s) I k (lastName path))) (sym (fit .area))
-        ∙ ap (λ (l : List ℕ). andThen (holdDir 512 (s .area .0) (s .blocks) I l) (siteIn (geoOf s) I k (lastName path))) (sym (parts .dir))
+        ∙ ap (λ (A : Area). andThen (holdDir A I (dirPart path)) (siteIn (geoOf s) I k (lastName path))) (sym (area-is fit))
+        ∙ ap (λ (l : List ℕ). andThen (holdDir (areaIn s) I l) (siteIn (geoOf s) I k (lastName path))) (sym (parts .dir))
         ∙ ap (λ (r : Reply Hold). andThen r (siteIn (geoOf s) I k (lastName path))) (sym held)
 
     module _ (j : Refusal) (q : hs ≡ holds.Refused j) where

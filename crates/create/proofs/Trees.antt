@@ -11,10 +11,11 @@ use lib.ListN.{length}
 use borrow.Author.Tests.{le-leb, lt-leb, lt-ltb, eq-eqb, ne-eqb, ltb-true, ltb-false, eqb-false}
 use Rattle.wire.specs.Pick.{pick}
 use Rattle.wire.proofs.Picks.{either, not-both}
+use Rattle.block.specs.Block.{Area}
 use Rattle.model.specs.Answers.{Reply, accepted, refused, andThen, when, firstOf, given}
 use Rattle.model.specs.Tree.{Name, Entry, Below, Tree, Absent, any, holds, lookup, Some, find}
 use Rattle.model.specs.Render.{blocksAt}
-use Rattle.model.specs.Geometry.{Geo, blockSize, dataAt}
+use Rattle.model.specs.Geometry.{areaOf, Geo, blockSize}
 use Rattle.model.specs.Volume.{maxDepth, GoodName, Volume}
 use Rattle.model.specs.Calls.{freeBlocks, entryRoom, toCreate, entryBlock, TreeCreatesFile, TreeCreatesDir}
 use Rattle.model.proofs.Opens.{when-true, when-false, when-none, first-of-one}
@@ -120,10 +121,10 @@ module _ (g : Geo) (free : List ℕ) (k : Kind) (n : Name) (s : Some) where
       given-first (when 15 (isDir k && eqb (s .0) 0)) _ r
       ∙ ap (given (when 15 (isDir k && eqb (s .0) 0))) (given-first (when 7 (any (holds n) (s .1))) _ r ∙ ap (given (when 7 (any (holds n) (s .1)))) (given-last (when 9 full-test) r))
 
-spot-known : (B D n len : ℕ) (p : Spot) → SpotIn B D n len p → spotNumber p ≡ 0
-spot-known B D n len (spot.In p) h = refl
-spot-known B D n len (spot.After a) h = refl
-spot-known B D n len spot.Damaged h = absurd h
+spot-known : (A : Area) (len : ℕ) (p : Spot) → SpotIn A len p → spotNumber p ≡ 0
+spot-known A len (spot.In p) h = refl
+spot-known A len (spot.After a) h = refl
+spot-known A len spot.Damaged h = absurd h
 
 -- ---- a create in a directory of the tree
 
@@ -135,7 +136,7 @@ module _ (g : Geo) (I : List ℕ) (t : Tree maxDepth) (v : Volume g I maxDepth t
   dir = q .there
 
   abbrev at : Spot
-  at = spotFor (blockSize g) (dataAt g) (g .n) I (h .dir) (length n)
+  at = spotFor (areaOf g) I (h .dir) (length n)
 
   abbrev site : Site
   site = record { dir = h .dir; spot = at; own = h .own }
@@ -144,12 +145,12 @@ module _ (g : Geo) (I : List ℕ) (t : Tree maxDepth) (v : Volume g I maxDepth t
   unfolding tooDeep
   deep-is = ap (λ (b : Bool). isDir k && b) (no-level (dir .0) (h .depth) (omega (arith, q .deep, q .levels)))
 
-  found-is : existsNumber (findIn n (walk (blockSize g) (dataAt g) (g .n) I (h .dir))) ≡ when 7 (any (holds n) (dir .1))
+  found-is : existsNumber (findIn n (walk (areaOf g) I (h .dir))) ≡ when 7 (any (holds n) (dir .1))
   found-is =
-      ap (λ (a : ℕ). existsNumber (findIn n (walk (blockSize g) (dataAt g) (g .n) I a))) (sym (q .starts)) ∙ go (lookup-or n (dir .1)) (either (any (holds n) (dir .1)))
+      ap (λ (a : ℕ). existsNumber (findIn n (walk (areaOf g) I a))) (sym (q .starts)) ∙ go (lookup-or n (dir .1)) (either (any (holds n) (dir .1)))
     where
       go : ((e : Entry (Below (dir .0))) × (lookup n (dir .1) ≡ some e)) ⊎ Absent n (dir .1) → (any (holds n) (dir .1) ≡ true) ⊎ (any (holds n) (dir .1) ≡ false)
-          → existsNumber (findIn n (walk (blockSize g) (dataAt g) (g .n) I (blocksAt (dir .1)))) ≡ when 7 (any (holds n) (dir .1))
+          → existsNumber (findIn n (walk (areaOf g) I (blocksAt (dir .1)))) ≡ when 7 (any (holds n) (dir .1))
       go (inl e) (inl b) = ap existsNumber (find-is g I maxDepth t _ p dir (v .laid) (q .found) n (e .0) (e .1)) ∙ sym (when-true 7 b)
       go (inr a) (inl b) = absurd (not-both b a)
       go e (inr b) = ap existsNumber (find-missing g I maxDepth t _ p dir (v .laid) (q .found) n b) ∙ sym (when-false 7 b)
@@ -163,14 +164,14 @@ module _ (g : Geo) (I : List ℕ) (t : Tree maxDepth) (v : Volume g I maxDepth t
   at-is : siteAt g I h at ≡ given (when 9 (ltb (length free) (toCreate (entryRoom g) n (dir .1)))) (accepted site)
   unfolding siteAt
   at-is =
-      given-none _ (spot-known (blockSize g) (dataAt g) (g .n) (length n) at (spot-inside g I maxDepth t n at v p dir (q .found) (h .dir) (q .starts) refl))
+      given-none _ (spot-known (areaOf g) (length n) at (spot-inside g I maxDepth t n at v p dir (q .found) (h .dir) (q .starts) refl))
       ∙ ap (λ (b : Bool). given (when 9 b) (accepted site)) room-is
 
   -- The tree's refusal if there is one, and else the site: never 17.
   site-is : siteIn g I k n h ≡ given (treeRefusal g free k n dir) (accepted site)
   unfolding siteIn
   site-is =
-      ap (λ (b : Bool). given (when 15 b) (given (existsNumber (findIn n (walk (blockSize g) (dataAt g) (g .n) I (h .dir)))) (siteAt g I h at))) deep-is
+      ap (λ (b : Bool). given (when 15 b) (given (existsNumber (findIn n (walk (areaOf g) I (h .dir)))) (siteAt g I h at))) deep-is
       ∙ ap (λ (j : ℕ). given (when 15 (isDir k && eqb (dir .0) 0)) (given j (siteAt g I h at))) found-is
       ∙ ap (λ (r : Reply Site). given (when 15 (isDir k && eqb (dir .0) 0)) (given (when 7 (any (holds n) (dir .1))) r)) at-is
       ∙ sym (tree-given g free k n dir (accepted site))
@@ -187,7 +188,7 @@ module _ (g : Geo) (I : List ℕ) (t : Tree maxDepth) (v : Volume g I maxDepth t
   abbrev unused : List ℕ
   unused = freeBlocks g maxDepth t
 
-  held : (h : Hold) → holdDir (blockSize g) (dataAt g) (g .n) I (dirPart l) ≡ accepted h → HeldAt (blockSize g) maxDepth way t h
+  held : (h : Hold) → holdDir (areaOf g) I (dirPart l) ≡ accepted h → HeldAt (blockSize g) maxDepth way t h
   held h e = hold-is g I maxDepth t _ way (v .laid) h e
 
   -- what an accepted create has passed
@@ -202,7 +203,7 @@ module _ (g : Geo) (I : List ℕ) (t : Tree maxDepth) (v : Volume g I maxDepth t
   unfolding siteOf
   passed s e =
       let a = given-accepted (when 8 (badName last)) _ s e in
-      let b = then-accepted (holdDir (blockSize g) (dataAt g) (g .n) I (dirPart l)) (siteIn g I k last) s (a .1) in
+      let b = then-accepted (holdDir (areaOf g) I (dirPart l)) (siteIn g I k last) s (a .1) in
       let q = held (b .0) (b .1) in
       let c = given-accepted (treeRefusal g unused k last (q .there)) _ s (sym (site-is g I t v way (b .0) q k last) ∙ b .2) in
       record { hold = b .0; at = q; named = when-none 8 _ (omega arith) (a .0); tests = c .0; here = sym (accepted-one _ s (c .1)) }
@@ -237,22 +238,22 @@ module _ (g : Geo) (I : List ℕ) (t : Tree maxDepth) (v : Volume g I maxDepth t
           tree (inl a) (inr b) = subst InDir (sym (a .1)) b
           tree (inr a) b = absurd (not-accepted j (site g I t v way h q k last) (sym (a .1)))
 
-      dirs : (holdDir (blockSize g) (dataAt g) (g .n) I (dirPart l) ≡ refused j) ⊎ ((h : Hold) × (holdDir (blockSize g) (dataAt g) (g .n) I (dirPart l) ≡ accepted h) × (siteIn g I k last h ≡ refused j))
+      dirs : (holdDir (areaOf g) I (dirPart l) ≡ refused j) ⊎ ((h : Hold) × (holdDir (areaOf g) I (dirPart l) ≡ accepted h) × (siteIn g I k last h ≡ refused j))
           → (j ≡ 8) ⊎ (((j ≡ 5) ⊎ (j ≡ 6)) ⊎ InDir j)
       dirs (inl a) = inr (inl (hold-refused g I maxDepth t _ way (v .laid) j a .1))
       dirs (inr a) = inr (inr (inner (a .0) (held (a .0) (a .1)) (a .2)))
 
-      name : ((1 ≤ when 8 (badName last)) × (j ≡ when 8 (badName last))) ⊎ ((when 8 (badName last) ≡ 0) × (andThen (holdDir (blockSize g) (dataAt g) (g .n) I (dirPart l)) (siteIn g I k last) ≡ refused j))
+      name : ((1 ≤ when 8 (badName last)) × (j ≡ when 8 (badName last))) ⊎ ((when 8 (badName last) ≡ 0) × (andThen (holdDir (areaOf g) I (dirPart l)) (siteIn g I k last) ≡ refused j))
           → (j ≡ 8) ⊎ (((j ≡ 5) ⊎ (j ≡ 6)) ⊎ InDir j)
       name (inl a) = inl (bad (either (badName last)))
         where
           bad : (badName last ≡ true) ⊎ (badName last ≡ false) → j ≡ 8
           bad (inl b) = a .1 ∙ when-true 8 b
           bad (inr b) = absurd (omega (arith, a .0, when-false 8 b))
-      name (inr a) = dirs (then-refused (holdDir (blockSize g) (dataAt g) (g .n) I (dirPart l)) (siteIn g I k last) j (a .1))
+      name (inr a) = dirs (then-refused (holdDir (areaOf g) I (dirPart l)) (siteIn g I k last) j (a .1))
 
   -- R9: exactly where 15 and 7 are not given and fewer blocks are free than are taken.
-  pub no-room : (h : Hold) (s : Some) → holdDir (blockSize g) (dataAt g) (g .n) I (dirPart l) ≡ accepted h → find maxDepth way t ≡ some s
+  pub no-room : (h : Hold) (s : Some) → holdDir (areaOf g) I (dirPart l) ≡ accepted h → find maxDepth way t ≡ some s
       → (siteIn g I k last h ≡ refused 9) ↔ ((tooDeep k h ≡ false) × Absent last (s .1) × (length unused < toCreate (entryRoom g) last (s .1)))
   no-room h s e f =
       let q = held h e in

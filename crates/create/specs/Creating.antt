@@ -6,7 +6,7 @@ use Prim.Native.Nat.{ℕ}
 use lib.Dec.{ltb, leb, eqb}
 use lib.ListN.{length}
 use Rattle.model.specs.Answers.{Reply, accepted, refused, andThen, when, given}
-use Rattle.model.specs.Geometry.{Geo, blockSize, dataAt}
+use Rattle.model.specs.Geometry.{areaOf, Geo}
 use Rattle.model.specs.Volume.{maxDepth}
 use Rattle.bitmap_block.specs.Bitmap.{clears}
 use Rattle.dir_entry.specs.declared.Kind.{Kind}
@@ -65,12 +65,12 @@ module _ (g : Geo) (I : List ℕ) where
   unfoldable pub siteIn : Kind → List ℕ → Hold → Reply Site
   siteIn k x h =
       given (when 15 (tooDeep k h))
-      (given (existsNumber (findIn x (walk (blockSize g) (dataAt g) (g .n) I (h .dir))))
-      (siteAt h (spotFor (blockSize g) (dataAt g) (g .n) I (h .dir) (length x))))
+      (given (existsNumber (findIn x (walk (areaOf g) I (h .dir))))
+      (siteAt h (spotFor (areaOf g) I (h .dir) (length x))))
 
   -- At the full path l: 8, 5/6, then these.
   unfoldable pub siteOf : Kind → List ℕ → Reply Site
-  siteOf k l = given (when 8 (badName (lastName l))) (andThen (holdDir (blockSize g) (dataAt g) (g .n) I (dirPart l)) (siteIn k (lastName l)))
+  siteOf k l = given (when 8 (badName (lastName l))) (andThen (holdDir (areaOf g) I (dirPart l)) (siteIn k (lastName l)))
 
   -- What is answered: at a site, the blocks.
   unfoldable pub freshOf : Reply Site → Reply Fresh

@@ -3,9 +3,8 @@ use mathlib.Core.List.{List}
 use Prim.Native.Nat.{ℕ}
 use Rattle.model.specs.Answers.{Reply, accepted, refused}
 use Rattle.limits.specs.Refusals.{refusalNumber}
-use Rattle.block.specs.Block.{blockBytes}
 use Rattle.super_block.specs.declared.SuperBlock.{SuperBlock}
-use Rattle.super_block.specs.Super.{geoOf}
+use Rattle.super_block.specs.Super.{areaIn, geoOf}
 use Rattle.bitmap_block.specs.Bitmap.{Room}
 use Rattle.create_store.specs.Create.{needed, SpotIn}
 use Rattle.dir.specs.Hold.{Hold}
@@ -22,7 +21,7 @@ sitedSays h (sited.Refused r) = refused (refusalNumber r)
 
 -- There is room for the blocks, and the spot lies in the data area and holds a name of len bytes.
 abbrev pub SitedIn : SuperBlock → List ℕ → ℕ → Sited → Type 0
-SitedIn s I len (sited.At p) = Room (geoOf s) I (needed p) × SpotIn blockBytes (s .area .0) (s .blocks) len p
+SitedIn s I len (sited.At p) = Room (geoOf s) I (needed p) × SpotIn (areaIn s) len p
 SitedIn s I len (sited.Refused r) = Unit {0}
 
 abbrev pub createdSays : Created → Reply Fresh

@@ -13,10 +13,9 @@ ghost use mathlib.Core.Bool.{_&&_};
 ghost use Prim.Native.Nat.{_≤_};
 ghost use lib.Dec.{leb};
 ghost use lib.ListN.{length, take};
-ghost use Rattle.block.specs.Block.{blockBytes};
 ghost use Rattle.model.specs.Geometry.{countAt};
 ghost use Rattle.model.specs.Volume.{WellFormed, maxDepth};
-ghost use Rattle.super_block.specs.Super.{mountOf, geoOf, Fit};
+ghost use Rattle.super_block.specs.Super.{areaIn, mountOf, geoOf, Fit};
 ghost use Rattle.dir_entry.specs.Entry.{isDir};
 ghost use Rattle.own_entry.specs.Own.{OwnIn};
 ghost use Rattle.create_store.specs.Create.{spotFor};
@@ -65,7 +64,7 @@ fn site_at(img: &[u8], s: SuperBlock, h: Holding, len: usize) -> Sited
     requires { ⌜ WellFormed (mountOf s) (now img) ⌝ }
     requires { ⌜ s .blocks ≡ countAt (mountOf s) (now img) ⌝ }
     requires { ⌜ len ≤ 255 ⌝ }
-    ensures { λ r. ⌜ sitedSays (holdOf h) r ≡ siteAt (geoOf s) (now (img .entry)) (holdOf h) (spotFor blockBytes (s .area .0) (s .blocks) (now (img .entry)) (h .dir .0) len) ⌝ }
+    ensures { λ r. ⌜ sitedSays (holdOf h) r ≡ siteAt (geoOf s) (now (img .entry)) (holdOf h) (spotFor (areaIn s) (now (img .entry)) (h .dir .0) len) ⌝ }
     ensures { λ r. ⌜ SitedIn s (now (img .entry)) len r ⌝ }
 {
     let dir = h.dir;
@@ -114,7 +113,7 @@ fn create_in(
     requires { ⌜ WellFormed (mountOf s) (now img) ⌝ }
     requires { ⌜ s .blocks ≡ countAt (mountOf s) (now img) ⌝ }
     requires { ⌜ length (now name) ≤ 255 ⌝ }
-    requires { ⌜ OwnIn (now img) (h .own) ⌝ }
+    requires { ⌜ OwnIn (s .size) (now img) (h .own) ⌝ }
     ensures { λ r. ⌜ createdSays r ≡ freshOf (geoOf s) (now (img .entry)) (siteIn (geoOf s) (now (img .entry)) kind (now (name .entry)) (holdOf h)) ⌝ }
     ensures { λ _. ⌜ now (img .exit) ≡ imageAt (geoOf s) (now (img .entry)) kind (now (name .entry)) time (siteIn (geoOf s) (now (img .entry)) kind (now (name .entry)) (holdOf h)) ⌝ }
 {

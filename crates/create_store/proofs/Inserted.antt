@@ -10,7 +10,7 @@ use Rattle.wire.specs.Be.{bytes, zeros}
 use Rattle.block.proofs.Blocks.{kept-less}
 use Rattle.model.specs.Tree.{Name, file, sub, Entry, Block, Below, Tree, weight, used, sum, Packed, Absent, insert, Edit, edit, Some, find, blank}
 use Rattle.model.specs.Render.{Piece, View, cellsAt, blocksAt, padded, addressOf, sizeOf, entriesBytes, cellPieces, nodePieces, entryPieces, dirPieces, view, render, ats, count, blocks}
-use Rattle.model.specs.Geometry.{Geo, blockSize, dataAt}
+use Rattle.model.specs.Geometry.{areaOf, Geo, blockSize, dataAt}
 use Rattle.model.specs.Volume.{GoodName, GoodFile, GoodBelow, GoodTree, Volume}
 use Rattle.model.specs.Calls.{freeBlocks, entryRoom, toCreate, entryBlock, dirBlock, fileEntry, created, dirAdded, createdDir, emptyCell, Makes, TreeCreatesFile, TreeCreatesDir}
 use Rattle.model.proofs.Areas.{size-large}
@@ -188,11 +188,11 @@ module _ (g : Geo) (I : List ℕ) (d : ℕ) (t : Tree d) (v : Volume g I d t) (p
 
   -- ==== the theorem
 
-  module _ (s : Some) (h : find d p t ≡ some s) (dir : ℕ) (begins : blocksAt (s .1) ≡ dir) (at : Spot) (at-is : at ≡ spotFor (blockSize g) (dataAt g) (g .n) I dir (length n))
+  module _ (s : Some) (h : find d p t ≡ some s) (dir : ℕ) (begins : blocksAt (s .1) ≡ dir) (at : Spot) (at-is : at ≡ spotFor (areaOf g) I dir (length n))
       (absent : Absent n (s .1)) (room : toCreate (entryRoom g) n (s .1) ≤ length (freeBlocks g d t)) where
     -- the spot that code finds is the tree's
     at-spot : at ≡ spotOn (entryRoom g) n 0 (s .1)
-    at-spot = at-is ∙ ap (λ (a : ℕ). spotFor (blockSize g) (dataAt g) (g .n) I a (length n)) (sym begins) ∙ spot-is g I d t _ p n s (v .laid) h
+    at-spot = at-is ∙ ap (λ (a : ℕ). spotFor (areaOf g) I a (length n)) (sym begins) ∙ spot-is g I d t _ p n s (v .laid) h
 
     -- Creating a file.
     pub inserted-file : TreeCreatesFile g d p n now t I (inserted g I dir at own File n now)
@@ -223,29 +223,29 @@ module _ (g : Geo) (I : List ℕ) (d : ℕ) (t : Tree d) (n : Name) where
 
   module _ (at : Spot) where
     in-gap : {X : Type 0} (v : View X) (bs : List (Block X)) → Stored g I (dirPieces (blockSize g) v bs) → at ≡ spotOn (entryRoom g) n 0 bs → Gap (entryRoom g) n 0 bs ⊎ Full (entryRoom g) n 0 bs
-        → SpotIn (blockSize g) (dataAt g) (g .n) (length n) at
+        → SpotIn (areaOf g) (length n) at
     in-gap v bs s e (inl r) =
         let w = block-data v bs (r .earlier) (r .block) (r .later) (r .is) s in
-        subst (SpotIn (blockSize g) (dataAt g) (g .n) (length n)) (sym (e ∙ r .spot)) (w .0, w .1, omega (arith, r .room))
+        subst (SpotIn (areaOf g) (length n)) (sym (e ∙ r .spot)) (w .0, w .1, omega (arith, r .room))
     in-gap v bs s e (inr r) =
         let w = block-data v bs (r .earlier) (r .last) [] (r .is) s in
-        subst (SpotIn (blockSize g) (dataAt g) (g .n) (length n)) (sym (e ∙ r .spot)) (w .0, w .1)
+        subst (SpotIn (areaOf g) (length n)) (sym (e ∙ r .spot)) (w .0, w .1)
 
     in-part : (e : ℕ) (bs : Tree e) → Part g I e bs → at ≡ spotOn (entryRoom g) n 0 bs
-        → SpotIn (blockSize g) (dataAt g) (g .n) (length n) at × (needed at ≡ toCreate (entryRoom g) n bs)
+        → SpotIn (areaOf g) (length n) at × (needed at ≡ toCreate (entryRoom g) n bs)
     unfolding render
     in-part e [] q k = absurd (q .good .packed)
     in-part e (b ∷ bs) q k = (in-gap (view (blockSize g) e) (b ∷ bs) (q .stored) k (gap (entryRoom g) n 0 b bs), ap needed k ∙ spot-needs (entryRoom g) n 0 b bs)
 
     module _ (v : Volume g I d t) (p : List Name) (s : Some) (h : find d p t ≡ some s) (dir : ℕ) (begins : blocksAt (s .1) ≡ dir)
-        (at-is : at ≡ spotFor (blockSize g) (dataAt g) (g .n) I dir (length n)) where
-      both : SpotIn (blockSize g) (dataAt g) (g .n) (length n) at × (needed at ≡ toCreate (entryRoom g) n (s .1))
+        (at-is : at ≡ spotFor (areaOf g) I dir (length n)) where
+      both : SpotIn (areaOf g) (length n) at × (needed at ≡ toCreate (entryRoom g) n (s .1))
       both =
           in-part (s .0) (s .1) (part-find g I d p t s (laid-part g I d t _ (v .laid)) h)
-          (at-is ∙ ap (λ (a : ℕ). spotFor (blockSize g) (dataAt g) (g .n) I a (length n)) (sym begins) ∙ spot-is g I d t _ p n s (v .laid) h)
+          (at-is ∙ ap (λ (a : ℕ). spotFor (areaOf g) I a (length n)) (sym begins) ∙ spot-is g I d t _ p n s (v .laid) h)
 
       -- It lies in the data area and has the room,
-      pub spot-inside : SpotIn (blockSize g) (dataAt g) (g .n) (length n) at
+      pub spot-inside : SpotIn (areaOf g) (length n) at
       spot-inside = both .0
 
       -- the blocks that it needs are those that a create adds,

@@ -13,7 +13,7 @@ use Rattle.wire.proofs.Picks.{either, pick-true, pick-false}
 use Rattle.block.specs.Block.{next}
 use Rattle.model.specs.Tree.{Name, Entry, Block, Below, Tree, weight, used, Some, find}
 use Rattle.model.specs.Render.{View, blocksAt, padded, entriesBytes, dirPieces, view, render, Shows}
-use Rattle.model.specs.Geometry.{Geo, blockSize, dataAt, Sound}
+use Rattle.model.specs.Geometry.{areaOf, Geo, blockSize, dataAt, Sound}
 use Rattle.model.specs.Volume.{All, GoodBlock, GoodBelow, Laid}
 use Rattle.model.specs.Calls.{entryRoom, hasRoom, toCreate}
 use Rattle.model.proofs.Areas.{area}
@@ -57,12 +57,12 @@ module _ (g : Geo) (I : List ℕ) (sound : Sound g (length I)) (d : ℕ) where
 
   -- one block
   room-here : (n : Name) (b : Block (Below d)) (bs : Tree d) (k z : ℕ) → GoodBlock (blockSize g) (GoodBelow (blockSize g) d) b → Stored g I (dirPieces (blockSize g) shows (b ∷ bs))
-      → hasRoom (entryRoom g) n b ≡ true → spotFrom (blockSize g) (dataAt g) (g .n) I (length n) (suc k) (b .at) ≡ spotOn (entryRoom g) n z (b ∷ bs)
+      → hasRoom (entryRoom g) n b ≡ true → spotFrom (areaOf g) I (length n) (suc k) (b .at) ≡ spotOn (entryRoom g) n z (b ∷ bs)
   unfolding spotOn hasRoom
   room-here n b bs k z a s c =
       let r = block-data g I shows b bs s in
       let e = block-used b bs a s in
-      spot-in (blockSize g) (dataAt g) (g .n) I (length n) k (b .at) (r .0) (r .1) (omega (arith, e, leb-true (used (b .entries) + (18 + length n)) (entryRoom g) c))
+      spot-in (areaOf g) I (length n) k (b .at) (r .0) (r .1) (omega (arith, e, leb-true (used (b .entries) + (18 + length n)) (entryRoom g) c))
       ∙ ap (λ (u : ℕ). In (placed (b .at) u)) e ∙ sym (pick-true _ _ c)
 
   no-room : (n : Name) (b : Block (Below d)) (bs : Tree d) → GoodBlock (blockSize g) (GoodBelow (blockSize g) d) b → Stored g I (dirPieces (blockSize g) shows (b ∷ bs))
@@ -71,44 +71,44 @@ module _ (g : Geo) (I : List ℕ) (sound : Sound g (length I)) (d : ℕ) where
   no-room n b bs a s c = omega (arith, block-used b bs a s, leb-false (used (b .entries) + (18 + length n)) (entryRoom g) c)
 
   chain-spot : (n : Name) (b : Block (Below d)) (bs : Tree d) (k z : ℕ) → length bs ≤ k → All (GoodBlock (blockSize g) (GoodBelow (blockSize g) d)) (b ∷ bs)
-      → Stored g I (dirPieces (blockSize g) shows (b ∷ bs)) → spotFrom (blockSize g) (dataAt g) (g .n) I (length n) (suc k) (b .at) ≡ spotOn (entryRoom g) n z (b ∷ bs)
+      → Stored g I (dirPieces (blockSize g) shows (b ∷ bs)) → spotFrom (areaOf g) I (length n) (suc k) (b .at) ≡ spotOn (entryRoom g) n z (b ∷ bs)
   unfolding spotOn blocksAt
   chain-spot n b [] k z h a s = go (either (hasRoom (entryRoom g) n b))
     where
       go : (hasRoom (entryRoom g) n b ≡ true) ⊎ (hasRoom (entryRoom g) n b ≡ false)
-          → spotFrom (blockSize g) (dataAt g) (g .n) I (length n) (suc k) (b .at) ≡ spotOn (entryRoom g) n z (b ∷ [])
+          → spotFrom (areaOf g) I (length n) (suc k) (b .at) ≡ spotOn (entryRoom g) n z (b ∷ [])
       go (inl c) = room-here n b [] k z (a .0) s c
       go (inr c) =
           let r = block-data g I shows b [] s in
-          spot-after (blockSize g) (dataAt g) (g .n) I (length n) k (b .at) (r .0) (r .1) (no-room n b [] (a .0) s c) (block-next g I shows sound b [] s) ∙ sym (pick-false _ _ c)
+          spot-after (areaOf g) I (length n) k (b .at) (r .0) (r .1) (no-room n b [] (a .0) s c) (block-next g I shows sound b [] s) ∙ sym (pick-false _ _ c)
   chain-spot n b (x ∷ bs) zero z h a s = absurd (omega arith)
   chain-spot n b (x ∷ bs) (suc k) z h a s = go (either (hasRoom (entryRoom g) n b)) (chain-spot n x bs k (b .at) (omega arith) (a .1) (chain-after g I shows b (x ∷ bs) s))
     where
       go : (hasRoom (entryRoom g) n b ≡ true) ⊎ (hasRoom (entryRoom g) n b ≡ false)
-          → spotFrom (blockSize g) (dataAt g) (g .n) I (length n) (suc k) (x .at) ≡ spotOn (entryRoom g) n (b .at) (x ∷ bs)
-          → spotFrom (blockSize g) (dataAt g) (g .n) I (length n) (suc (suc k)) (b .at) ≡ spotOn (entryRoom g) n z (b ∷ (x ∷ bs))
+          → spotFrom (areaOf g) I (length n) (suc k) (x .at) ≡ spotOn (entryRoom g) n (b .at) (x ∷ bs)
+          → spotFrom (areaOf g) I (length n) (suc (suc k)) (b .at) ≡ spotOn (entryRoom g) n z (b ∷ (x ∷ bs))
       go (inl c) r = room-here n b (x ∷ bs) (suc k) z (a .0) s c
       go (inr c) r =
           let q = block-data g I shows b (x ∷ bs) s in
           let m : next (blockSize g) I (b .at) ≡ x .at = block-next g I shows sound b (x ∷ bs) s in
           let w = block-data g I shows x bs (chain-after g I shows b (x ∷ bs) s) in
-          spot-next (blockSize g) (dataAt g) (g .n) I (length n) (suc k) (b .at) (q .0) (q .1) (no-room n b (x ∷ bs) (a .0) s c) (λ y. omega (arith, y, m, w .0, area g (length I) sound .maps))
-          ∙ ap (spotFrom (blockSize g) (dataAt g) (g .n) I (length n) (suc k)) m ∙ r ∙ sym (pick-false _ _ c)
+          spot-next (areaOf g) I (length n) (suc k) (b .at) (q .0) (q .1) (no-room n b (x ∷ bs) (a .0) s c) (λ y. omega (arith, y, m, w .0, area g (length I) sound .maps))
+          ∙ ap (spotFrom (areaOf g) I (length n) (suc k)) m ∙ r ∙ sym (pick-false _ _ c)
 
 -- The spot in a directory that the image holds.
 part-spot : (g : Geo) (I : List ℕ) (d : ℕ) (t : Tree d) (n : Name) → Part g I d t
-    → spotFor (blockSize g) (dataAt g) (g .n) I (blocksAt t) (length n) ≡ spotOn (entryRoom g) n 0 t
+    → spotFor (areaOf g) I (blocksAt t) (length n) ≡ spotOn (entryRoom g) n 0 t
 unfolding blocksAt render
 part-spot g I d [] n p = absurd (p .good .packed)
 part-spot g I d (b ∷ bs) n p =
     let h : length (b ∷ bs) ≤ g .n - dataAt g = omega (arith, chain-long (blockSize g) (view (blockSize g) d) (b ∷ bs), stored-few g I _ (p .stored)) in
     let e : g .n - dataAt g ≡ suc (g .n - dataAt g - 1) = omega arith in
-    ap (λ (k : ℕ). spotFrom (blockSize g) (dataAt g) (g .n) I (length n) k (b .at)) e
+    ap (λ (k : ℕ). spotFrom (areaOf g) I (length n) k (b .at)) e
     ∙ chain-spot g I (p .sound) d n b bs (g .n - dataAt g - 1) 0 (omega arith) (p .good .all) (p .stored)
 
 -- The spot in a directory of a volume: its first block with room, where its entries end, or after its last one where none has room.
 pub spot-is : (g : Geo) (I : List ℕ) (d : ℕ) (t : Tree d) (u : ℕ) (p : List Name) (n : Name) (s : Some) → Laid g I d t u → find d p t ≡ some s
-    → spotFor (blockSize g) (dataAt g) (g .n) I (blocksAt (s .1)) (length n) ≡ spotOn (entryRoom g) n 0 (s .1)
+    → spotFor (areaOf g) I (blocksAt (s .1)) (length n) ≡ spotOn (entryRoom g) n 0 (s .1)
 spot-is g I d t u p n s l f = part-spot g I (s .0) (s .1) n (part-find g I d p t s (laid-part g I d t u l) f)
 
 -- ---- how many blocks a create adds

@@ -9,14 +9,14 @@ use lib.Seq.{take-all}
 use Rattle.wire.specs.Be.{splice}
 use Rattle.wire.proofs.Numbers.{length-splice}
 use Rattle.block.specs.declared.Addr.{Addr}
-use Rattle.block.specs.Block.{linked, Off, Kept}
-use Rattle.block.proofs.Blocks.{linked-kept}
+use Rattle.block.specs.Block.{Area, BlockSize, linked, Off, Kept}
+use Rattle.block.proofs.Blocks.{linked-inside, linked-kept}
 use Rattle.model.specs.Tree.{Name}
-use Rattle.model.specs.Geometry.{Geo, blockSize, dataAt, Sound}
+use Rattle.model.specs.Geometry.{areaOf, Geo, blockSize, dataAt, Sound}
 use Rattle.model.proofs.Areas.{area, size-large, block-inside}
 use Rattle.super_block.specs.declared.SuperBlock.{SuperBlock}
-use Rattle.super_block.specs.Super.{geoOf, Fit}
-use Rattle.super_block.proofs.Fits.{placed, fit-long}
+use Rattle.super_block.specs.Super.{areaIn, geoOf, Fit}
+use Rattle.super_block.proofs.Fits.{placed, area-is, fit-long, fit-inside}
 use Rattle.bitmap_block.specs.Bitmap.{clears, taken, Room, fresh}
 use Rattle.bitmap_block.proofs.Answers.{found-in}
 use Rattle.bitmap_block.proofs.Stores.{Aside, sound-kept, used-kept, clears-kept, taken-kept, room-taken, fresh-low, fresh-index, fresh-first, fresh-data, fresh-high}
@@ -71,24 +71,24 @@ module _ (g : Geo) (I : List ℕ) (s : Sound g (length I)) (len : ℕ) where
       linked-kept (blockSize g) (blockTaken g I) a (omega (arith, size-large g))
       (block-inside g (length (blockTaken g I)) (sound-grown g I (omega (arith, r .clear)) s) a h) (fresh g I)
 
-  opened-long : (t : Spot) → SpotIn (blockSize g) (dataAt g) (g .n) len t → Room g I (needed t) → length (opened g I t) ≡ length I
+  opened-long : (t : Spot) → SpotIn (areaOf g) len t → Room g I (needed t) → length (opened g I t) ≡ length I
   opened-long (In p) q r = refl
   opened-long (After a) q r = linked-in (a .0) (q .0) (q .1) r .size ∙ length-grown g I (omega (arith, r .clear)) s
   opened-long Damaged q r = refl
 
-  opened-room : (t : Spot) → SpotIn (blockSize g) (dataAt g) (g .n) len t → Room g I (needed t) → Room g (opened g I t) 1
+  opened-room : (t : Spot) → SpotIn (areaOf g) len t → Room g I (needed t) → Room g (opened g I t) 1
   opened-room (In p) q r = r
   opened-room (After a) q r =
       let h : 1 ≤ length (clears g I) = omega (arith, r .clear) in
       room-kept g (blockTaken g I) (sound-grown g I h s) (Off (a .0) 0 4) _ (linked-in (a .0) (q .0) (q .1) r) (λ b o k e _ _. omega (arith, q .0)) 1 (room-grown g I h s 1 r)
   opened-room Damaged q r = absurd q
 
-  place-data : (t : Spot) → SpotIn (blockSize g) (dataAt g) (g .n) len t → Room g I (needed t) → (dataAt g ≤ placeIn g I t .block .0) × (placeIn g I t .block .0 < g .n)
+  place-data : (t : Spot) → SpotIn (areaOf g) len t → Room g I (needed t) → (dataAt g ≤ placeIn g I t .block .0) × (placeIn g I t .block .0 < g .n)
   place-data (In p) q r = (q .0, q .1)
   place-data (After a) q r = let h : 1 ≤ length (clears g I) = omega (arith, r .clear) in (fresh-low g I h, fresh-high g I h s)
   place-data Damaged q r = absurd q
 
-  place-room : (t : Spot) → SpotIn (blockSize g) (dataAt g) (g .n) len t → len ≤ 255 → placeIn g I t .offset + 18 + len ≤ blockSize g - 5
+  place-room : (t : Spot) → SpotIn (areaOf g) len t → len ≤ 255 → placeIn g I t .offset + 18 + len ≤ blockSize g - 5
   place-room (In p) q r = q .2
   place-room (After a) q r = omega (arith, size-large g)
   place-room Damaged q r = absurd q
@@ -106,6 +106,15 @@ length-entered g I s r p k name time h q =
 
 -- ==== what the code needs and gives
 
+-- the linked block that code makes of the struct's size has a size that blocks have
+pub made-known : {z : ℕ} (s : SuperBlock) (I : List ℕ) → Fit s I → z ≡ s .size → BlockSize z
+made-known s I f e = subst BlockSize (sym e) (f .known)
+
+-- and lies in each image of that length
+pub still-inside : {B z m : ℕ} (a : ℕ) (I J : List ℕ) → z ≡ B → m ≡ a → B * a + B ≤ length I → length J ≡ length I
+    → z * m + z ≤ length J
+still-inside a I J e f h l = linked-inside a e f (omega arith)
+
 module _ {s : SuperBlock} {I : List ℕ} (f : Fit s I) where
   -- take_block
   pub take-small : (x : ℕ) → Room (geoOf s) I 1 → dataAt (geoOf s) + x ≡ getD (clears (geoOf s) I) 0 0 → s .area .0 + x < 2 ^ 32
@@ -120,17 +129,17 @@ module _ {s : SuperBlock} {I : List ℕ} (f : Fit s I) where
   take-block x e j = j ∙ ap (λ (z : ℕ). z + x) (f .area) ∙ e
 
   -- the spot, by the struct's own numbers
-  in-data : (t : Spot) (len : ℕ) → SpotIn 512 (s .area .0) (s .blocks) len t → SpotIn 512 (dataAt (geoOf s)) (s .blocks) len t
-  in-data t len q = subst (λ (z : ℕ). SpotIn 512 z (s .blocks) len t) (f .area) q
+  in-data : (t : Spot) (len : ℕ) → SpotIn (areaIn s) len t → SpotIn (areaOf (geoOf s)) len t
+  in-data t len q = subst (λ (A : Area). SpotIn A len t) (area-is f) q
 
   -- open_place
-  pub after-inside : (t : Spot) (len : ℕ) (a : Addr) → SpotIn 512 (s .area .0) (s .blocks) len t → t ≡ After a → 512 * a .0 + 512 ≤ length I
+  pub after-inside : (t : Spot) (len : ℕ) (a : Addr) → SpotIn (areaIn s) len t → t ≡ After a → s .size * a .0 + s .size ≤ length I
   after-inside t len a q e =
-      let w : SpotIn 512 (s .area .0) (s .blocks) len (After a) = subst (SpotIn 512 (s .area .0) (s .blocks) len) e q in
-      omega (arith, w .1, placed f .inside)
+      let w : SpotIn (areaIn s) len (After a) = subst (SpotIn (areaIn s) len) e q in
+      fit-inside s I I (a .0) (a .0) f refl refl (w .1)
 
   -- insert: what the second step finds
-  module _ (t : Spot) (len : ℕ) {J : List ℕ} (q : SpotIn 512 (s .area .0) (s .blocks) len t) (r : Room (geoOf s) I (needed t)) (j : J ≡ opened (geoOf s) I t) where
+  module _ (t : Spot) (len : ℕ) {J : List ℕ} (q : SpotIn (areaIn s) len t) (r : Room (geoOf s) I (needed t)) (j : J ≡ opened (geoOf s) I t) where
     open-long : length J ≡ length I
     open-long = ap length j ∙ opened-long (geoOf s) I (f .sound) len t (in-data t len q) r
 
@@ -141,36 +150,47 @@ module _ {s : SuperBlock} {I : List ℕ} (f : Fit s I) where
     open-room = subst (λ (z : List ℕ). Room (geoOf s) z 1) (sym j) (opened-room (geoOf s) I (f .sound) len t (in-data t len q) r)
 
     module _ {p : Place} (e : p ≡ placeIn (geoOf s) I t) where
-      pub open-inside : 512 * p .block .0 + 512 ≤ length J
+      pub open-inside : s .size * p .block .0 + s .size ≤ length J
       open-inside =
           let w = place-data (geoOf s) I (f .sound) len t (in-data t len q) r in
           let k : p .block .0 ≡ placeIn (geoOf s) I t .block .0 = ap (λ (z : Place). z .block .0) e in
-          omega (arith, w .1, k, placed f .inside, open-long)
+          fit-inside s I J (p .block .0) (placeIn (geoOf s) I t .block .0) f open-long k (w .1)
 
-      pub open-fits : len ≤ 255 → p .offset + 18 + len ≤ 507
+      pub open-fits : len ≤ 255 → p .offset + 18 + len ≤ s .size - 5
       open-fits h =
           let k : p .offset ≡ placeIn (geoOf s) I t .offset = ap (λ (z : Place). z .offset) e in
-          omega (arith, k, place-room (geoOf s) I (f .sound) len t (in-data t len q) h)
+          omega (arith, k, f .size, place-room (geoOf s) I (f .sound) len t (in-data t len q) h)
 
       -- and the third
       module _ {L : List ℕ} (k : Kind) (name : Name) (time : ℕ) (n : length name ≡ len) (h : len ≤ 255) (l : L ≡ entered (geoOf s) J p k name time) where
         enter-long : length L ≡ length I
         enter-long =
-            ap length l ∙ length-entered (geoOf s) J (open-fit .sound) open-room p k name time open-inside (omega (arith, open-fits h)) ∙ open-long
+            let i : blockSize (geoOf s) * p .block .0 + blockSize (geoOf s) ≤ length J
+            = subst (λ (B : ℕ). B * p .block .0 + B ≤ length J) (f .size) open-inside in
+            ap length l
+            ∙ length-entered (geoOf s) J (open-fit .sound) open-room p k name time i (omega (arith, f .size, open-fits h))
+            ∙ open-long
 
         pub enter-fit : Fit s L
         enter-fit = fit-long enter-long f
 
-        pub enter-own : (o : Own) → OwnIn I o → OwnIn L o
+        pub enter-own : (o : Own) → OwnIn (s .size) I o → OwnIn (s .size) L o
         enter-own Root x = tt
         enter-own (At y) x = (omega (arith, x .0, enter-long), x .1)
 
 -- grow
-pub grow-image : (g : Geo) (I J L : List ℕ) (a b c last : ℕ) → J ≡ blockTaken g I → a ≡ fresh g I → c ≡ a → b ≡ last → L ≡ linked 512 J b c → L ≡ linked 512 (blockTaken g I) last (fresh g I)
-grow-image g I J L a b c last j e d f l = l ∙ (λ i. linked 512 (j i) (f i) ((d ∙ e) i))
+pub grow-image : (B : ℕ) (g : Geo) (I J L : List ℕ) (a z b c last : ℕ) → J ≡ blockTaken g I → a ≡ fresh g I → c ≡ a → z ≡ B
+    → b ≡ last → L ≡ linked z J b c → L ≡ linked B (blockTaken g I) last (fresh g I)
+grow-image B g I J L a z b c last j e d v f l = l ∙ (λ i. linked (v i) (j i) (f i) ((d ∙ e) i))
 
 -- open_place
 module _ (g : Geo) (I : List ℕ) (t : Spot) where
+  pub in-image : (p : Place) → t ≡ In p → I ≡ opened g I t
+  in-image p e = ap (opened g I) (sym e)
+
+  pub in-place : (p : Place) → t ≡ In p → p ≡ placeIn g I t
+  in-place p e = ap (placeIn g I) (sym e)
+
   pub after-room : (a : Addr) → t ≡ After a → Room g I (needed t) → Room g I 1
   after-room a e r =
       let w : Room g I 2 = subst (λ (z : Spot). Room g I (needed z)) e r in
@@ -179,30 +199,35 @@ module _ (g : Geo) (I : List ℕ) (t : Spot) where
   pub after-place : (a b : Addr) → t ≡ After a → b .0 ≡ fresh g I → _≡_ {A = Place} (record { block = b; offset = 0 }) (placeIn g I t)
   after-place a b e f = (λ i. finds.placed (f i) 0) ∙ ap (placeIn g I) (sym e)
 
-  pub never : (B D n len : ℕ) → t ≡ Damaged → SpotIn B D n len t → ⊥
-  never B D n len e q = subst (SpotIn B D n len) e q
+  pub never : (A : Area) (len : ℕ) → t ≡ Damaged → SpotIn A len t → ⊥
+  never A len e q = subst (SpotIn A len) e q
 
-pub after-image : (s : SuperBlock) (I J : List ℕ) (t : Spot) (a : Addr) → t ≡ After a → J ≡ linked 512 (blockTaken (geoOf s) I) (a .0) (fresh (geoOf s) I) → J ≡ opened (geoOf s) I t
-after-image s I J t a e j = j ∙ ap (opened (geoOf s) I) (sym e)
+pub after-image : (s : SuperBlock) (I J : List ℕ) (t : Spot) (a : Addr) → Fit s I → t ≡ After a
+    → J ≡ linked (s .size) (blockTaken (geoOf s) I) (a .0) (fresh (geoOf s) I) → J ≡ opened (geoOf s) I t
+after-image s I J t a f e j =
+    j ∙ ap (λ (B : ℕ). linked B (blockTaken (geoOf s) I) (a .0) (fresh (geoOf s) I)) (f .size) ∙ ap (opened (geoOf s) I) (sym e)
 
 -- store_entry
-pub entry-stored : (I J L : List ℕ) (at : ℕ) (p : Place) (e : DirEntry) (name : Name) → 512 * p .block .0 + 512 ≤ length I → p .offset + 18 + length name ≤ 507
-    → at ≡ placeAt 512 (p .block .0) (p .offset) → J ≡ splice I at (headBytes e) → L ≡ splice J (at + 18) (take (length name) (drop 0 name))
-    → L ≡ splice I (placeAt 512 (p .block .0) (p .offset)) (headBytes e ++ name)
-entry-stored I J L at p e name h w f j l =
-    let q : ℕ = placeAt 512 (p .block .0) (p .offset) in
+pub entry-stored : (B : ℕ) (I J L : List ℕ) (at : ℕ) (p : Place) (e : DirEntry) (name : Name) → B * p .block .0 + B ≤ length I
+    → p .offset + 18 + length name ≤ B - 5 → at ≡ placeAt B (p .block .0) (p .offset) → J ≡ splice I at (headBytes e)
+    → L ≡ splice J (at + 18) (take (length name) (drop 0 name))
+    → L ≡ splice I (placeAt B (p .block .0) (p .offset)) (headBytes e ++ name)
+entry-stored B I J L at p e name h w f j l =
+    let q : ℕ = placeAt B (p .block .0) (p .offset) in
     let k : q + 18 ≡ q + length (headBytes e) = omega (arith, length-head e) in
     l ∙ (λ i. splice J (f i + 18) (take-all (length name) name (omega arith) i))
     ∙ splice-then I J q (q + 18) (headBytes e) name (j ∙ ap (λ (z : ℕ). splice I z (headBytes e)) f) k (omega (arith, length-head e))
 
 -- enter
-pub enter-image : (s : SuperBlock) (I J L : List ℕ) (p : Place) (k : Kind) (a : Addr) (name : Name) (time : ℕ) (e : DirEntry) → J ≡ blockTaken (geoOf s) I → a .0 ≡ fresh (geoOf s) I
+pub enter-image : (s : SuperBlock) (I J L : List ℕ) (p : Place) (k : Kind) (a : Addr) (name : Name) (time : ℕ) (e : DirEntry)
+    → Fit s I → J ≡ blockTaken (geoOf s) I → a .0 ≡ fresh (geoOf s) I
     → e ≡ record { kind = k; addr = a; size = 0; time = time; len = length name }
-    → L ≡ splice J (placeAt 512 (p .block .0) (p .offset)) (headBytes e ++ name) → L ≡ entered (geoOf s) I p k name time
+    → L ≡ splice J (placeAt (s .size) (p .block .0) (p .offset)) (headBytes e ++ name) → L ≡ entered (geoOf s) I p k name time
 unfolding entered
-enter-image s I J L p k a name time e j f d l =
-    l ∙ (λ i. splice (j i) (placeAt 512 (p .block .0) (p .offset)) (headBytes (d i) ++ name))
-    ∙ (λ i. splice (blockTaken (geoOf s) I) (placeAt 512 (p .block .0) (p .offset)) (headBytes (newHead k (f i) time (length name)) ++ name))
+enter-image s I J L p k a name time e fit j f d l =
+    let at : ℕ → ℕ = λ B. placeAt B (p .block .0) (p .offset) in
+    l ∙ (λ i. splice (j i) (at (fit .size i)) (headBytes (d i) ++ name))
+    ∙ (λ i. splice (blockTaken (geoOf s) I) (at (blockSize (geoOf s))) (headBytes (newHead k (f i) time (length name)) ++ name))
 
 -- insert
 pub insert-image : (s : SuperBlock) (I J L M : List ℕ) (dir : ℕ) (t : Spot) (own : Own) (k : Kind) (name : Name) (time : ℕ) (p : Place)

@@ -5,7 +5,7 @@ use lib.Dec.{leb, eqb}
 use lib.ListN.{length}
 use Rattle.wire.specs.Be.{splice}
 use Rattle.wire.specs.Pick.{pick}
-use Rattle.block.specs.Block.{next, linked}
+use Rattle.block.specs.Block.{Area, next, linked}
 use Rattle.model.specs.Tree.{Name, Block, used}
 use Rattle.model.specs.Geometry.{Geo, blockSize, dataAt}
 use Rattle.model.specs.Calls.{hasRoom}
@@ -39,19 +39,19 @@ stopFrom B I (suc f) a o = stopOr (slotAt B I a o) (λ e. stopFrom B I f a (o + 
 abbrev pub usedAt : ℕ → List ℕ → ℕ → ℕ
 usedAt B I a = stopFrom B I B a 0
 
--- C9, R17: the first block where the entry ends at 507 or before, else behind the last; a walk out of the area, or over more than
--- n-D blocks, is damage. For a name of len bytes, from block a on, where k blocks may be read.
-unfoldable pub spotFrom : ℕ → ℕ → ℕ → List ℕ → ℕ → ℕ → ℕ → Spot
-spotFrom B D n I len zero a = Damaged
-spotFrom B D n I len (suc k) a =
-    pick (inArea B D n I a)
-    (pick (leb (usedAt B I a + header + len) (B - 5)) (In (placed a (usedAt B I a)))
-    (pick (eqb (next B I a) 0) (After (record { 0 = a })) (spotFrom B D n I len k (next B I a))))
+-- C9, R17: the first block where a byte stays free behind the entry, else behind the last; a walk out of the area, or over more
+-- than n-D blocks, is damage. For a name of len bytes, from block a on, where k blocks may be read.
+unfoldable pub spotFrom : Area → List ℕ → ℕ → ℕ → ℕ → Spot
+spotFrom A I len zero a = Damaged
+spotFrom A I len (suc k) a =
+    pick (inArea A I a)
+    (pick (leb (usedAt (A .size) I a + header + len) (A .size - 5)) (In (placed a (usedAt (A .size) I a)))
+    (pick (eqb (next (A .size) I a) 0) (After (record { 0 = a })) (spotFrom A I len k (next (A .size) I a))))
     Damaged
 
 -- The same for the directory whose first block is dir.
-abbrev pub spotFor : ℕ → ℕ → ℕ → List ℕ → ℕ → ℕ → Spot
-spotFor B D n I dir len = spotFrom B D n I len (n - D) dir
+abbrev pub spotFor : Area → List ℕ → ℕ → ℕ → Spot
+spotFor A I dir len = spotFrom A I len (A .end - A .first) dir
 
 -- The same on a directory of the tree, z being the block before: its first block with room, at the end of its entries, else after its last one.
 unfoldable pub spotOn : {X : Type 0} → ℕ → Name → ℕ → List (Block X) → Spot
@@ -65,10 +65,10 @@ needed (After a) = 2
 needed Damaged = 0
 
 -- A place in the data area with room for a name of len bytes, or a last block in the data area.
-abbrev pub SpotIn : ℕ → ℕ → ℕ → ℕ → Spot → Type 0
-SpotIn B D n len (In p) = (D ≤ p .block .0) × (p .block .0 < n) × (p .offset + header + len ≤ B - 5)
-SpotIn B D n len (After a) = (D ≤ a .0) × (a .0 < n)
-SpotIn B D n len Damaged = ⊥
+abbrev pub SpotIn : Area → ℕ → Spot → Type 0
+SpotIn A len (In p) = (A .first ≤ p .block .0) × (p .block .0 < A .end) × (p .offset + header + len ≤ A .size - 5)
+SpotIn A len (After a) = (A .first ≤ a .0) × (a .0 < A .end)
+SpotIn A len Damaged = ⊥
 
 -- ---- the stores
 

@@ -14,8 +14,8 @@ ghost use mathlib.Core.List.{_++_};
 ghost use Prim.Native.Nat.{_+_, _-_, _*_, _≤_, _<_};
 ghost use lib.ListN.{length};
 ghost use Rattle.wire.specs.Be.{splice};
-ghost use Rattle.block.specs.Block.{blockBytes, linked};
-ghost use Rattle.super_block.specs.Super.{geoOf, Fit};
+ghost use Rattle.block.specs.Block.{BlockSize, linked};
+ghost use Rattle.super_block.specs.Super.{areaIn, geoOf, Fit};
 ghost use Rattle.bitmap_block.specs.Bitmap.{fresh, Room};
 ghost use Rattle.dir_entry.specs.Entry.{header, headBytes, placeAt};
 ghost use Rattle.own_entry.specs.Own.{OwnIn};
@@ -29,13 +29,14 @@ pub enum Spot {
 }
 
 // The offset where a block's entries stop.
-fn used_bytes(img: &[u8], block: Addr) -> usize
-    requires { ⌜ blockBytes * block .0 + blockBytes ≤ length (now img) ⌝ }
-    ensures { λ r. ⌜ (r ≡ usedAt blockBytes (now (img .entry)) (block .0)) × (r ≤ blockBytes - 5) ⌝ }
+fn used_bytes(img: &[u8], size: u32, block: Addr) -> usize
+    requires { ⌜ BlockSize size ⌝ }
+    requires { ⌜ size * block .0 + size ≤ length (now img) ⌝ }
+    ensures { λ r. ⌜ (r ≡ usedAt size (now (img .entry)) (block .0)) × (r ≤ size - 5) ⌝ }
 {
     let mut at: usize = 0;
     loop {
-        match DirEntry::decode(img, LinkedBlock::new(block), at) {
+        match DirEntry::decode(img, LinkedBlock::new(size, block), at) {
             Slot::Stop => return at,
             Slot::Entry(e) => {
                 at = at + DirEntry::HEADER + (e.len as usize);
@@ -48,11 +49,12 @@ fn used_bytes(img: &[u8], block: Addr) -> usize
 pub fn spot_for(img: &[u8], s: SuperBlock, dir: Addr, len: usize) -> Spot
     requires { ⌜ Fit s (now img) ⌝ }
     requires { ⌜ len ≤ 255 ⌝ }
-    ensures { λ r. ⌜ r ≡ spotFor blockBytes (s .area .0) (s .blocks) (now (img .entry)) (dir .0) len ⌝ }
+    ensures { λ r. ⌜ r ≡ spotFor (areaIn s) (now (img .entry)) (dir .0) len ⌝ }
 {
     let d = s.area;
     let mut b = dir;
     let mut left = s.blocks - d.0;
+    let capacity = (s.size - LinkedBlock::LINK) as usize;
     while 0 < left {
         if b.0 < d.0 {
             return Spot::Damaged;
@@ -60,14 +62,14 @@ pub fn spot_for(img: &[u8], s: SuperBlock, dir: Addr, len: usize) -> Spot
         if s.blocks <= b.0 {
             return Spot::Damaged;
         }
-        let used = used_bytes(img, b);
-        if used + DirEntry::HEADER + len <= LinkedBlock::CAPACITY - 1 {
+        let used = used_bytes(img, s.size, b);
+        if used + DirEntry::HEADER + len <= capacity - 1 {
             return Spot::In(Place {
                 block: b,
                 offset: used,
             });
         }
-        let next = LinkedBlock::new(b).next_addr(img);
+        let next = LinkedBlock::new(s.size, b).next_addr(img);
         if next.0 == 0 {
             return Spot::After(b);
         }
@@ -103,11 +105,11 @@ fn take_block(img: &mut [u8], s: SuperBlock) -> Addr
 fn grow(img: &mut [u8], s: SuperBlock, last: Addr) -> Addr
     requires { ⌜ Fit s (now img) ⌝ }
     requires { ⌜ Room (geoOf s) (now img) 1 ⌝ }
-    requires { ⌜ blockBytes * last .0 + blockBytes ≤ length (now img) ⌝ }
-    ensures { λ r. ⌜ (now (img .exit) ≡ linked blockBytes (blockTaken (geoOf s) (now (img .entry))) (last .0) (fresh (geoOf s) (now (img .entry)))) × (r .0 ≡ fresh (geoOf s) (now (img .entry))) ⌝ }
+    requires { ⌜ s .size * last .0 + s .size ≤ length (now img) ⌝ }
+    ensures { λ r. ⌜ (now (img .exit) ≡ linked (s .size) (blockTaken (geoOf s) (now (img .entry))) (last .0) (fresh (geoOf s) (now (img .entry)))) × (r .0 ≡ fresh (geoOf s) (now (img .entry))) ⌝ }
 {
     let a = take_block(img, s);
-    LinkedBlock::new(last).set_next_addr(img, a);
+    LinkedBlock::new(s.size, last).set_next_addr(img, a);
     a
 }
 
@@ -115,7 +117,7 @@ fn grow(img: &mut [u8], s: SuperBlock, last: Addr) -> Addr
 fn open_place(img: &mut [u8], s: SuperBlock, spot: Spot, len: usize) -> Place
     requires { ⌜ Fit s (now img) ⌝ }
     requires { ⌜ Room (geoOf s) (now img) (needed spot) ⌝ }
-    requires { ⌜ SpotIn blockBytes (s .area .0) (s .blocks) len spot ⌝ }
+    requires { ⌜ SpotIn (areaIn s) len spot ⌝ }
     ensures { λ r. ⌜ (now (img .exit) ≡ opened (geoOf s) (now (img .entry)) spot) × (r ≡ placeIn (geoOf s) (now (img .entry)) spot) ⌝ }
 {
     match spot {
@@ -135,13 +137,14 @@ fn open_place(img: &mut [u8], s: SuperBlock, spot: Spot, len: usize) -> Place
 }
 
 // Stores an entry's fixed part and its name.
-fn store_entry(img: &mut [u8], p: Place, e: DirEntry, name: &[u8])
-    requires { ⌜ blockBytes * p .block .0 + blockBytes ≤ length (now img) ⌝ }
-    requires { ⌜ p .offset + header + length (now name) ≤ blockBytes - 5 ⌝ }
-    ensures { λ _. ⌜ now (img .exit) ≡ splice (now (img .entry)) (placeAt blockBytes (p .block .0) (p .offset)) (headBytes e ++ now (name .entry)) ⌝ }
+fn store_entry(img: &mut [u8], size: u32, p: Place, e: DirEntry, name: &[u8])
+    requires { ⌜ BlockSize size ⌝ }
+    requires { ⌜ size * p .block .0 + size ≤ length (now img) ⌝ }
+    requires { ⌜ p .offset + header + length (now name) ≤ size - 5 ⌝ }
+    ensures { λ _. ⌜ now (img .exit) ≡ splice (now (img .entry)) (placeAt size (p .block .0) (p .offset)) (headBytes e ++ now (name .entry)) ⌝ }
 {
     let b = p.block;
-    let at = dir_entry::place(b, p.offset);
+    let at = dir_entry::place(size, b, p.offset);
     e.store(img, at);
     wire::copy(img, at + DirEntry::HEADER, name, 0, name.len());
 }
@@ -150,8 +153,8 @@ fn store_entry(img: &mut [u8], p: Place, e: DirEntry, name: &[u8])
 fn enter(img: &mut [u8], s: SuperBlock, p: Place, kind: Kind, name: &[u8], time: u64) -> Addr
     requires { ⌜ Fit s (now img) ⌝ }
     requires { ⌜ Room (geoOf s) (now img) 1 ⌝ }
-    requires { ⌜ blockBytes * p .block .0 + blockBytes ≤ length (now img) ⌝ }
-    requires { ⌜ p .offset + header + length (now name) ≤ blockBytes - 5 ⌝ }
+    requires { ⌜ s .size * p .block .0 + s .size ≤ length (now img) ⌝ }
+    requires { ⌜ p .offset + header + length (now name) ≤ s .size - 5 ⌝ }
     requires { ⌜ length (now name) ≤ 255 ⌝ }
     ensures { λ r. ⌜ (now (img .exit) ≡ entered (geoOf s) (now (img .entry)) p kind (now (name .entry)) time) × (r .0 ≡ fresh (geoOf s) (now (img .entry))) ⌝ }
 {
@@ -163,7 +166,7 @@ fn enter(img: &mut [u8], s: SuperBlock, p: Place, kind: Kind, name: &[u8], time:
         time,
         len: name.len() as u8,
     };
-    store_entry(img, p, e, name);
+    store_entry(img, s.size, p, e, name);
     a
 }
 
@@ -180,9 +183,9 @@ pub fn insert(
 ) -> Addr
     requires { ⌜ Fit s (now img) ⌝ }
     requires { ⌜ Room (geoOf s) (now img) (needed spot) ⌝ }
-    requires { ⌜ SpotIn blockBytes (s .area .0) (s .blocks) (length (now name)) spot ⌝ }
+    requires { ⌜ SpotIn (areaIn s) (length (now name)) spot ⌝ }
     requires { ⌜ length (now name) ≤ 255 ⌝ }
-    requires { ⌜ OwnIn (now img) own ⌝ }
+    requires { ⌜ OwnIn (s .size) (now img) own ⌝ }
     ensures { λ r. ⌜ (now (img .exit) ≡ inserted (geoOf s) (now (img .entry)) (dir .0) spot own kind (now (name .entry)) time) × (r .0 ≡ insertedAt (geoOf s) (now (img .entry)) spot) ⌝ }
 {
     let p = open_place(img, s, spot, name.len());

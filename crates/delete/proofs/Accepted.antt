@@ -6,8 +6,9 @@ use mathlib.Core.List.{List, [], _∷_}
 use Prim.Native.Nat.{ℕ, _-_, _<_}
 use native.Mathlib.Omega.{arith}
 use Rattle.wire.proofs.Picks.{either}
+use Rattle.block.specs.Block.{Area}
 use Rattle.model.specs.Answers.{Reply, accepted, refused, when, given}
-use Rattle.model.specs.Geometry.{Geo, blockSize, dataAt}
+use Rattle.model.specs.Geometry.{areaOf, Geo, blockSize}
 use Rattle.model.proofs.Replies.{not-accepted, given-yes, given-no, then-accepted, first-refused}
 use Rattle.dir_entry.specs.declared.DirEntry.{DirEntry}
 use Rattle.dir_entry.proofs.Slots.{slot-stands}
@@ -48,18 +49,18 @@ module _ (g : Geo) (I l : List ℕ) where
   -- The directory of the path holds the entry, which has no entries, and the own entry is that directory's.
   pub record DoomedBy (d : Doomed) : Type 0 where
     pub hold : Hold
-    pub held : holdDir (blockSize g) (dataAt g) (g .n) I (dirPart l) ≡ accepted hold
+    pub held : holdDir (areaOf g) I (dirPart l) ≡ accepted hold
     pub dir : d .dir ≡ hold .dir
-    pub entry : findIn (lastName l) (walk (blockSize g) (dataAt g) (g .n) I (hold .dir)) ≡ found.At (d .entry) (d .place)
+    pub entry : findIn (lastName l) (walk (areaOf g) I (hold .dir)) ≡ found.At (d .entry) (d .place)
     pub bare : hasEntries (d .entry) ≡ false
     pub own : d .own ≡ hold .own
 
   pub doomed-by : (d : Doomed) → doomedOf g I l ≡ accepted d → DoomedBy d
   unfolding doomedOf doomedIn doomedAt
   doomed-by d k =
-      let a = then-accepted (holdDir (blockSize g) (dataAt g) (g .n) I (dirPart l)) (doomedIn g I (lastName l)) d (name-past (lastName l) _ d k) in
+      let a = then-accepted (holdDir (areaOf g) I (dirPart l)) (doomedIn g I (lastName l)) d (name-past (lastName l) _ d k) in
       let h : Hold = a .0 in
-      let b = placed-past (findIn (lastName l) (walk (blockSize g) (dataAt g) (g .n) I (h .dir))) (doomedAt h) d (a .2) in
+      let b = placed-past (findIn (lastName l) (walk (areaOf g) I (h .dir))) (doomedAt h) d (a .2) in
       let e : DirEntry = b .0 in
       let p : Place = b .1 in
       let c = given-past (hasEntries e) _ d (b .3) in
@@ -86,24 +87,24 @@ module _ (g : Geo) (I l : List ℕ) where
 -- ---- what the stores ask of it
 
 -- a directory with an entry begins in the data
-found-begins : (B D n : ℕ) (I : List ℕ) (a : ℕ) (x : List ℕ) (e : DirEntry) (p : Place) → findIn x (walk B D n I a) ≡ found.At e p → a < n
+found-begins : (A : Area) (I : List ℕ) (a : ℕ) (x : List ℕ) (e : DirEntry) (p : Place) → findIn x (walk A I a) ≡ found.At e p → a < A .end
 unfolding findIn
-found-begins B D n I a x e p f = go (either (inArea B D n I a))
+found-begins A I a x e p f = go (either (inArea A I a))
   where
-    go : (inArea B D n I a ≡ true) ⊎ (inArea B D n I a ≡ false) → a < n
-    go (inl t) = area-true B D n I a t .1
-    go (inr t) = let w : found.Damaged ≡ found.At e p = sym (ap (findIn x) (chain-out B D n I (n - D) a t)) ∙ f in let z : _≡_ {A = ℕ} 0 1 = cc in absurd (omega arith)
+    go : (inArea A I a ≡ true) ⊎ (inArea A I a ≡ false) → a < A .end
+    go (inl t) = area-true A I a t .1
+    go (inr t) = let w : found.Damaged ≡ found.At e p = sym (ap (findIn x) (chain-out A I (A .end - A .first) a t)) ∙ f in let z : _≡_ {A = ℕ} 0 1 = cc in absurd (omega arith)
 
 -- The entry stands in a block of the data and ends there, in a directory of the data.
 pub record Ready (g : Geo) (I : List ℕ) (d : Doomed) : Type 0 where
   pub begins : d .dir < g .n
-  pub lies : Lies (blockSize g) (dataAt g) (g .n) I (d .entry) (d .place)
+  pub lies : Lies (areaOf g) I (d .entry) (d .place)
 
 pub doomed-ready : (g : Geo) (I l : List ℕ) (d : Doomed) → DoomedBy g I l d → Ready g I d
 doomed-ready g I l d b =
-    let i = found-item (blockSize g) (dataAt g) (g .n) I (b .hold .dir) (lastName l) (d .entry) (d .place) (b .entry) in
+    let i = found-item (areaOf g) I (b .hold .dir) (lastName l) (d .entry) (d .place) (b .entry) in
     let t = slot-stands (blockSize g) I (d .place .block .0) (d .place .offset) (d .entry) (i .stands) in
-    let k = found-begins (blockSize g) (dataAt g) (g .n) I (b .hold .dir) (lastName l) (d .entry) (d .place) (b .entry) in
+    let k = found-begins (areaOf g) I (b .hold .dir) (lastName l) (d .entry) (d .place) (b .entry) in
     record {
       begins = omega (arith, b .dir);
       lies = record { from = i .from; below = i .below; ends = t .ends };

@@ -2,7 +2,7 @@
 use mathlib.Core.Path.{_≡_, refl, sym, ap, _∙_, subst}
 use mathlib.Core.Bool.{Bool, true, false, not, _&&_}
 use mathlib.Core.List.{List}
-use Prim.Native.Nat.{ℕ, zero, suc, _+_, _≤_, _<_}
+use Prim.Native.Nat.{ℕ, zero, suc, _+_, _-_, _≤_, _<_}
 use native.Mathlib.Omega.{arith}
 use lib.Dec.{ltb, eqb}
 use lib.ListN.{length, take}
@@ -10,11 +10,13 @@ use borrow.Author.Tests.{lt-ltb, ne-eqb}
 use Rattle.model.specs.Answers.{Reply, accepted, refused, andThen}
 use Rattle.limits.specs.Refusals.{refusalNumber}
 use Rattle.limits.specs.declared.Refusal.{Refusal}
-use Rattle.model.specs.Geometry.{dataAt}
+use Rattle.model.specs.Geometry.{areaOf}
 use Rattle.model.proofs.Replies.{given-yes, given-no, and-then-ok, and-then-no}
 use Rattle.block.specs.declared.Addr.{Addr}
+use Rattle.block.specs.Block.{Area}
 use Rattle.super_block.specs.declared.SuperBlock.{SuperBlock}
-use Rattle.super_block.specs.Super.{geoOf, Fit}
+use Rattle.super_block.specs.Super.{areaIn, geoOf, Fit}
+use Rattle.super_block.proofs.Fits.{area-is}
 use Rattle.dir_entry.specs.declared.Kind.the-variants.{Dir, File, Device}
 use Rattle.dir_entry.specs.declared.DirEntry.{DirEntry}
 use Rattle.dir_entry.specs.Entry.{header, isDir}
@@ -75,11 +77,11 @@ module _ (h : Holding) (e : DirEntry) (p : Place) (t : Bool) (q : t ≡ hasEntri
 
 -- ---- by its name
 
-module _ (s : SuperBlock) (I x : List ℕ) (h : Holding) (f : Fit s I) (w : Found) (q : w ≡ findIn x (walk 512 (s .area .0) (s .blocks) I (h .dir .0))) where
+module _ (s : SuperBlock) (I x : List ℕ) (h : Holding) (f : Fit s I) (w : Found) (q : w ≡ findIn x (walk (areaIn s) I (h .dir .0))) where
   named-is : onPlaced w (doomedAt (holdOf h)) ≡ doomedIn (geoOf s) I x (holdOf h)
   unfolding doomedIn
   named-is =
-      ap (λ (y : Found). onPlaced y (doomedAt (holdOf h))) (q ∙ ap (λ (d : ℕ). findIn x (walk 512 d (s .blocks) I (h .dir .0))) (f .area))
+      ap (λ (y : Found). onPlaced y (doomedAt (holdOf h))) (q ∙ ap (λ (A : Area). findIn x (walk A I (h .dir .0))) (area-is f))
 
   pub in-at : (e : DirEntry) (p : Place) (r : Reply Doomed) → w ≡ found.At e p → r ≡ doomedAt (holdOf h) e p → r ≡ doomedIn (geoOf s) I x (holdOf h)
   in-at e p r k z = z ∙ sym (ap (λ (y : Found). onPlaced y (doomedAt (holdOf h))) k) ∙ named-is
@@ -97,12 +99,12 @@ module _ (s : SuperBlock) (I full : List ℕ) (len : ℕ) (f : Fit s I) (ps : Pa
   unfolding doomedOf
   mark-empty e = name-empty (lastName (take len full)) _ (omega (arith, name-long full len ps inside p))
 
-  module _ (w : Holds) (some : ps .from ≡ ps .to → ⊥) (q : holdsSays w ≡ holdDir 512 (s .area .0) (s .blocks) I (take (ps .dir) full)) where
+  module _ (w : Holds) (some : ps .from ≡ ps .to → ⊥) (q : holdsSays w ≡ holdDir (areaIn s) I (take (ps .dir) full)) where
     held-is : andThen (holdsSays w) (doomedIn (geoOf s) I (lastName (take len full))) ≡ doomedOf (geoOf s) I (take len full)
     unfolding doomedOf
     held-is =
         ap (λ (r : Reply Hold). andThen r (doomedIn (geoOf s) I (lastName (take len full))))
-        (q ∙ ap (λ (d : ℕ). holdDir 512 d (s .blocks) I (take (ps .dir) full)) (f .area) ∙ ap (holdDir 512 (dataAt (geoOf s)) (s .blocks) I) (p .dir))
+        (q ∙ ap (λ (A : Area). holdDir A I (take (ps .dir) full)) (area-is f) ∙ ap (holdDir (areaOf (geoOf s)) I) (p .dir))
         ∙ sym (name-some (lastName (take len full)) _ (λ z. some (omega (arith, name-long full len ps inside p, p .from-in))))
 
     pub mark-held : (h : Holding) (r : Reply Doomed) → w ≡ holds.At h → r ≡ doomedIn (geoOf s) I (between full (ps .from) (ps .to)) (holdOf h)
@@ -135,13 +137,13 @@ module _ (s : SuperBlock) (I l : List ℕ) (f : Fit s I) (m : Dooms) (q : doomsS
     pub lies-below : p .block .0 < s .blocks
     lies-below = ready .lies .below
 
-    pub lies-ends : p .offset + header + e .len ≤ 507
-    lies-ends = ready .lies .ends
+    pub lies-ends : p .offset + header + e .len ≤ s .size - 5
+    lies-ends = rw (f .size) (ready .lies .ends)
 
-    pub own-inside : OwnIn I o
+    pub own-inside : OwnIn (s .size) I o
     own-inside =
         let b = doomed-by (geoOf s) I l _ accepts in
-        subst (OwnIn I) (sym (b .own)) (hold-inside s I f _ (b .hold) (hold-numbers s I f _ ∙ b .held))
+        subst (OwnIn (s .size) I) (sym (b .own)) (hold-inside s I f _ (b .hold) (hold-numbers s I f _ ∙ b .held))
 
     pub deleted-done : accepted tt ≡ deletedOn (geoOf s) I l
     unfolding deletedOn

@@ -13,7 +13,7 @@ use Rattle.wire.proofs.Picks.{either, not-both}
 use Rattle.model.specs.Answers.{Reply, accepted, refused, andThen, when, given}
 use Rattle.model.specs.Tree.{Name, Node, file, device, sub, Entry, Block, Below, Tree, Absent, lookup, sum, Some, find, NoEntries, Bare}
 use Rattle.model.specs.Render.{blocksAt, sizeOf, view}
-use Rattle.model.specs.Geometry.{Geo, blockSize, dataAt}
+use Rattle.model.specs.Geometry.{areaOf, Geo, blockSize}
 use Rattle.model.specs.Volume.{GoodBelow, Volume}
 use Rattle.model.specs.Calls.{Occupied, TreeDeletes}
 use Rattle.model.proofs.Full.{good-lookup, good-find}
@@ -99,7 +99,7 @@ module _ (g : Geo) (I : List ℕ) (d : ℕ) (t : Tree d) (l : List ℕ) (v : Vol
       let q : HeldAt (blockSize g) d way t h = hold-is g I d t _ way (v .laid) h (b .held) in
       let s : Some = q .there in
       let e = found-is g I d t _ way s (v .laid) (q .found) (lastName l) (x .entry) (x .place)
-      (ap (λ (a : ℕ). findIn (lastName l) (walk (blockSize g) (dataAt g) (g .n) I a)) (q .starts) ∙ b .entry) in
+      (ap (λ (a : ℕ). findIn (lastName l) (walk (areaOf g) I a)) (q .starts) ∙ b .entry) in
       subst (TreeDeletes g d way (lastName l) now t I) (sym (ap (imageAt g I now) k))
       (removed-is g I d t way (lastName l) s (e .0) (x .entry) (x .place) (x .dir) now (x .own) v (q .found) (q .starts ∙ sym (b .dir))
       (subst (OwnOf (blockSize g) d way t) (sym (b .own)) (q .own)) (e .1)
@@ -113,10 +113,10 @@ module _ (g : Geo) (I : List ℕ) (d : ℕ) (t : Tree d) (l : List ℕ) (v : Vol
   names = steps (dirPart l)
 
   abbrev found-from : ℕ → Found
-  found-from a = findIn (lastName l) (walk (blockSize g) (dataAt g) (g .n) I a)
+  found-from a = findIn (lastName l) (walk (areaOf g) I a)
 
   abbrev holding : Reply Hold
-  holding = holdDir (blockSize g) (dataAt g) (g .n) I (dirPart l)
+  holding = holdDir (areaOf g) I (dirPart l)
 
   -- what is found at the path
   abbrev There : Type 0

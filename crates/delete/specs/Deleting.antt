@@ -5,7 +5,7 @@ use mathlib.Core.List.{List}
 use Prim.Native.Nat.{ℕ}
 use lib.Dec.{eqb}
 use Rattle.model.specs.Answers.{Reply, accepted, refused, andThen, when, given}
-use Rattle.model.specs.Geometry.{Geo, blockSize, dataAt}
+use Rattle.model.specs.Geometry.{areaOf, Geo}
 use Rattle.dir_entry.specs.declared.DirEntry.{DirEntry}
 use Rattle.dir_entry.specs.Entry.{isDir}
 use Rattle.read_dir.specs.declared.Place.{Place}
@@ -35,11 +35,11 @@ doomedAt h e p = given (when 14 (hasEntries e)) (accepted (record { dir = h .dir
 module _ (g : Geo) (I : List ℕ) where
   -- In the directory h, by the name x: 5, then these.
   unfoldable pub doomedIn : List ℕ → Hold → Reply Doomed
-  doomedIn x h = onPlaced (findIn x (walk (blockSize g) (dataAt g) (g .n) I (h .dir))) (doomedAt h)
+  doomedIn x h = onPlaced (findIn x (walk (areaOf g) I (h .dir))) (doomedAt h)
 
   -- R5, R6: at the full path l: 5 for an empty last name, before any walk; 5 or 6 on the way; then these.
   unfoldable pub doomedOf : List ℕ → Reply Doomed
-  doomedOf l = onName (lastName l) (andThen (holdDir (blockSize g) (dataAt g) (g .n) I (dirPart l)) (doomedIn (lastName l)))
+  doomedOf l = onName (lastName l) (andThen (holdDir (areaOf g) I (dirPart l)) (doomedIn (lastName l)))
 
   -- plain success, or the refusal
   unfoldable pub deletedOn : List ℕ → Reply (Unit {0})

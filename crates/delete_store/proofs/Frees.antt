@@ -13,7 +13,7 @@ use Rattle.bits.proofs.Bits.{bit-lt}
 use Rattle.block.specs.Block.{cell, next, Kept}
 use Rattle.block.proofs.Blocks.{kept-refl, kept-trans}
 use Rattle.model.specs.Render.{Piece, ats, count, Shows, ShowsAll}
-use Rattle.model.specs.Geometry.{Geo, blockSize, mapAt, dataAt, mapBits, superBytes, usedCount, Sound}
+use Rattle.model.specs.Geometry.{areaOf, Geo, blockSize, mapAt, dataAt, mapBits, superBytes, usedCount, Sound}
 use Rattle.model.specs.Volume.{All}
 use Rattle.model.proofs.Areas.{area, few}
 use Rattle.model.proofs.Counts.{count-same, count-other, count-none, count-cons}
@@ -167,6 +167,6 @@ module _ (g : Geo) where
       let z : next B I (x .at) ≡ firstAt xs
       = next-shown B I (x .at) (firstAt xs) (c .0 .0) (first-small (length I) s xs w′) (subst (Shows I (B * x .at)) (c .0 .1) (v .0)) in
       let v′ : ShowsAll B J xs = shows-frame B I J xs (o .1) (λ b q. released-block g I s (x .at) i b (w′ b q .0)) (v .1) in
-      pick-true _ _ (in-area B (dataAt g) (g .n) I (x .at) i)
+      pick-true _ _ (in-area (areaOf g) I (x .at) i)
       ∙ ap (chainFreed g J k) z
       ∙ chain-released xs k J (released-sound g I s (x .at) i) (c .1) (o .1) v′ w′ (omega arith)

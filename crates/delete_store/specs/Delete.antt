@@ -6,7 +6,7 @@ use lib.ListN.{take, drop}
 use Rattle.wire.specs.Be.{splice, zeros}
 use Rattle.wire.specs.Pick.{pick, zeroFrom}
 use Rattle.block.specs.Block.{next, linked}
-use Rattle.model.specs.Geometry.{Geo, blockSize, dataAt, usedCount}
+use Rattle.model.specs.Geometry.{areaOf, Geo, blockSize, dataAt, usedCount}
 use Rattle.bitmap_block.specs.Bitmap.{freed}
 use Rattle.dir_entry.specs.declared.DirEntry.{DirEntry}
 use Rattle.dir_entry.specs.Entry.{header, placeAt}
@@ -35,7 +35,7 @@ released g I a = pick (eqb (usedCount g I) 0) I (freed g I (a - dataAt g))
 -- C11: the entry's chain: the blocks from a on, at most k of them, each looked at before it is read.
 unfoldable pub chainFreed : Geo → List ℕ → ℕ → ℕ → List ℕ
 chainFreed g I zero a = I
-chainFreed g I (suc k) a = pick (inArea (blockSize g) (dataAt g) (g .n) I a) (chainFreed g (released g I a) k (next (blockSize g) I a)) I
+chainFreed g I (suc k) a = pick (inArea (areaOf g) I a) (chainFreed g (released g I a) k (next (blockSize g) I a)) I
 
 -- ---- a block that is emptied
 

@@ -9,21 +9,23 @@ use super_block::SuperBlock;
 ghost use mathlib.Core.Path.{_≡_};
 ghost use Prim.Native.Nat.{_+_, _-_, _*_, _≤_, _<_};
 ghost use lib.ListN.{length};
-ghost use Rattle.block.specs.Block.{blockBytes};
+ghost use Rattle.block.specs.Block.{BlockSize};
 ghost use Rattle.super_block.specs.Super.{geoOf, Fit};
 ghost use Rattle.dir_entry.specs.Entry.{header};
 ghost use Rattle.own_entry.specs.Own.{OwnIn};
 ghost use Rattle.delete_store.specs.Delete.{cutOut, released, chainFreed, beforeFrom, unlinked, lessBare, entryGone, removed};
 
 // The w bytes at a place go: those after them in the block move down, and the block's end is zeroed.
-fn cut_out(img: &mut [u8], p: Place, w: usize)
-    requires { ⌜ blockBytes * p .block .0 + blockBytes ≤ length (now img) ⌝ }
-    requires { ⌜ p .offset + w ≤ blockBytes - 5 ⌝ }
-    ensures { λ _. ⌜ now (img .exit) ≡ cutOut blockBytes (now (img .entry)) (p .block .0) (p .offset) w ⌝ }
+fn cut_out(img: &mut [u8], size: u32, p: Place, w: usize)
+    requires { ⌜ BlockSize size ⌝ }
+    requires { ⌜ size * p .block .0 + size ≤ length (now img) ⌝ }
+    requires { ⌜ p .offset + w ≤ size - 5 ⌝ }
+    ensures { λ _. ⌜ now (img .exit) ≡ cutOut size (now (img .entry)) (p .block .0) (p .offset) w ⌝ }
 {
     let b = p.block;
-    let at = dir_entry::place(b, p.offset);
-    let after = LinkedBlock::CAPACITY - (p.offset + w);
+    let at = dir_entry::place(size, b, p.offset);
+    let capacity = (size - LinkedBlock::LINK) as usize;
+    let after = capacity - (p.offset + w);
     wire::move_down(img, at, w, after);
     wire::fill(img, at + after, w, 0);
 }
@@ -58,7 +60,7 @@ pub fn free_chain(img: &mut [u8], s: SuperBlock, a: Addr)
         if s.blocks <= b.0 {
             return;
         }
-        let next = LinkedBlock::new(b).next_addr(img);
+        let next = LinkedBlock::new(s.size, b).next_addr(img);
         release(img, s, b);
         b = next;
         left -= 1;
@@ -69,13 +71,13 @@ pub fn free_chain(img: &mut [u8], s: SuperBlock, a: Addr)
 fn before(img: &[u8], s: SuperBlock, dir: Addr, b: Addr) -> Addr
     requires { ⌜ Fit s (now img) ⌝ }
     requires { ⌜ dir .0 < s .blocks ⌝ }
-    ensures { λ r. ⌜ (r .0 ≡ beforeFrom blockBytes (s .blocks) (now (img .entry)) (s .blocks - s .area .0) (dir .0) (b .0)) × (r .0 < s .blocks) ⌝ }
+    ensures { λ r. ⌜ (r .0 ≡ beforeFrom (s .size) (s .blocks) (now (img .entry)) (s .blocks - s .area .0) (dir .0) (b .0)) × (r .0 < s .blocks) ⌝ }
 {
     let d = s.area;
     let mut a = dir;
     let mut left = s.blocks - d.0;
     while 0 < left {
-        let next = LinkedBlock::new(a).next_addr(img);
+        let next = LinkedBlock::new(s.size, a).next_addr(img);
         if next.0 == b.0 {
             return a;
         }
@@ -96,9 +98,9 @@ fn unlink(img: &mut [u8], s: SuperBlock, dir: Addr, b: Addr)
     requires { ⌜ b .0 < s .blocks ⌝ }
     ensures { λ _. ⌜ now (img .exit) ≡ unlinked (geoOf s) (now (img .entry)) (dir .0) (b .0) ⌝ }
 {
-    let to = LinkedBlock::new(b).next_addr(img);
+    let to = LinkedBlock::new(s.size, b).next_addr(img);
     let last = before(img, s, dir, b);
-    LinkedBlock::new(last).set_next_addr(img, to);
+    LinkedBlock::new(s.size, last).set_next_addr(img, to);
     release(img, s, b);
 }
 
@@ -113,8 +115,8 @@ fn drop_bare(img: &mut [u8], s: SuperBlock, dir: Addr, b: Addr)
     if b.0 == dir.0 {
         return;
     }
-    let at = dir_entry::place(b, 0);
-    if wire::zero_bytes(img, at, LinkedBlock::CAPACITY) {
+    let at = dir_entry::place(s.size, b, 0);
+    if wire::zero_bytes(img, at, (s.size - LinkedBlock::LINK) as usize) {
         unlink(img, s, dir, b);
     }
 }
@@ -125,11 +127,11 @@ fn take_out(img: &mut [u8], s: SuperBlock, dir: Addr, e: DirEntry, p: Place)
     requires { ⌜ dir .0 < s .blocks ⌝ }
     requires { ⌜ s .area .0 ≤ p .block .0 ⌝ }
     requires { ⌜ p .block .0 < s .blocks ⌝ }
-    requires { ⌜ p .offset + header + e .len ≤ blockBytes - 5 ⌝ }
+    requires { ⌜ p .offset + header + e .len ≤ s .size - 5 ⌝ }
     ensures { λ _. ⌜ now (img .exit) ≡ entryGone (geoOf s) (now (img .entry)) (dir .0) e p ⌝ }
 {
     let b = p.block;
-    cut_out(img, p, DirEntry::HEADER + (e.len as usize));
+    cut_out(img, s.size, p, DirEntry::HEADER + (e.len as usize));
     drop_bare(img, s, dir, b);
 }
 
@@ -140,8 +142,8 @@ pub fn remove(img: &mut [u8], s: SuperBlock, dir: Addr, e: DirEntry, p: Place, o
     requires { ⌜ dir .0 < s .blocks ⌝ }
     requires { ⌜ s .area .0 ≤ p .block .0 ⌝ }
     requires { ⌜ p .block .0 < s .blocks ⌝ }
-    requires { ⌜ p .offset + header + e .len ≤ blockBytes - 5 ⌝ }
-    requires { ⌜ OwnIn (now img) own ⌝ }
+    requires { ⌜ p .offset + header + e .len ≤ s .size - 5 ⌝ }
+    requires { ⌜ OwnIn (s .size) (now img) own ⌝ }
     ensures { λ _. ⌜ now (img .exit) ≡ removed (geoOf s) (now (img .entry)) (dir .0) e p own time ⌝ }
 {
     let a = e.addr;

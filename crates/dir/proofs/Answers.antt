@@ -15,6 +15,7 @@ use Rattle.model.specs.Steps.{Bytes}
 use Rattle.limits.specs.declared.Refusal.{Refusal}
 use Rattle.model.proofs.Replies.{and-then-ok, and-then-no, refused-one}
 use Rattle.block.specs.declared.Addr.{Addr}
+use Rattle.block.specs.Block.{Area}
 use Rattle.dir_entry.specs.declared.DirEntry.{DirEntry}
 use Rattle.dir_entry.specs.declared.Slot.the-variants.{Entry}
 use Rattle.dir_entry.specs.Entry.{isDir, placeAt, entryAt, slotAt}
@@ -62,26 +63,26 @@ find-at a x w f e p q g = found-at x w f (λ y. accepted (held a y)) q e p g
 
 -- ---- the entry at a path
 
-module _ (D n : ℕ) (I : List ℕ) (full : List ℕ) (len : ℕ) (ps : Parts) (inside : len ≤ length full) (p : PartsIs full len ps) where
-  pub entry-empty : ps .from ≡ ps .to → refused 5 ≡ entryOf 512 D n I (take len full)
+module _ (A : Area) (I : List ℕ) (full : List ℕ) (len : ℕ) (ps : Parts) (inside : len ≤ length full) (p : PartsIs full len ps) where
+  pub entry-empty : ps .from ≡ ps .to → refused 5 ≡ entryOf A I (take len full)
   unfolding entryOf
   entry-empty e = name-empty (lastName (take len full)) _ (omega (arith, name-long full len ps inside p))
 
-  module _ (o : Opened) (some : ps .from ≡ ps .to → ⊥) (q : openedSays o ≡ openDir 512 D n I (take (ps .dir) full)) where
-    opens : andThen (openedSays o) (λ a. lookupIn 512 D n I a (lastName (take len full)) (λ e. accepted (held a e))) ≡ entryOf 512 D n I (take len full)
+  module _ (o : Opened) (some : ps .from ≡ ps .to → ⊥) (q : openedSays o ≡ openDir A I (take (ps .dir) full)) where
+    opens : andThen (openedSays o) (λ a. lookupIn A I a (lastName (take len full)) (λ e. accepted (held a e))) ≡ entryOf A I (take len full)
     unfolding entryOf
     opens =
-        ap (λ (y : Reply ℕ). andThen y (λ a. lookupIn 512 D n I a (lastName (take len full)) (λ e. accepted (held a e)))) (q ∙ ap (openDir 512 D n I) (p .dir))
+        ap (λ (y : Reply ℕ). andThen y (λ a. lookupIn A I a (lastName (take len full)) (λ e. accepted (held a e)))) (q ∙ ap (openDir A I) (p .dir))
         ∙ sym (name-some (lastName (take len full)) _ (λ z. some (omega (arith, name-long full len ps inside p, p .from-in))))
 
     pub entry-in : (a : Addr) (r : Reply Held) → o ≡ opened.At a
-        → r ≡ lookupIn 512 D n I (a .0) (between full (ps .from) (ps .to)) (λ e. accepted (held (a .0) e)) → r ≡ entryOf 512 D n I (take len full)
+        → r ≡ lookupIn A I (a .0) (between full (ps .from) (ps .to)) (λ e. accepted (held (a .0) e)) → r ≡ entryOf A I (take len full)
     entry-in a r g h =
-        h ∙ ap (λ (x : List ℕ). lookupIn 512 D n I (a .0) x (λ e. accepted (held (a .0) e))) (p .name)
-        ∙ sym (and-then-ok (a .0) (λ b. lookupIn 512 D n I b (lastName (take len full)) (λ e. accepted (held b e))) (ap openedSays g))
+        h ∙ ap (λ (x : List ℕ). lookupIn A I (a .0) x (λ e. accepted (held (a .0) e))) (p .name)
+        ∙ sym (and-then-ok (a .0) (λ b. lookupIn A I b (lastName (take len full)) (λ e. accepted (held b e))) (ap openedSays g))
         ∙ opens
 
-    pub entry-unopened : (k : Refusal) → o ≡ opened.Refused k → refused (refusalNumber k) ≡ entryOf 512 D n I (take len full)
+    pub entry-unopened : (k : Refusal) → o ≡ opened.Refused k → refused (refusalNumber k) ≡ entryOf A I (take len full)
     entry-unopened k g = sym (and-then-no (refusalNumber k) _ (ap openedSays g)) ∙ opens
 
 -- ---- a found name is short: its length is a byte
@@ -101,42 +102,42 @@ in-short x (item d a o y w) e p s q = go (either (same y x)) (in-short x w e p (
 in-short x finished e p s q = let z : _≡_ {A = ℕ} 0 1 = cc in absurd (omega arith)
 in-short x damaged e p s q = let z : _≡_ {A = ℕ} 0 1 = cc in absurd (omega arith)
 
-module _ (B D n : ℕ) (I : List ℕ) (bytes : Bytes I) where
-  len-byte : (a o : ℕ) (e : DirEntry) → slotAt B I a o ≡ Entry e → e .len ≤ 255
+module _ (A : Area) (I : List ℕ) (bytes : Bytes I) where
+  len-byte : (a o : ℕ) (e : DirEntry) → slotAt (A .size) I a o ≡ Entry e → e .len ≤ 255
   unfolding entryAt
-  len-byte a o e p = omega (arith, ap (λ (d : DirEntry). d .len) (slot-stands B I a o e p .is), bytes (placeAt B a o + 17))
+  len-byte a o e p = omega (arith, ap (λ (d : DirEntry). d .len) (slot-stands (A .size) I a o e p .is), bytes (placeAt (A .size) a o + 17))
 
-  entries-short : (a : ℕ) (w : Walk) → ShortNames w → ShortNames (entriesFrom B D n I B a 0 w)
+  entries-short : (a : ℕ) (w : Walk) → ShortNames w → ShortNames (entriesFrom A I (A .size) a 0 w)
   unfolding ShortNames shown
   entries-short a w s =
-      entries-ind B D n I a w (λ o v. ShortNames v) (λ o. s)
-      (λ o e v p h. pick-case ShortNames (eqb (e .addr .0) 0) _ _ (λ _. h) (λ _. (rw length-take (omega (arith, len-byte a o e p)), h))) B 0
+      entries-ind A I a w (λ o v. ShortNames v) (λ o. s)
+      (λ o e v p h. pick-case ShortNames (eqb (e .addr .0) 0) _ _ (λ _. h) (λ _. (rw length-take (omega (arith, len-byte a o e p)), h))) (A .size) 0
 
-  walk-short : (a : ℕ) → ShortNames (walk B D n I a)
+  walk-short : (a : ℕ) → ShortNames (walk A I a)
   unfolding ShortNames
   walk-short a =
-      chain-ind B D n I (λ k a w. ShortNames w) (λ k a. tt) (λ k a _ _ _. entries-short a finished tt) (λ k a w _ _ _ s. entries-short a w s) (n - D) a
+      chain-ind A I (λ k a w. ShortNames w) (λ k a. tt) (λ k a _ _ _. entries-short a finished tt) (λ k a w _ _ _ s. entries-short a w s) (A .end - A .first) a
 
-  found-short : (x : List ℕ) (a : ℕ) (e : DirEntry) (p : Place) → findIn x (walk B D n I a) ≡ found.At e p → length x ≤ 255
-  found-short x a e p q = in-short x (walk B D n I a) e p (walk-short a) q
+  found-short : (x : List ℕ) (a : ℕ) (e : DirEntry) (p : Place) → findIn x (walk A I a) ≡ found.At e p → length x ≤ 255
+  found-short x a e p q = in-short x (walk A I a) e p (walk-short a) q
 
-  lookup-short : (x : List ℕ) (a : ℕ) (h : Held) → lookupIn B D n I a x (λ e. accepted (held a e)) ≡ accepted h → length x ≤ 255
-  lookup-short x a h q = go (findIn x (walk B D n I a)) refl q
+  lookup-short : (x : List ℕ) (a : ℕ) (h : Held) → lookupIn A I a x (λ e. accepted (held a e)) ≡ accepted h → length x ≤ 255
+  lookup-short x a h q = go (findIn x (walk A I a)) refl q
     where
-      go : (f : Found) → findIn x (walk B D n I a) ≡ f → onFound f (λ e. accepted (held a e)) ≡ accepted h → length x ≤ 255
+      go : (f : Found) → findIn x (walk A I a) ≡ f → onFound f (λ e. accepted (held a e)) ≡ accepted h → length x ≤ 255
       go (found.At e p) g z = found-short x a e p g
       go found.Missing g z = let y : _≡_ {A = ℕ} 0 1 = cc in absurd (omega arith)
       go found.Damaged g z = let y : _≡_ {A = ℕ} 0 1 = cc in absurd (omega arith)
 
-  name-short : (x : List ℕ) (r : Reply ℕ) (h : Held) → onName x (andThen r (λ a. lookupIn B D n I a x (λ e. accepted (held a e)))) ≡ accepted h → length x ≤ 255
+  name-short : (x : List ℕ) (r : Reply ℕ) (h : Held) → onName x (andThen r (λ a. lookupIn A I a x (λ e. accepted (held a e)))) ≡ accepted h → length x ≤ 255
   unfolding andThen
   name-short [] r h q = omega arith
   name-short (c ∷ x) (accepted a) h q = lookup-short (c ∷ x) a h q
   name-short (c ∷ x) (refused k) h q = let z : _≡_ {A = ℕ} 0 1 = cc in absurd (omega arith)
 
-  pub entry-short : (l : List ℕ) (h : Held) → entryOf B D n I l ≡ accepted h → length (lastName l) ≤ 255
+  pub entry-short : (l : List ℕ) (h : Held) → entryOf A I l ≡ accepted h → length (lastName l) ≤ 255
   unfolding entryOf
-  entry-short l h q = name-short (lastName l) (openDir B D n I (dirPart l)) h q
+  entry-short l h q = name-short (lastName l) (openDir A I (dirPart l)) h q
 
 -- ---- the refusals on the way
 
@@ -169,17 +170,17 @@ module _ {A : Type 0} where
   name-refuses [] r h = not-found
   name-refuses (c ∷ x) r h = h
 
-module _ (B D n : ℕ) (I : List ℕ) where
-  resolve-refuses : (xs : List (List ℕ)) (a : ℕ) → Refuses (resolve B D n I xs a)
+module _ (A : Area) (I : List ℕ) where
+  resolve-refuses : (xs : List (List ℕ)) (a : ℕ) → Refuses (resolve A I xs a)
   unfolding resolve
   resolve-refuses [] a = some-accepted a
   resolve-refuses (x ∷ xs) a =
       name-refuses x _
-      (found-refuses (findIn x (walk B D n I a)) _
+      (found-refuses (findIn x (walk A I a)) _
       (λ e. pick-case Refuses (isDir (e .kind)) _ _ (λ _. resolve-refuses xs (e .addr .0)) (λ _. not-dir)))
 
-  open-refused : (d : List ℕ) (k : ℕ) → openDir B D n I d ≡ refused k → OnTheWay k
-  open-refused d = resolve-refuses (steps d) D
+  open-refused : (d : List ℕ) (k : ℕ) → openDir A I d ≡ refused k → OnTheWay k
+  open-refused d = resolve-refuses (steps d) (A .first)
 
   then-refuses : (r : Reply ℕ) (g : ℕ → Reply Held) → Refuses r → ((a : ℕ) → Refuses (g a)) → Refuses (andThen r g)
   unfolding andThen

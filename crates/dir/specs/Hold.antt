@@ -1,8 +1,9 @@
 -- The directory that a changing call changes, and its own entry, which the way to it leads over. Definitions alone.
--- B is the block size, D the data area's first address and n the volume's blocks.
+-- A is the data area: the size of its blocks, its first address and the volume's end.
 use mathlib.Core.List.{List, [], _∷_}
 use Prim.Native.Nat.{ℕ, _+_}
 use Rattle.wire.specs.Pick.{pick}
+use Rattle.block.specs.Block.{Area}
 use Rattle.model.specs.Answers.{Reply, accepted, refused, andThen}
 use Rattle.dir_entry.specs.declared.DirEntry.{DirEntry}
 use Rattle.dir_entry.specs.Entry.{isDir}
@@ -35,10 +36,10 @@ onPlaced Damaged f = refused 17
 abbrev pub holdAt : ℕ → DirEntry → Place → Reply Hold
 holdAt k e p = pick (isDir (e .kind)) (accepted (record { dir = e .addr .0; own = own.At p; depth = k + 1 })) (refused 6)
 
-module _ (B D n : ℕ) (I : List ℕ) where
+module _ (A : Area) (I : List ℕ) where
   -- The directory of the name x in the directory h.
   abbrev pub entered : Hold → List ℕ → Reply Hold
-  entered h x = onName x (onPlaced (findIn x (walk B D n I (h .dir))) (holdAt (h .depth)))
+  entered h x = onName x (onPlaced (findIn x (walk A I (h .dir))) (holdAt (h .depth)))
 
   -- The way along these names from the directory h on, as `resolve` goes it.
   unfoldable pub holdFrom : List (List ℕ) → Hold → Reply Hold
@@ -47,4 +48,4 @@ module _ (B D n : ℕ) (I : List ℕ) where
 
   -- P4: the directory that a path's directory part leads to, which holds the last name
   abbrev pub holdDir : List ℕ → Reply Hold
-  holdDir d = holdFrom (steps d) (rootHold D)
+  holdDir d = holdFrom (steps d) (rootHold (A .first))

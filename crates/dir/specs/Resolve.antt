@@ -1,8 +1,9 @@
 -- The way along a path on any image: directory after directory, then the last name. Definitions alone.
--- B is the block size, D the data area's first address and n the volume's blocks.
+-- A is the data area: the size of its blocks, its first address and the volume's end.
 use mathlib.Core.List.{List, [], _∷_}
 use Prim.Native.Nat.{ℕ}
 use Rattle.wire.specs.Pick.{pick}
+use Rattle.block.specs.Block.{Area}
 use Rattle.model.specs.Answers.{Reply, accepted, refused, andThen}
 use Rattle.dir_entry.specs.declared.DirEntry.{DirEntry}
 use Rattle.dir_entry.specs.Entry.{isDir}
@@ -31,10 +32,10 @@ pub record Held : Type 0 where
 abbrev pub held : ℕ → DirEntry → Held
 held a e = record { dir = a; entry = e }
 
-module _ (B D n : ℕ) (I : List ℕ) where
+module _ (A : Area) (I : List ℕ) where
   -- The entry of that name in the directory whose first block is a.
-  abbrev pub lookupIn : {A : Type 0} → ℕ → List ℕ → (DirEntry → Reply A) → Reply A
-  lookupIn a x f = onFound (findIn x (walk B D n I a)) f
+  abbrev pub lookupIn : {X : Type 0} → ℕ → List ℕ → (DirEntry → Reply X) → Reply X
+  lookupIn a x f = onFound (findIn x (walk A I a)) f
 
   -- P4, R6: the first address of the directory that these names lead to from the one at a.
   unfoldable pub resolve : List (List ℕ) → ℕ → Reply ℕ
@@ -43,7 +44,7 @@ module _ (B D n : ℕ) (I : List ℕ) where
 
   -- P4: the directory of a directory part, from the root on, which begins at D.
   abbrev pub openDir : List ℕ → Reply ℕ
-  openDir d = resolve (steps d) D
+  openDir d = resolve (steps d) (A .first)
 
   -- P3, R5: the entry at the full path l; an empty last name is refused before any walk.
   unfoldable pub entryOf : List ℕ → Reply Held

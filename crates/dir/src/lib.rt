@@ -12,8 +12,7 @@ ghost use mathlib.Core.Path.{_≡_};
 ghost use Prim.Native.Nat.{_≤_};
 ghost use lib.ListN.{length, take, drop};
 ghost use Rattle.model.specs.Answers.{accepted};
-ghost use Rattle.block.specs.Block.{blockBytes};
-ghost use Rattle.super_block.specs.Super.{Fit};
+ghost use Rattle.super_block.specs.Super.{areaIn, Fit};
 ghost use Rattle.path.specs.Path.{pathLimit, split};
 ghost use Rattle.dir.specs.Resolve.{lookupIn, openDir, entryOf, held};
 ghost use Rattle.dir.specs.Hold.{rootHold, holdAt, entered, holdFrom, holdDir};
@@ -69,7 +68,7 @@ fn directory(e: DirEntry, p: Place, depth: u32) -> Holds
 fn enter(img: &[u8], s: SuperBlock, h: Holding, name: &[u8]) -> Holds
     requires { ⌜ Fit s (now img) ⌝ }
     requires { ⌜ h .depth ≤ pathLimit ⌝ }
-    ensures { λ r. ⌜ holdsSays r ≡ entered blockBytes (s .area .0) (s .blocks) (now (img .entry)) (holdOf h) (now (name .entry)) ⌝ }
+    ensures { λ r. ⌜ holdsSays r ≡ entered (areaIn s) (now (img .entry)) (holdOf h) (now (name .entry)) ⌝ }
 {
     if name.len() == 0 {
         return Holds::Refused(Refusal::NotFound);
@@ -101,7 +100,7 @@ fn descend(img: &[u8], s: SuperBlock, full: &[u8], first: usize, end: usize) -> 
     requires { ⌜ first ≤ end ⌝ }
     requires { ⌜ end ≤ length (now full) ⌝ }
     requires { ⌜ length (now full) ≤ pathLimit ⌝ }
-    ensures { λ r. ⌜ holdsSays r ≡ holdFrom blockBytes (s .area .0) (s .blocks) (now (img .entry)) (split (drop first (take end (now (full .entry))))) (rootHold (s .area .0)) ⌝ }
+    ensures { λ r. ⌜ holdsSays r ≡ holdFrom (areaIn s) (now (img .entry)) (split (drop first (take end (now (full .entry))))) (rootHold (s .area .0)) ⌝ }
 {
     let mut at = first;
     let mut h = root(s);
@@ -126,7 +125,7 @@ pub fn hold(img: &[u8], s: SuperBlock, full: &[u8], end: usize) -> Holds
     requires { ⌜ Fit s (now img) ⌝ }
     requires { ⌜ end ≤ length (now full) ⌝ }
     requires { ⌜ length (now full) ≤ pathLimit ⌝ }
-    ensures { λ r. ⌜ holdsSays r ≡ holdDir blockBytes (s .area .0) (s .blocks) (now (img .entry)) (take end (now (full .entry))) ⌝ }
+    ensures { λ r. ⌜ holdsSays r ≡ holdDir (areaIn s) (now (img .entry)) (take end (now (full .entry))) ⌝ }
 {
     if path::is_root(full, end) {
         let h = root(s);
@@ -141,7 +140,7 @@ pub fn open(img: &[u8], s: SuperBlock, full: &[u8], end: usize) -> Opened
     requires { ⌜ Fit s (now img) ⌝ }
     requires { ⌜ end ≤ length (now full) ⌝ }
     requires { ⌜ length (now full) ≤ pathLimit ⌝ }
-    ensures { λ r. ⌜ openedSays r ≡ openDir blockBytes (s .area .0) (s .blocks) (now (img .entry)) (take end (now (full .entry))) ⌝ }
+    ensures { λ r. ⌜ openedSays r ≡ openDir (areaIn s) (now (img .entry)) (take end (now (full .entry))) ⌝ }
 {
     let holds = hold(img, s, full, end);
     match holds {
@@ -156,7 +155,7 @@ pub fn open(img: &[u8], s: SuperBlock, full: &[u8], end: usize) -> Opened
 // The entry of that name in the directory at `dir`.
 fn find_in(img: &[u8], s: SuperBlock, dir: Addr, name: &[u8]) -> Located
     requires { ⌜ Fit s (now img) ⌝ }
-    ensures { λ r. ⌜ locatedSays r ≡ lookupIn blockBytes (s .area .0) (s .blocks) (now (img .entry)) (dir .0) (now (name .entry)) (λ e. accepted (held (dir .0) e)) ⌝ }
+    ensures { λ r. ⌜ locatedSays r ≡ lookupIn (areaIn s) (now (img .entry)) (dir .0) (now (name .entry)) (λ e. accepted (held (dir .0) e)) ⌝ }
 {
     let found = read_dir::lookup(img, s, dir, name);
     match found {
@@ -171,7 +170,7 @@ pub fn find(img: &[u8], s: SuperBlock, full: &[u8], len: usize) -> Located
     requires { ⌜ Fit s (now img) ⌝ }
     requires { ⌜ len ≤ length (now full) ⌝ }
     requires { ⌜ length (now full) ≤ pathLimit ⌝ }
-    ensures { λ r. ⌜ locatedSays r ≡ entryOf blockBytes (s .area .0) (s .blocks) (now (img .entry)) (take len (now (full .entry))) ⌝ }
+    ensures { λ r. ⌜ locatedSays r ≡ entryOf (areaIn s) (now (img .entry)) (take len (now (full .entry))) ⌝ }
 {
     let parts = path::parts_of(full, len);
     let from = parts.from;

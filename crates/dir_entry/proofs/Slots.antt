@@ -44,19 +44,25 @@ module _ (B : ℕ) (I : List ℕ) (a o : ℕ) where
   unfolding slotAt pick
   slot-entry h k z l = rw (lt-leb _ _ h, le-ltb _ _ k, ne-eqb _ _ z, le-ltb _ _ l)
 
--- as code has them: `at` is the entry's byte and n its length byte
-module _ (I : List ℕ) (a o at n : ℕ) (e : at ≡ placeAt 512 a o) where
-  pub code-kind : o < 490 → 2 < getD I at 0 → Stop ≡ slotAt 512 I a o
-  code-kind h k = sym (stop-kind 512 I a o h (rw e at k))
+-- as code has them: k is the block's capacity, `at` the entry's byte and n its length byte
+module _ (B : ℕ) (I : List ℕ) (a o k : ℕ) (c : k ≡ B - 4) where
+  pub code-offset : k - 18 ≤ o → Stop ≡ slotAt B I a o
+  code-offset h = sym (stop-offset B I a o (omega arith))
 
-  pub code-empty : o < 490 → getD I at 0 ≤ 2 → n ≡ getD I (at + 17) 0 → n ≡ 0 → Stop ≡ slotAt 512 I a o
-  code-empty h k f z = sym (stop-empty 512 I a o h (rw e at k) (rw (f, e) at z))
+  module _ (at n : ℕ) (e : at ≡ placeAt B a o) (h : o < k - 18) where
+    pub code-kind : 2 < getD I at 0 → Stop ≡ slotAt B I a o
+    code-kind l = sym (stop-kind B I a o (omega arith) (rw e at l))
 
-  pub code-long : o < 490 → getD I at 0 ≤ 2 → n ≡ getD I (at + 17) 0 → (n ≡ 0 → ⊥) → 507 < o + 18 + n → Stop ≡ slotAt 512 I a o
-  code-long h k f z l = sym (stop-long 512 I a o h (rw e at k) (rw (f, e) at z) (rw (f, e) at l))
+    pub code-empty : getD I at 0 ≤ 2 → n ≡ getD I (at + 17) 0 → n ≡ 0 → Stop ≡ slotAt B I a o
+    code-empty l f z = sym (stop-empty B I a o (omega arith) (rw e at l) (rw (f, e) at z))
 
-  pub code-entry : (r : DirEntry) → o < 490 → getD I at 0 ≤ 2 → n ≡ getD I (at + 17) 0 → (n ≡ 0 → ⊥) → o + 18 + n ≤ 507 → r ≡ entryAt I at → Entry r ≡ slotAt 512 I a o
-  code-entry r h k f z l g = sym (slot-entry 512 I a o h (rw e at k) (rw (f, e) at z) (rw (f, e) at l) ∙ ap Entry (sym (rw e at g)))
+    pub code-long : getD I at 0 ≤ 2 → n ≡ getD I (at + 17) 0 → (n ≡ 0 → ⊥) → k - 1 < o + 18 + n → Stop ≡ slotAt B I a o
+    code-long l f z m = let m′ : B - 5 < o + 18 + n = omega arith in sym (stop-long B I a o (omega arith) (rw e at l) (rw (f, e) at z) (rw (f, e) at m′))
+
+    pub code-entry : (r : DirEntry) → getD I at 0 ≤ 2 → n ≡ getD I (at + 17) 0 → (n ≡ 0 → ⊥) → o + 18 + n ≤ k - 1 → r ≡ entryAt I at → Entry r ≡ slotAt B I a o
+    code-entry r l f z m g =
+        let m′ : o + 18 + n ≤ B - 5 = omega arith in
+        sym (slot-entry B I a o (omega arith) (rw e at l) (rw (f, e) at z) (rw (f, e) at m′) ∙ ap Entry (sym (rw e at g)))
 
 -- ---- what an entry tells
 
@@ -86,7 +92,7 @@ module _ (B : ℕ) (I : List ℕ) (a o : ℕ) where
       (λ r. pick-case (StandsIn B I a o) (ltb (B - 5) (o + header + getD I (placeAt B a o + 17) 0)) _ _ (λ _. tt)
       (λ s. stands (leb-false _ _ p) (ltb-false _ _ q) (eqb-false _ _ r) (ltb-false _ _ s)))))
 
-  -- An entry at offset o of block a starts before 490, has a name, and ends by 507.
+  -- An entry at offset o of block a starts before B - 22, has a name, and ends by B - 5.
   pub slot-stands : (e : DirEntry) → slotAt B I a o ≡ Entry e → Stands B I a o e
   slot-stands e p = subst (StandsIn B I a o) p stands-in
 

@@ -5,11 +5,8 @@ ghost use mathlib.Core.Path.{_≡_};
 ghost use Prim.Native.Nat.{_+_, _*_, _≤_, _<_};
 ghost use lib.ListN.{length};
 ghost use Rattle.wire.specs.Be.{splice};
-ghost use Rattle.block.specs.Block.{blockBytes};
+ghost use Rattle.block.specs.Block.{BlockSize};
 ghost use Rattle.dir_entry.specs.Entry.{kindAt, kindByte, entryAt, headBytes, placeAt, slotAt};
-
-// The bytes of the next address, which stand before a block's data.
-const LINK: usize = block::BLOCK_SIZE - LinkedBlock::CAPACITY;
 
 // What an entry stands for.
 pub enum Kind {
@@ -41,11 +38,12 @@ fn wide(x: u8) -> usize
 }
 
 // The byte of the image where an offset of a block's data stands.
-pub fn place(a: Addr, offset: usize) -> usize
-    requires { ⌜ offset ≤ blockBytes ⌝ }
-    ensures { λ r. ⌜ r ≡ placeAt blockBytes (a .0) offset ⌝ }
+pub fn place(size: u32, a: Addr, offset: usize) -> usize
+    requires { ⌜ BlockSize size ⌝ }
+    requires { ⌜ offset ≤ size ⌝ }
+    ensures { λ r. ⌜ r ≡ placeAt size (a .0) offset ⌝ }
 {
-    block::offset(a) + LINK + offset
+    block::offset(size, a) + (LinkedBlock::LINK as usize) + offset
 }
 
 impl Kind {
@@ -92,14 +90,16 @@ impl DirEntry {
 
     // What stands at an offset of a block's data, by the four stop rules.
     pub fn decode(img: &[u8], block: LinkedBlock, offset: usize) -> Slot
-        requires { ⌜ blockBytes * block .addr .0 + blockBytes ≤ length (now img) ⌝ }
-        ensures { λ r. ⌜ r ≡ slotAt blockBytes (now (img .entry)) (block .addr .0) offset ⌝ }
+        requires { ⌜ BlockSize (block .size) ⌝ }
+        requires { ⌜ block .size * block .addr .0 + block .size ≤ length (now img) ⌝ }
+        ensures { λ r. ⌜ r ≡ slotAt (block .size) (now (img .entry)) (block .addr .0) offset ⌝ }
     {
-        if LinkedBlock::CAPACITY - DirEntry::HEADER <= offset {
+        let capacity = block.capacity() as usize;
+        if capacity - DirEntry::HEADER <= offset {
             return Slot::Stop;
         }
         let a = block.addr;
-        let at = place(a, offset);
+        let at = place(block.size, a, offset);
         if 2 < img[at] {
             return Slot::Stop;
         }
@@ -107,7 +107,7 @@ impl DirEntry {
         if n == 0 {
             return Slot::Stop;
         }
-        if LinkedBlock::CAPACITY - 1 < offset + DirEntry::HEADER + n {
+        if capacity - 1 < offset + DirEntry::HEADER + n {
             return Slot::Stop;
         }
         Slot::Entry(DirEntry::read(img, at))

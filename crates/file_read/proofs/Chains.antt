@@ -11,7 +11,7 @@ use native.Mathlib.Omega.{arith}
 use lib.ListN.{length, take, drop, length-append, length-take, length-drop}
 use borrow.Author.Tests.{le-leb, lt-leb}
 use Rattle.wire.proofs.Picks.{either, not-both, pick-true, pick-false}
-use Rattle.block.specs.Block.{next}
+use Rattle.block.specs.Block.{Area, next}
 use Rattle.model.specs.Tree.{then}
 use Rattle.model.specs.Volume.{All}
 use Rattle.model.proofs.Lists.{not-some, then-some, then-none}
@@ -25,94 +25,94 @@ use Rattle.file_read.specs.Post.{after}
 some-same : {A : Type 0} {x y : A} → some x ≡ some y → x ≡ y
 some-same e = cc
 
-module _ (B D n : ℕ) (I : List ℕ) where
-  pub missing-none : (o : Option (List ℕ)) → o ≡ none → missing B D n I o ≡ true
-  missing-none o e = ap (missing B D n I) e
+module _ (A : Area) (I : List ℕ) where
+  pub missing-none : (o : Option (List ℕ)) → o ≡ none → missing A I o ≡ true
+  missing-none o e = ap (missing A I) e
 
-  pub missing-some : (o : Option (List ℕ)) (xs : List ℕ) → o ≡ some xs → missing B D n I o ≡ false
-  missing-some o xs e = ap (missing B D n I) e
+  pub missing-some : (o : Option (List ℕ)) (xs : List ℕ) → o ≡ some xs → missing A I o ≡ false
+  missing-some o xs e = ap (missing A I) e
 
-  pub not-missing : (o : Option (List ℕ)) → missing B D n I o ≡ false → (xs : List ℕ) × (o ≡ some xs)
+  pub not-missing : (o : Option (List ℕ)) → missing A I o ≡ false → (xs : List ℕ) × (o ≡ some xs)
   not-missing none e = absurd (not-both refl e)
   not-missing (some xs) e = (xs, refl)
 
   -- ---- a chain, block by block
 
-  pub chain-none : (a : ℕ) → chain B D n I 0 a ≡ some []
+  pub chain-none : (a : ℕ) → chain A I 0 a ≡ some []
   unfolding chain
   chain-none a = refl
 
-  pub chain-out : (m a : ℕ) → inArea B D n I a ≡ false → chain B D n I (suc m) a ≡ none
+  pub chain-out : (m a : ℕ) → inArea A I a ≡ false → chain A I (suc m) a ≡ none
   unfolding chain
   chain-out m a t = pick-false _ _ t
 
-  pub chain-in : (m a : ℕ) → inArea B D n I a ≡ true → chain B D n I (suc m) a ≡ then (chain B D n I m (next B I a)) (λ xs. some (a ∷ xs))
+  pub chain-in : (m a : ℕ) → inArea A I a ≡ true → chain A I (suc m) a ≡ then (chain A I m (next (A .size) I a)) (λ xs. some (a ∷ xs))
   unfolding chain
   chain-in m a t = pick-true _ _ t
 
   -- a chain that is there: its first block, and the rest
   pub record Head (m a : ℕ) (ys : List ℕ) : Type 0 where
-    pub from : D ≤ a
-    pub below : a < n
+    pub from : A .first ≤ a
+    pub below : a < A .end
     pub rest : List ℕ
-    pub goes : chain B D n I m (next B I a) ≡ some rest
+    pub goes : chain A I m (next (A .size) I a) ≡ some rest
     pub is : ys ≡ a ∷ rest
 
-  pub chain-head : (m a : ℕ) (ys : List ℕ) → chain B D n I (suc m) a ≡ some ys → Head m a ys
-  chain-head m a ys e = go (either (inArea B D n I a)) (chain B D n I m (next B I a)) refl
+  pub chain-head : (m a : ℕ) (ys : List ℕ) → chain A I (suc m) a ≡ some ys → Head m a ys
+  chain-head m a ys e = go (either (inArea A I a)) (chain A I m (next (A .size) I a)) refl
     where
-      go : (inArea B D n I a ≡ true) ⊎ (inArea B D n I a ≡ false) → (o : Option (List ℕ)) → chain B D n I m (next B I a) ≡ o → Head m a ys
+      go : (inArea A I a ≡ true) ⊎ (inArea A I a ≡ false) → (o : Option (List ℕ)) → chain A I m (next (A .size) I a) ≡ o → Head m a ys
       go (inr t) o q = absurd (not-some (chain-out m a t) e)
       go (inl t) none q = absurd (not-some (chain-in m a t ∙ then-none _ q) e)
       go (inl t) (some xs) q =
-          let w = area-true B D n I a t in
+          let w = area-true A I a t in
           record { from = w .0; below = w .1; rest = xs; goes = q; is = some-same (sym e ∙ chain-in m a t ∙ then-some (λ zs. some (a ∷ zs)) q) }
 
-  chain-cons : (m a : ℕ) (xs : List ℕ) → D ≤ a → a < n → chain B D n I m (next B I a) ≡ some xs → chain B D n I (suc m) a ≡ some (a ∷ xs)
-  chain-cons m a xs h k e = chain-in m a (area-in B D n I a h k) ∙ then-some (λ zs. some (a ∷ zs)) e
+  chain-cons : (m a : ℕ) (xs : List ℕ) → A .first ≤ a → a < A .end → chain A I m (next (A .size) I a) ≡ some xs → chain A I (suc m) a ≡ some (a ∷ xs)
+  chain-cons m a xs h k e = chain-in m a (area-in A I a h k) ∙ then-some (λ zs. some (a ∷ zs)) e
 
   -- ---- what a chain that is there has
 
-  pub chain-length : (m a : ℕ) (xs : List ℕ) → chain B D n I m a ≡ some xs → length xs ≡ m
+  pub chain-length : (m a : ℕ) (xs : List ℕ) → chain A I m a ≡ some xs → length xs ≡ m
   chain-length zero a xs e = ap length (some-same (sym e ∙ chain-none a))
   chain-length (suc m) a xs e =
       let h = chain-head m a xs e in
-      ap length (h .is) ∙ ap suc (chain-length m (next B I a) (h .rest) (h .goes))
+      ap length (h .is) ∙ ap suc (chain-length m (next (A .size) I a) (h .rest) (h .goes))
 
-  pub chain-area : (m a : ℕ) (xs : List ℕ) → chain B D n I m a ≡ some xs → All (λ (x : ℕ). (D ≤ x) × (x < n)) xs
-  chain-area zero a xs e = subst (All (λ (x : ℕ). (D ≤ x) × (x < n))) (some-same (sym (chain-none a) ∙ e)) tt
+  pub chain-area : (m a : ℕ) (xs : List ℕ) → chain A I m a ≡ some xs → All (λ (x : ℕ). (A .first ≤ x) × (x < A .end)) xs
+  chain-area zero a xs e = subst (All (λ (x : ℕ). (A .first ≤ x) × (x < A .end))) (some-same (sym (chain-none a) ∙ e)) tt
   chain-area (suc m) a xs e =
       let h = chain-head m a xs e in
-      subst (All (λ (x : ℕ). (D ≤ x) × (x < n))) (sym (h .is)) ((h .from, h .below), chain-area m (next B I a) (h .rest) (h .goes))
+      subst (All (λ (x : ℕ). (A .first ≤ x) × (x < A .end))) (sym (h .is)) ((h .from, h .below), chain-area m (next (A .size) I a) (h .rest) (h .goes))
 
   -- ---- a read's chain, by its bound
 
-  pub chain-read : (a m : ℕ) → m ≤ n - D → chainRead B D n I a m ≡ chain B D n I m a
+  pub chain-read : (a m : ℕ) → m ≤ A .end - A .first → chainRead A I a m ≡ chain A I m a
   unfolding chainRead
   chain-read a m h = pick-true _ _ (le-leb _ _ h)
 
-  pub chain-over : (a m : ℕ) → n - D < m → chainRead B D n I a m ≡ none
+  pub chain-over : (a m : ℕ) → A .end - A .first < m → chainRead A I a m ≡ none
   unfolding chainRead
   chain-over a m h = pick-false _ _ (lt-leb _ _ h)
 
-  pub chain-there : (a m : ℕ) (xs : List ℕ) → chainRead B D n I a m ≡ some xs → (m ≤ n - D) × (chain B D n I m a ≡ some xs)
-  chain-there a m xs e = go (decLt (n - D) m)
+  pub chain-there : (a m : ℕ) (xs : List ℕ) → chainRead A I a m ≡ some xs → (m ≤ A .end - A .first) × (chain A I m a ≡ some xs)
+  chain-there a m xs e = go (decLt (A .end - A .first) m)
     where
-      go : Dec (n - D < m) → (m ≤ n - D) × (chain B D n I m a ≡ some xs)
+      go : Dec (A .end - A .first < m) → (m ≤ A .end - A .first) × (chain A I m a ≡ some xs)
       go (yes h) = absurd (not-some (chain-over a m h) e)
-      go (no h) = let l : m ≤ n - D = omega arith in (l, sym (chain-read a m l) ∙ e)
+      go (no h) = let l : m ≤ A .end - A .first = omega arith in (l, sym (chain-read a m l) ∙ e)
 
   -- ---- a walk along a chain, block by block
 
-  pub after-none : (a : ℕ) → after B D n I 0 a ≡ some a
+  pub after-none : (a : ℕ) → after A I 0 a ≡ some a
   unfolding after
   after-none a = refl
 
-  pub after-out : (m a : ℕ) → inArea B D n I a ≡ false → after B D n I (suc m) a ≡ none
+  pub after-out : (m a : ℕ) → inArea A I a ≡ false → after A I (suc m) a ≡ none
   unfolding after
   after-out m a t = pick-false _ _ t
 
-  pub after-in : (m a : ℕ) → inArea B D n I a ≡ true → after B D n I (suc m) a ≡ after B D n I m (next B I a)
+  pub after-in : (m a : ℕ) → inArea A I a ≡ true → after A I (suc m) a ≡ after A I m (next (A .size) I a)
   unfolding after
   after-in m a t = pick-true _ _ t
 
@@ -120,64 +120,64 @@ module _ (B D n : ℕ) (I : List ℕ) where
   pub record Split (q a b : ℕ) : Type 0 where
     pub front : List ℕ
     pub long : length front ≡ q
-    pub inside : All (λ (x : ℕ). (D ≤ x) × (x < n)) front
-    pub goes : (m : ℕ) (xs : List ℕ) → chain B D n I m b ≡ some xs → chain B D n I (q + m) a ≡ some (front ++ xs)
-    pub ends : (m : ℕ) → chain B D n I m b ≡ none → chain B D n I (q + m) a ≡ none
+    pub inside : All (λ (x : ℕ). (A .first ≤ x) × (x < A .end)) front
+    pub goes : (m : ℕ) (xs : List ℕ) → chain A I m b ≡ some xs → chain A I (q + m) a ≡ some (front ++ xs)
+    pub ends : (m : ℕ) → chain A I m b ≡ none → chain A I (q + m) a ≡ none
 
-  pub after-split : (q a b : ℕ) → after B D n I q a ≡ some b → Split q a b
+  pub after-split : (q a b : ℕ) → after A I q a ≡ some b → Split q a b
   after-split zero a b e =
       let f : a ≡ b = some-same (sym (after-none a) ∙ e) in
       record {
         front = [];
         long = refl;
         inside = tt;
-        goes = λ m xs g. ap (λ (k : ℕ). chain B D n I k a) (zero-add m) ∙ ap (chain B D n I m) f ∙ g;
-        ends = λ m g. ap (λ (k : ℕ). chain B D n I k a) (zero-add m) ∙ ap (chain B D n I m) f ∙ g;
+        goes = λ m xs g. ap (λ (k : ℕ). chain A I k a) (zero-add m) ∙ ap (chain A I m) f ∙ g;
+        ends = λ m g. ap (λ (k : ℕ). chain A I k a) (zero-add m) ∙ ap (chain A I m) f ∙ g;
       }
-  after-split (suc q) a b e = go (either (inArea B D n I a)) (after-split q (next B I a) b)
+  after-split (suc q) a b e = go (either (inArea A I a)) (after-split q (next (A .size) I a) b)
     where
-      go : (inArea B D n I a ≡ true) ⊎ (inArea B D n I a ≡ false) → (after B D n I q (next B I a) ≡ some b → Split q (next B I a) b) → Split (suc q) a b
+      go : (inArea A I a ≡ true) ⊎ (inArea A I a ≡ false) → (after A I q (next (A .size) I a) ≡ some b → Split q (next (A .size) I a) b) → Split (suc q) a b
       go (inr t) r = absurd (not-some (after-out q a t) e)
       go (inl t) r =
           let s = r (sym (after-in q a t) ∙ e) in
-          let w = area-true B D n I a t in
+          let w = area-true A I a t in
           record {
             front = a ∷ s .front;
             long = ap suc (s .long);
             inside = (w, s .inside);
-            goes = λ m xs g. ap (λ (k : ℕ). chain B D n I k a) (suc-add q m) ∙ chain-cons (q + m) a (s .front ++ xs) (w .0) (w .1) (s .goes m xs g);
-            ends = λ m g. ap (λ (k : ℕ). chain B D n I k a) (suc-add q m) ∙ chain-in (q + m) a t ∙ then-none _ (s .ends m g);
+            goes = λ m xs g. ap (λ (k : ℕ). chain A I k a) (suc-add q m) ∙ chain-cons (q + m) a (s .front ++ xs) (w .0) (w .1) (s .goes m xs g);
+            ends = λ m g. ap (λ (k : ℕ). chain A I k a) (suc-add q m) ∙ chain-in (q + m) a t ∙ then-none _ (s .ends m g);
           }
 
   -- where it leaves D..n-1, so does the chain
-  pub after-lost : (q a : ℕ) → after B D n I q a ≡ none → (m : ℕ) → chain B D n I (q + m) a ≡ none
+  pub after-lost : (q a : ℕ) → after A I q a ≡ none → (m : ℕ) → chain A I (q + m) a ≡ none
   after-lost zero a e m = absurd (not-some e (after-none a))
-  after-lost (suc q) a e m = ap (λ (k : ℕ). chain B D n I k a) (suc-add q m) ∙ go (either (inArea B D n I a)) (after-lost q (next B I a))
+  after-lost (suc q) a e m = ap (λ (k : ℕ). chain A I k a) (suc-add q m) ∙ go (either (inArea A I a)) (after-lost q (next (A .size) I a))
     where
-      go : (inArea B D n I a ≡ true) ⊎ (inArea B D n I a ≡ false) → (after B D n I q (next B I a) ≡ none → (m : ℕ) → chain B D n I (q + m) (next B I a) ≡ none)
-          → chain B D n I (suc (q + m)) a ≡ none
+      go : (inArea A I a ≡ true) ⊎ (inArea A I a ≡ false) → (after A I q (next (A .size) I a) ≡ none → (m : ℕ) → chain A I (q + m) (next (A .size) I a) ≡ none)
+          → chain A I (suc (q + m)) a ≡ none
       go (inr t) r = chain-out (q + m) a t
       go (inl t) r = chain-in (q + m) a t ∙ then-none _ (r (sym (after-in q a t) ∙ e) m)
 
   -- ---- the data bytes
 
-  pub data-append : (xs ys : List ℕ) → dataOf B D n I (xs ++ ys) ≡ dataOf B D n I xs ++ dataOf B D n I ys
+  pub data-append : (xs ys : List ℕ) → dataOf A I (xs ++ ys) ≡ dataOf A I xs ++ dataOf A I ys
   unfolding dataOf
   data-append [] ys = refl
   data-append (a ∷ xs) ys =
-      ap (λ (l : List ℕ). take (B - 4) (drop (B * a + 4) I) ++ l) (data-append xs ys)
-      ∙ sym (append-assoc (take (B - 4) (drop (B * a + 4) I)) (dataOf B D n I xs) (dataOf B D n I ys))
+      ap (λ (l : List ℕ). take (A .size - 4) (drop (A .size * a + 4) I) ++ l) (data-append xs ys)
+      ∙ sym (append-assoc (take (A .size - 4) (drop (A .size * a + 4) I)) (dataOf A I xs) (dataOf A I ys))
 
-  module _ (h : 4 ≤ B) (fits : B * n ≤ length I) where
+  module _ (h : 4 ≤ A .size) (fits : A .size * A .end ≤ length I) where
     -- a block below n is in the image, and has its data bytes
-    block-fits : (a : ℕ) → a < n → B * a + B ≤ length I
-    block-fits a k = omega (arith, mul-le-mul-left B k, mul-suc B a)
+    pub block-fits : (a : ℕ) → a < A .end → A .size * a + A .size ≤ length I
+    block-fits a k = omega (arith, mul-le-mul-left (A .size) k, mul-suc (A .size) a)
 
-    data-block : (a : ℕ) → a < n → length (take (B - 4) (drop (B * a + 4) I)) ≡ B - 4
+    data-block : (a : ℕ) → a < A .end → length (take (A .size - 4) (drop (A .size * a + 4) I)) ≡ A .size - 4
     data-block a k = let f = block-fits a k in simp (length-take, length-drop) (omega arith)
 
-    pub data-length : (xs : List ℕ) → All (λ (x : ℕ). (D ≤ x) × (x < n)) xs → length (dataOf B D n I xs) ≡ (B - 4) * length xs
+    pub data-length : (xs : List ℕ) → All (λ (x : ℕ). (A .first ≤ x) × (x < A .end)) xs → length (dataOf A I xs) ≡ (A .size - 4) * length xs
     unfolding dataOf
-    data-length [] w = sym (mul-zero (B - 4))
+    data-length [] w = sym (mul-zero (A .size - 4))
     data-length (a ∷ xs) w =
         rw (length-append, data-block a (w .0 .1), data-length xs (w .1), mul-suc) (omega arith)

@@ -1,5 +1,5 @@
 -- What the functions give: the answer of a read with the handle that it hands back, and its steps. Definitions alone.
--- B is the block size, D the data area's first address and n the volume's blocks.
+-- A is the data area: the size of its blocks, its first address and the volume's end.
 use mathlib.Core.Path.{_≡_}
 use mathlib.Core.Bool.{true, false}
 use mathlib.Core.Option.{Option, none, some}
@@ -8,7 +8,7 @@ use Prim.Native.Nat.{ℕ, zero, suc, _+_, _-_, _%_}
 use lib.ListN.{length}
 use Rattle.wire.specs.Be.{splice}
 use Rattle.wire.specs.Pick.{pick}
-use Rattle.block.specs.Block.{next}
+use Rattle.block.specs.Block.{Area, next}
 use Rattle.model.specs.Answers.{when}
 use Rattle.limits.specs.Refusals.{refusalNumber}
 use Rattle.read_dir.specs.Walk.{inArea}
@@ -38,40 +38,40 @@ abbrev pub CountedIs : ℕ → Handle → Handle → List ℕ → List ℕ → L
 CountedIs refusal h g vs l m (counted.Bytes k) = Gives refusal h g vs l m k
 CountedIs refusal h g vs l m (counted.Refused r) = Keeps refusal h g l m (refusalNumber r)
 
-module _ (B D n : ℕ) (I : List ℕ) where
+module _ (A : Area) (I : List ℕ) where
   abbrev pub ReadIs : Handle → List ℕ → List ℕ → CountedOut → Type 0
-  ReadIs h l m out = CountedIs (readRefusal B D n I h (length l)) h (out .handle) (bytesRead B D n I h (length l)) l m (out .answer)
+  ReadIs h l m out = CountedIs (readRefusal A I h (length l)) h (out .handle) (bytesRead A I h (length l)) l m (out .answer)
 
   -- ---- its steps
 
   -- What its chain refuses it by.
   abbrev pub chainRefusal : Handle → ℕ → ℕ
-  chainRefusal h len = when 17 (missing B D n I (chainRead B D n I (h .addr .0) (blocksRead B D n I (h .position) (toRead h len))))
+  chainRefusal h len = when 17 (missing A I (chainRead A I (h .addr .0) (blocksRead A I (h .position) (toRead h len))))
 
   abbrev pub FetchIs : Handle → List ℕ → List ℕ → CountedOut → Type 0
-  FetchIs h l m out = CountedIs (chainRefusal h (length l)) h (out .handle) (bytesRead B D n I h (length l)) l m (out .answer)
+  FetchIs h l m out = CountedIs (chainRefusal h (length l)) h (out .handle) (bytesRead A I h (length l)) l m (out .answer)
 
   -- The address after the first m blocks of the chain from a on, none where it leaves D..n-1 before.
   unfoldable pub after : ℕ → ℕ → Option ℕ
   after zero a = some a
-  after (suc m) a = pick (inArea B D n I a) (after m (next B I a)) none
+  after (suc m) a = pick (inArea A I a) (after m (next (A .size) I a)) none
 
   -- k bytes from data byte o of block a on, along the chain; they are there
   abbrev pub partAt : ℕ → ℕ → ℕ → List ℕ
-  partAt a o k = bytesOf B D n I (chain B D n I (blocksRead B D n I o k) a) o k
+  partAt a o k = bytesOf A I (chain A I (blocksRead A I o k) a) o k
 
   abbrev pub Whole : ℕ → ℕ → ℕ → Type 0
-  Whole a o k = missing B D n I (chain B D n I (blocksRead B D n I o k) a) ≡ false
+  Whole a o k = missing A I (chain A I (blocksRead A I o k) a) ≡ false
 
   -- The chain from a on has the k bytes from byte p on: the first of them stands in block b, which is in the chain.
   pub record Begins (a p k b : ℕ) : Type 0 where
-    pub good : missing B D n I (chainRead B D n I a (blocksRead B D n I p k)) ≡ false
-    pub whole : Whole b (p % (B - 4)) k
-    pub bytes : bytesOf B D n I (chainRead B D n I a (blocksRead B D n I p k)) p k ≡ partAt b (p % (B - 4)) k
+    pub good : missing A I (chainRead A I a (blocksRead A I p k)) ≡ false
+    pub whole : Whole b (p % (A .size - 4)) k
+    pub bytes : bytesOf A I (chainRead A I a (blocksRead A I p k)) p k ≡ partAt b (p % (A .size - 4)) k
 
   abbrev pub BeginsIs : ℕ → ℕ → ℕ → Walked → Type 0
   BeginsIs a p k (walked.At b) = Begins a p k (b .0)
-  BeginsIs a p k walked.Damaged = missing B D n I (chainRead B D n I a (blocksRead B D n I p k)) ≡ true
+  BeginsIs a p k walked.Damaged = missing A I (chainRead A I a (blocksRead A I p k)) ≡ true
 
 -- A walk along a chain: where it came to, or that it left D..n-1.
 abbrev pub WalkedIs : Option ℕ → Walked → Type 0

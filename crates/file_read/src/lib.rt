@@ -13,14 +13,10 @@ ghost use mathlib.Core.Bool.{false};
 ghost use Prim.Native.Nat.{_+_, _-_, _≤_, _<_};
 ghost use lib.ListN.{length};
 ghost use Rattle.wire.specs.Be.{splice};
-ghost use Rattle.block.specs.Block.{blockBytes};
-ghost use Rattle.super_block.specs.Super.{Fit};
+ghost use Rattle.super_block.specs.Super.{areaIn, Fit};
 ghost use Rattle.handle.specs.Handles.{staleFields};
 ghost use Rattle.file_read.specs.Read.{toRead};
 ghost use Rattle.file_read.specs.Post.{ReadIs, FetchIs, after, partAt, Whole, BeginsIs, WalkedIs};
-
-// A block's data bytes, as positions are counted.
-const CAPACITY: u32 = LinkedBlock::CAPACITY as u32;
 
 // Where a walk along a chain came to.
 enum Walked {
@@ -31,7 +27,7 @@ enum Walked {
 // The address after the first k blocks of the chain from a on. Each of them is looked at before it is read.
 fn follow(img: &[u8], s: SuperBlock, a: Addr, k: u32) -> Walked
     requires { ⌜ Fit s (now img) ⌝ }
-    ensures { λ r. ⌜ WalkedIs (after blockBytes (s .area .0) (s .blocks) (now (img .entry)) k (a .0)) r ⌝ }
+    ensures { λ r. ⌜ WalkedIs (after (areaIn s) (now (img .entry)) k (a .0)) r ⌝ }
 {
     let d = s.area;
     let mut b = a;
@@ -43,7 +39,7 @@ fn follow(img: &[u8], s: SuperBlock, a: Addr, k: u32) -> Walked
         if s.blocks <= b.0 {
             return Walked::Damaged;
         }
-        b = LinkedBlock::new(b).next_addr(img);
+        b = LinkedBlock::new(s.size, b).next_addr(img);
         left -= 1;
     }
     Walked::At(b)
@@ -53,14 +49,15 @@ fn follow(img: &[u8], s: SuperBlock, a: Addr, k: u32) -> Walked
 fn begin(img: &[u8], s: SuperBlock, a: Addr, p: u32, k: u32) -> Walked
     requires { ⌜ Fit s (now img) ⌝ }
     requires { ⌜ p + k ≤ 2147483647 ⌝ }
-    ensures { λ r. ⌜ BeginsIs blockBytes (s .area .0) (s .blocks) (now (img .entry)) (a .0) p k r ⌝ }
+    ensures { λ r. ⌜ BeginsIs (areaIn s) (now (img .entry)) (a .0) p k r ⌝ }
 {
     if k == 0 {
         return Walked::At(a);
     }
     let d = s.area;
-    let first = p / CAPACITY;
-    let m = (p + (k - 1)) / CAPACITY + 1;
+    let capacity = s.size - LinkedBlock::LINK;
+    let first = p / capacity;
+    let m = (p + (k - 1)) / capacity + 1;
     if s.blocks - d.0 < m {
         return Walked::Damaged;
     }
@@ -75,21 +72,22 @@ fn begin(img: &[u8], s: SuperBlock, a: Addr, p: u32, k: u32) -> Walked
 }
 
 // k bytes from data byte o of block a on, along the chain, to the start of the buffer: a run of each block at a time.
-// Its blocks were looked at before; s says which they may be, and only the contract names it.
+// Its blocks were looked at before.
 fn pour(img: &[u8], s: SuperBlock, a: Addr, o: usize, buf: &mut [u8], k: usize)
     requires { ⌜ Fit s (now img) ⌝ }
-    requires { ⌜ o < 508 ⌝ }
+    requires { ⌜ o < s .size - 4 ⌝ }
     requires { ⌜ k ≤ length (now buf) ⌝ }
-    requires { ⌜ Whole blockBytes (s .area .0) (s .blocks) (now img) (a .0) o k ⌝ }
-    ensures { λ _. ⌜ now (buf .exit) ≡ splice (now (buf .entry)) 0 (partAt blockBytes (s .area .0) (s .blocks) (now (img .entry)) (a .0) o k) ⌝ }
+    requires { ⌜ Whole (areaIn s) (now img) (a .0) o k ⌝ }
+    ensures { λ _. ⌜ now (buf .exit) ≡ splice (now (buf .entry)) 0 (partAt (areaIn s) (now (img .entry)) (a .0) o k) ⌝ }
 {
+    let capacity = (s.size - LinkedBlock::LINK) as usize;
     let mut b = a;
     let mut at = o;
     let mut i: usize = 0;
     while i < k {
-        let run = limits::run_of(at, k - i);
-        wire::copy(buf, i, img, dir_entry::place(b, at), run);
-        b = LinkedBlock::new(b).next_addr(img);
+        let run = limits::run_of(capacity, at, k - i);
+        wire::copy(buf, i, img, dir_entry::place(s.size, b, at), run);
+        b = LinkedBlock::new(s.size, b).next_addr(img);
         at = 0;
         i += run;
     }
@@ -112,7 +110,7 @@ fn count(h: Handle, len: usize) -> u32
 fn fetch(h: Handle, img: &[u8], s: SuperBlock, buf: &mut [u8]) -> CountedOut
     requires { ⌜ Fit s (now img) ⌝ }
     requires { ⌜ staleFields h ≡ false ⌝ }
-    ensures { λ r. ⌜ FetchIs blockBytes (s .area .0) (s .blocks) (now (img .entry)) h (now (buf .entry)) (now (buf .exit)) r ⌝ }
+    ensures { λ r. ⌜ FetchIs (areaIn s) (now (img .entry)) h (now (buf .entry)) (now (buf .exit)) r ⌝ }
 {
     let p = h.position;
     let a = h.addr;
@@ -123,7 +121,8 @@ fn fetch(h: Handle, img: &[u8], s: SuperBlock, buf: &mut [u8]) -> CountedOut
             handle: h,
         },
         Walked::At(b) => {
-            pour(img, s, b, (p % CAPACITY) as usize, buf, k as usize);
+            let capacity = s.size - LinkedBlock::LINK;
+            pour(img, s, b, (p % capacity) as usize, buf, k as usize);
             CountedOut {
                 answer: Counted::Bytes(k as usize),
                 handle: h.at(p + k),
@@ -135,7 +134,7 @@ fn fetch(h: Handle, img: &[u8], s: SuperBlock, buf: &mut [u8]) -> CountedOut
 // Up to buf.len() bytes from the position on. Refused by 11 or 17, or the handle past what was read.
 pub fn read(h: Handle, img: &[u8], s: SuperBlock, buf: &mut [u8]) -> CountedOut
     requires { ⌜ Fit s (now img) ⌝ }
-    ensures { λ r. ⌜ ReadIs blockBytes (s .area .0) (s .blocks) (now (img .entry)) h (now (buf .entry)) (now (buf .exit)) r ⌝ }
+    ensures { λ r. ⌜ ReadIs (areaIn s) (now (img .entry)) h (now (buf .entry)) (now (buf .exit)) r ⌝ }
 {
     let checked = h.check(img, s);
     match checked {

@@ -13,6 +13,7 @@ use Rattle.wire.specs.Be.{splice, zeros}
 use Rattle.wire.specs.Pick.{pick, same}
 use Rattle.wire.proofs.Numbers.{drop-zeros}
 use Rattle.block.specs.declared.Addr.{Addr}
+use Rattle.block.specs.Block.{Area}
 use Rattle.model.specs.Render.{padded}
 use Rattle.model.proofs.Opens.{refuses, passes, first-of-one}
 use Rattle.dir_entry.specs.declared.DirEntry.{DirEntry}
@@ -113,24 +114,24 @@ held-number h (item e a o x w) = go (current h e x) (held-number h w)
 held-number h finished = refl
 held-number h damaged = refl
 
-module _ (D n : ℕ) (I : List ℕ) (h : Handle) (f : Found) (q : f ≡ currentIn h (walk 512 D n I (h .dir .0))) where
-  held-as : (x : Found) → f ≡ x → foundNumber x ≡ heldIn h (walk 512 D n I (h .dir .0))
-  held-as x g = ap foundNumber (sym g ∙ q) ∙ held-number h (walk 512 D n I (h .dir .0))
+module _ (A : Area) (I : List ℕ) (h : Handle) (f : Found) (q : f ≡ currentIn h (walk A I (h .dir .0))) where
+  held-as : (x : Found) → f ≡ x → foundNumber x ≡ heldIn h (walk A I (h .dir .0))
+  held-as x g = ap foundNumber (sym g ∙ q) ∙ held-number h (walk A I (h .dir .0))
 
-  pub held-at : (e : DirEntry) (p : Place) → f ≡ found.At e p → 0 ≡ heldIn h (walk 512 D n I (h .dir .0))
+  pub held-at : (e : DirEntry) (p : Place) → f ≡ found.At e p → 0 ≡ heldIn h (walk A I (h .dir .0))
   held-at e p g = held-as (found.At e p) g
 
-  pub held-missing : f ≡ found.Missing → 11 ≡ heldIn h (walk 512 D n I (h .dir .0))
+  pub held-missing : f ≡ found.Missing → 11 ≡ heldIn h (walk A I (h .dir .0))
   held-missing g = held-as found.Missing g
 
-  pub held-damaged : f ≡ found.Damaged → 17 ≡ heldIn h (walk 512 D n I (h .dir .0))
+  pub held-damaged : f ≡ found.Damaged → 17 ≡ heldIn h (walk A I (h .dir .0))
   held-damaged g = held-as found.Damaged g
 
 -- ---- what refuses a handle: b is what its fields say, and r what its directory does
 
-module _ (D n : ℕ) (I : List ℕ) (h : Handle) (b : Bool) (e : b ≡ staleFields h) where
-  pub check-stale : b ≡ true → 11 ≡ handleRefusal 512 D n I h
+module _ (A : Area) (I : List ℕ) (h : Handle) (b : Bool) (e : b ≡ staleFields h) where
+  pub check-stale : b ≡ true → 11 ≡ handleRefusal A I h
   check-stale t = sym (refuses 11 _ (omega arith) (sym e ∙ t))
 
-  pub check-held : (r : Answer) → b ≡ false → answerNumber r ≡ heldIn h (walk 512 D n I (h .dir .0)) → answerNumber r ≡ handleRefusal 512 D n I h
-  check-held r t p = p ∙ sym (passes 11 _ (sym e ∙ t) ∙ first-of-one (heldIn h (walk 512 D n I (h .dir .0))))
+  pub check-held : (r : Answer) → b ≡ false → answerNumber r ≡ heldIn h (walk A I (h .dir .0)) → answerNumber r ≡ handleRefusal A I h
+  check-held r t p = p ∙ sym (passes 11 _ (sym e ∙ t) ∙ first-of-one (heldIn h (walk A I (h .dir .0))))

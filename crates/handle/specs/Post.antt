@@ -1,8 +1,9 @@
 -- What the functions give: the answer of a seek with the handle that it hands back, and what refuses a handle. Definitions alone.
--- B is the block size, D the data area's first address and n the volume's blocks.
+-- A is the data area: the size of its blocks, its first address and the volume's end.
 use mathlib.Core.Path.{_≡_}
 use mathlib.Core.List.{List, [], _∷_}
 use Prim.Native.Nat.{ℕ}
+use Rattle.block.specs.Block.{Area}
 use Rattle.model.specs.Answers.{when, firstOf}
 use Rattle.limits.specs.Refusals.{refusalNumber}
 use Rattle.read_dir.specs.Walk.{walk}
@@ -30,7 +31,7 @@ SoughtIs h from s = MovedIs h from (s .handle) (s .answer)
 
 -- ---- the check of a handle
 
-module _ (B D n : ℕ) (I : List ℕ) where
+module _ (A : Area) (I : List ℕ) where
   -- What the handle's own fields, and then its directory, refuse it by.
   abbrev pub handleRefusal : Handle → ℕ
-  handleRefusal h = firstOf (when 11 (staleFields h) ∷ (heldIn h (walk B D n I (h .dir .0)) ∷ []))
+  handleRefusal h = firstOf (when 11 (staleFields h) ∷ (heldIn h (walk A I (h .dir .0)) ∷ []))

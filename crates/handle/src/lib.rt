@@ -15,10 +15,10 @@ ghost use mathlib.Core.Bool.{true, false};
 ghost use Prim.Native.Nat.{_+_, _-_, _*_, _≤_, _<_};
 ghost use lib.ListN.{length};
 ghost use Rattle.wire.specs.Pick.{same};
-ghost use Rattle.block.specs.Block.{blockBytes};
+ghost use Rattle.block.specs.Block.{BlockSize};
 ghost use Rattle.dir_entry.specs.Entry.{isFile, header, placeAt, nameAt};
 ghost use Rattle.model.specs.Render.{padded};
-ghost use Rattle.super_block.specs.Super.{Fit};
+ghost use Rattle.super_block.specs.Super.{areaIn, Fit};
 ghost use Rattle.read_dir.specs.Walk.{walk};
 ghost use Rattle.handle.specs.Handles.{nameOf, newHandle, staleFields, moved, target, within, placeIn, current, heldIn, currentIn};
 ghost use Rattle.handle.specs.Post.{answerNumber, SoughtIs, handleRefusal};
@@ -187,11 +187,12 @@ impl Handle {
     }
 
     // Whether an entry is the handle's: a file's, with its name, address and size.
-    fn current(self, img: &[u8], e: DirEntry, p: Place) -> bool
+    fn current(self, img: &[u8], size: u32, e: DirEntry, p: Place) -> bool
         requires { ⌜ self .len ≤ 255 ⌝ }
-        requires { ⌜ blockBytes * p .block .0 + blockBytes ≤ length (now img) ⌝ }
-        requires { ⌜ p .offset + header + e .len ≤ 507 ⌝ }
-        ensures { λ r. ⌜ r ≡ current self e (nameAt (now (img .entry)) (placeAt blockBytes (p .block .0) (p .offset)) (e .len)) ⌝ }
+        requires { ⌜ BlockSize size ⌝ }
+        requires { ⌜ size * p .block .0 + size ≤ length (now img) ⌝ }
+        requires { ⌜ p .offset + header + e .len ≤ size - 5 ⌝ }
+        ensures { λ r. ⌜ r ≡ current self e (nameAt (now (img .entry)) (placeAt size (p .block .0) (p .offset)) (e .len)) ⌝ }
     {
         let k = e.kind;
         if !is_file(k) {
@@ -205,21 +206,21 @@ impl Handle {
         if e.size != self.size {
             return false;
         }
-        self.named(read_dir::name_of(img, e, p))
+        self.named(read_dir::name_of(img, size, e, p))
     }
 
     // The handle's entry in its directory, with its place.
     pub fn entry(self, img: &[u8], s: SuperBlock) -> Found
         requires { ⌜ Fit s (now img) ⌝ }
         requires { ⌜ self .len ≤ 255 ⌝ }
-        ensures { λ r. ⌜ r ≡ currentIn self (walk blockBytes (s .area .0) (s .blocks) (now (img .entry)) (self .dir .0)) ⌝ }
+        ensures { λ r. ⌜ r ≡ currentIn self (walk (areaIn s) (now (img .entry)) (self .dir .0)) ⌝ }
     {
         let dir = self.dir;
         let mut c = ReadDir::new(s, dir);
         loop {
             match c.next(img, s) {
                 Step::Entry(e, p, d) => {
-                    if self.current(img, e, p) {
+                    if self.current(img, s.size, e, p) {
                         return Found::At(e, p);
                     }
                     c = d;
@@ -234,7 +235,7 @@ impl Handle {
     fn held(self, img: &[u8], s: SuperBlock) -> Answer
         requires { ⌜ Fit s (now img) ⌝ }
         requires { ⌜ self .len ≤ 255 ⌝ }
-        ensures { λ r. ⌜ answerNumber r ≡ heldIn self (walk blockBytes (s .area .0) (s .blocks) (now (img .entry)) (self .dir .0)) ⌝ }
+        ensures { λ r. ⌜ answerNumber r ≡ heldIn self (walk (areaIn s) (now (img .entry)) (self .dir .0)) ⌝ }
     {
         match self.entry(img, s) {
             Found::At(_, _) => Answer::Success,
@@ -246,7 +247,7 @@ impl Handle {
     // Refusal 11 by the handle's own fields, then 11 or 17 by its directory.
     pub fn check(self, img: &[u8], s: SuperBlock) -> Answer
         requires { ⌜ Fit s (now img) ⌝ }
-        ensures { λ r. ⌜ answerNumber r ≡ handleRefusal blockBytes (s .area .0) (s .blocks) (now (img .entry)) self ⌝ }
+        ensures { λ r. ⌜ answerNumber r ≡ handleRefusal (areaIn s) (now (img .entry)) self ⌝ }
     {
         if self.stale() {
             return Answer::Refused(Refusal::Stale);

@@ -2,7 +2,7 @@
 use block::LinkedBlock;
 ghost use mathlib.Core.Path.{_≡_};
 ghost use Prim.Native.Nat.{_-_, _<_, min};
-ghost use Rattle.block.specs.Block.{blockBytes};
+ghost use Rattle.block.specs.Block.{BlockSize};
 ghost use Rattle.limits.specs.Refusals.{refusalNumber};
 ghost use Rattle.model.specs.Volume.{blocksFor};
 
@@ -12,25 +12,23 @@ pub const FILE_LIMIT: u32 = 2_147_483_647;
 // The most levels of directories below the root, which is at depth 0.
 pub const MAX_DEPTH: u32 = 16;
 
-// A block's data bytes, as a file's size is counted.
-const CAPACITY: u32 = LinkedBlock::CAPACITY as u32;
-
-// How many blocks a file of that size has.
-pub fn blocks_for(size: u32) -> u32
-    ensures { λ r. ⌜ r ≡ blocksFor blockBytes size ⌝ }
+// How many blocks a file of that size has, where a block has block_size bytes.
+pub fn blocks_for(block_size: u32, size: u32) -> u32
+    requires { ⌜ BlockSize «block_size» ⌝ }
+    ensures { λ r. ⌜ r ≡ blocksFor «block_size» size ⌝ }
 {
     if size == 0 {
         return 1;
     }
-    (size - 1) / CAPACITY + 1
+    (size - 1) / (block_size - LinkedBlock::LINK) + 1
 }
 
-// How many of k bytes stand in a block from data byte o on.
-pub fn run_of(o: usize, k: usize) -> usize
-    requires { ⌜ o < 508 ⌝ }
-    ensures { λ r. ⌜ r ≡ min k (508 - o) ⌝ }
+// How many of k bytes stand from data byte o on in a block that has so many.
+pub fn run_of(capacity: usize, o: usize, k: usize) -> usize
+    requires { ⌜ o < capacity ⌝ }
+    ensures { λ r. ⌜ r ≡ min k (capacity - o) ⌝ }
 {
-    let room = LinkedBlock::CAPACITY - o;
+    let room = capacity - o;
     if k < room { k } else { room }
 }
 

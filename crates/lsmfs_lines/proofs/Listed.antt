@@ -14,6 +14,7 @@ use Rattle.wire.specs.Be.{be, bytes}
 use Rattle.wire.specs.Pick.{pick}
 use Rattle.wire.proofs.Numbers.{length-bytes}
 use Rattle.wire.proofs.Picks.{either, pick-true, pick-false}
+use Rattle.block.specs.Block.{Area}
 use Rattle.model.specs.Render.{Shows}
 use Rattle.model.specs.Steps.{Bytes}
 use Rattle.model.proofs.Areas.{row-inside}
@@ -130,13 +131,13 @@ text-records cap b w p =
 
 -- ---- the entries of a directory are such
 
-item-plain : (B D n : ℕ) (I : List ℕ) → Bytes I → n * B ≤ length I → (e : DirEntry) (a o : ℕ) (x : List ℕ) → Item B D n I e a o x → Plain e x
+item-plain : (A : Area) (I : List ℕ) → Bytes I → A .end * A .size ≤ length I → (e : DirEntry) (a o : ℕ) (x : List ℕ) → Item A I e a o x → Plain e x
 unfolding entryAt
-item-plain B D n I b h e a o x i =
-    let t = slot-stands B I a o e (i .stands) in
-    let q : ℕ = placeAt B a o in
+item-plain A I b h e a o x i =
+    let t = slot-stands (A .size) I a o e (i .stands) in
+    let q : ℕ = placeAt (A .size) a o in
     record {
-      len = ap length (i .name) ∙ length-name I q (e .len) (omega (arith, row-inside B n (length I) a h (i .below), t .ends));
+      len = ap length (i .name) ∙ length-name I q (e .len) (omega (arith, row-inside (A .size) (A .end) (length I) a h (i .below), t .ends));
       short = subst (λ (v : ℕ). v < 256) (ap (λ (y : DirEntry). y .len) (sym (t .is))) (b (q + 17));
       size = subst (λ (v : ℕ). v < 2 ^ 32) (ap (λ (y : DirEntry). y .size) (sym (t .is))) (be-fits 4 I (q + 5) b);
       time = subst (λ (v : ℕ). v < 2 ^ 64) (ap (λ (y : DirEntry). y .time) (sym (t .is))) (be-fits 8 I (q + 9) b);
@@ -154,12 +155,12 @@ each-skip P (suc i) (item e a o x w) p = each-skip P i w (p .1)
 each-skip P (suc i) finished p = tt
 each-skip P (suc i) damaged p = tt
 
-pub directory-plain : (B D n : ℕ) (I : List ℕ) (dir i : ℕ) → Bytes I → n * B ≤ length I → Each (λ e a o x. Plain e x) (skip i (walk B D n I dir))
-directory-plain B D n I dir i b h =
-    each-skip (λ e a o x. Plain e x) i (walk B D n I dir)
-    (each-map (Item B D n I) (λ e a o x. Plain e x) (item-plain B D n I b h) (walk B D n I dir) (chain-each B D n I (n - D) dir))
+pub directory-plain : (A : Area) (I : List ℕ) (dir i : ℕ) → Bytes I → A .end * A .size ≤ length I → Each (λ e a o x. Plain e x) (skip i (walk A I dir))
+directory-plain A I dir i b h =
+    each-skip (λ e a o x. Plain e x) i (walk A I dir)
+    (each-map (Item A I) (λ e a o x. Plain e x) (item-plain A I b h) (walk A I dir) (chain-each A I (A .end - A .first) dir))
 
 -- So the text of the records that a listing gives of any directory, from entry number i on, is the lines of these entries.
-pub text-directory : (B D n : ℕ) (I : List ℕ) (dir i cap : ℕ) → Bytes I → n * B ≤ length I
-    → textOf (recordsFrom cap 0 (skip i (walk B D n I dir))) ≡ linesFrom cap 0 (skip i (walk B D n I dir))
-text-directory B D n I dir i cap b h = text-records cap 0 (skip i (walk B D n I dir)) (directory-plain B D n I dir i b h)
+pub text-directory : (A : Area) (I : List ℕ) (dir i cap : ℕ) → Bytes I → A .end * A .size ≤ length I
+    → textOf (recordsFrom cap 0 (skip i (walk A I dir))) ≡ linesFrom cap 0 (skip i (walk A I dir))
+text-directory A I dir i cap b h = text-records cap 0 (skip i (walk A I dir)) (directory-plain A I dir i b h)

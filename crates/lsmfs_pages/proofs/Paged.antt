@@ -13,6 +13,7 @@ use borrow.Author.Tests.{ltb-true}
 use Rattle.wire.specs.Be.{splice}
 use Rattle.wire.specs.Pick.{pick, same}
 use Rattle.wire.proofs.Picks.{either, pick-true, pick-false}
+use Rattle.block.specs.Block.{Area}
 use Rattle.model.specs.Answers.{Reply, accepted, refused, andThen, when, firstOf, given}
 use Rattle.limits.specs.Refusals.{refusalNumber}
 use Rattle.limits.specs.declared.Refusal.{Refusal}
@@ -31,7 +32,7 @@ use Rattle.path.proofs.FullPaths.{root-good}
 use Rattle.dir.specs.Resolve.{resolve, openDir}
 use Rattle.call_read.specs.declared.Listing.{Listing}
 use Rattle.call_read.specs.declared.Listing.the-variants as listing
-use Rattle.call_read.specs.Reading.{Counts, countsOf, size, area, end, pathCall, listOn, listReply, recordsAt, recordsOn, listSays, onReply, Lists}
+use Rattle.call_read.specs.Reading.{Counts, countsOf, areaAt, pathCall, listOn, listReply, recordsAt, recordsOn, listSays, onReply, Lists}
 use Rattle.lsmfs_lines.specs.Text.{textOf}
 use Rattle.lsmfs_lines.proofs.Listed.{Plain, text-directory, directory-plain}
 use Rattle.lsmfs_pages.specs.Page.{rootFrom, pageText, textCounts, pageReply, Pages, PageFits, Turned}
@@ -41,9 +42,9 @@ use Rattle.lsmfs_pages.specs.Page.{rootFrom, pageText, textCounts, pageR
 abbrev pub root : List ℕ
 root = slash ∷ []
 
-root-opened : (B D n : ℕ) (I : List ℕ) → openDir B D n I (realPath root root) ≡ accepted D
+root-opened : (A : Area) (I : List ℕ) → openDir A I (realPath root root) ≡ accepted (A .first)
 unfolding realPath startsSlash pick steps same resolve
-root-opened B D n I = refl
+root-opened A I = refl
 
 first-alone : (k : ℕ) → firstOf (k ∷ (0 ∷ [])) ≡ k
 unfolding firstOf
@@ -60,14 +61,14 @@ module _ (M : Mount) (I : List ℕ) (i cap : ℕ) where
   root-reply : listReply M I root root i cap ≡ given (openRefusal M I) (countsOf (listFrom cap 0 i (rootFrom M I i)))
   unfolding listReply listOn andThen
   root-reply =
-      ap (λ (k : ℕ). given k (andThen (openDir (size M I) (area M I) (end M I) I (realPath root root)) (λ a. countsOf (listFrom cap 0 i (skip i (walk (size M I) (area M I) (end M I) I a))))))
+      ap (λ (k : ℕ). given k (andThen (openDir (areaAt M I) I (realPath root root)) (λ a. countsOf (listFrom cap 0 i (skip i (walk (areaAt M I) I a))))))
       (root-call M I)
-      ∙ ap (λ (r : Reply ℕ). given (openRefusal M I) (andThen r (λ a. countsOf (listFrom cap 0 i (skip i (walk (size M I) (area M I) (end M I) I a))))))
-      (root-opened (size M I) (area M I) (end M I) I)
+      ∙ ap (λ (r : Reply ℕ). given (openRefusal M I) (andThen r (λ a. countsOf (listFrom cap 0 i (skip i (walk (areaAt M I) I a))))))
+      (root-opened (areaAt M I) I)
 
-  root-records : recordsOn (size M I) (area M I) (end M I) I (realPath root root) i cap ≡ recordsFrom cap 0 (rootFrom M I i)
+  root-records : recordsOn (areaAt M I) I (realPath root root) i cap ≡ recordsFrom cap 0 (rootFrom M I i)
   unfolding recordsOn
-  root-records = ap (recordsAt (size M I) (area M I) (end M I) I i cap) (root-opened (size M I) (area M I) (end M I) I)
+  root-records = ap (recordsAt (areaAt M I) I i cap) (root-opened (areaAt M I) I)
 
 counts-records : (x : Listed) (b j : ℕ) → accepted (record { bytes = b; next = j }) ≡ countsOf x → x ≡ listed.Records b j
 counts-records (listed.Records c k) b j e =
@@ -115,11 +116,11 @@ module _ (M : Mount) (I : List ℕ) (i : ℕ) (rs rs₁ : List ℕ) (b : Bytes I
   told : listFrom (length rs) 0 i (rootFrom M I i) ≡ listed.Records n j
   told = counts-records (listFrom (length rs) 0 i (rootFrom M I i)) n j (opened .1)
 
-  inside : end M I * size M I ≤ length I
+  inside : areaAt M I .end * areaAt M I .size ≤ length I
   inside = opens-sound M I (opened .0) .0 .inside-image
 
   counted : (n ≡ 0 + length records) × (0 ≤ length rs → n ≤ length rs)
-  counted = told-bytes (length rs) 0 i (rootFrom M I i) n j (directory-plain (size M I) (area M I) (end M I) I (area M I) i b inside) told
+  counted = told-bytes (length rs) 0 i (rootFrom M I i) n j (directory-plain (areaAt M I) I (areaAt M I .first) i b inside) told
 
   records-fit : n ≤ length rs
   records-fit = counted .1 (omega arith)
@@ -127,7 +128,7 @@ module _ (M : Mount) (I : List ℕ) (i : ℕ) (rs rs₁ : List ℕ) (b : Bytes I
   given-records : rs₁ ≡ splice rs 0 records
   given-records =
       l .buffer
-      ∙ ap (λ (r : Reply Counts). onReply r (splice rs 0 (recordsOn (size M I) (area M I) (end M I) I (realPath root root) i (length rs))) rs) (sym (l .answer))
+      ∙ ap (λ (r : Reply Counts). onReply r (splice rs 0 (recordsOn (areaAt M I) I (realPath root root) i (length rs))) rs) (sym (l .answer))
       ∙ ap (splice rs 0) (root-records M I i (length rs))
 
   records-taken : take n rs₁ ≡ records
@@ -138,7 +139,7 @@ module _ (M : Mount) (I : List ℕ) (i : ℕ) (rs rs₁ : List ℕ) (b : Bytes I
 
   text-taken : textOf (take n rs₁) ≡ pageText M I i (length rs)
   unfolding pageText
-  text-taken = ap textOf records-taken ∙ text-directory (size M I) (area M I) (end M I) I (area M I) i (length rs) b inside
+  text-taken = ap textOf records-taken ∙ text-directory (areaAt M I) I (areaAt M I .first) i (length rs) b inside
 
   page-accepted : pageReply M I i (length rs) ≡ accepted (record { bytes = length (pageText M I i (length rs)); next = j })
   unfolding pageReply given

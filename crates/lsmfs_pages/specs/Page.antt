@@ -11,14 +11,14 @@ use Rattle.read_dir.specs.declared.Listed.the-variants as listed
 use Rattle.read_dir.specs.Walk.{Walk, item, finished, damaged, walk}
 use Rattle.read_dir.specs.Finds.{skip, listFrom}
 use Rattle.call_read.specs.declared.Listing.{Listing}
-use Rattle.call_read.specs.Reading.{Counts, size, area, end, listSays, onReply}
+use Rattle.call_read.specs.Reading.{Counts, areaAt, listSays, onReply}
 use Rattle.call_read.specs.declared.Listing.the-variants as listing
 use Rattle.lsmfs_lines.specs.Line.{lineOf}
 use Rattle.lsmfs_lines.specs.Text.{textOf, linesFrom}
 
 -- F11: the entries of the root, which begins in block D, from number i on.
 abbrev pub rootFrom : Mount → List ℕ → ℕ → Walk
-rootFrom M I i = skip i (walk (size M I) (area M I) (end M I) I (area M I))
+rootFrom M I i = skip i (walk (areaAt M I) I (areaAt M I .first))
 
 -- C16: a line for each of them whose record a page has room for
 unfoldable pub pageText : Mount → List ℕ → ℕ → ℕ → List ℕ

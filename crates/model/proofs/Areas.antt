@@ -8,7 +8,7 @@ use native.Mathlib.Omega.{arith}
 use lib.Dec.{lit<}
 use lib.ListN.{length}
 use Rattle.bits.specs.Bit.{bit}
-use Rattle.block.specs.Block.{blockBytes}
+use Rattle.block.specs.Block.{blockBytes, BlockSize}
 use Rattle.model.specs.Tree.{Tree}
 use Rattle.model.specs.Render.{blocks, count}
 use Rattle.model.specs.Geometry.{mount, Geo, blockSize, mapAt, dataAt, reach, mapBits, setBits, geo, Sound}
@@ -18,6 +18,12 @@ use Rattle.model.proofs.Counts.{ones-length}
 -- a block is no smaller than 512 bytes
 pub size-large : (g : Geo) → 512 ≤ blockSize g
 size-large g = let h : 1 ≤ 2 ^ (g .code) = one-le-pow (g .code) 2 (lit< tt) in omega arith
+
+-- and of sound numbers it is a size that blocks have
+pub size-known : (g : Geo) (len : ℕ) → Sound g len → BlockSize (blockSize g)
+size-known g len s =
+    let e : blockSize g ≡ 512 = ap (λ (c : ℕ). blockBytes * 2 ^ c) (s .known .1) in
+    record { least = omega arith; most = omega arith }
 
 -- sound numbers are those of K and n
 pub sound-geo : (g : Geo) (len : ℕ) → Sound g len → g ≡ geo (mount (g .K)) (g .n)

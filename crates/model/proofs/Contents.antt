@@ -2,14 +2,15 @@
 use mathlib.Core.Path.{_≡_, refl, sym, ap, _∙_}
 use mathlib.Core.Option.{Option, none, some}
 use mathlib.Core.List.{List, [], _∷_, _++_, append-assoc}
-use Prim.Native.Nat.{ℕ, zero, suc, _+_, _-_, _*_, _/_, _%_, _≤_, _<_}
-use native.Mathlib.Nat.{add-comm, mul-zero, mul-suc, mul-add, mul-comm, mul-le-mul-left, div-add-mod, mod-lt, div-lt-iff-lt-mul, le-max-left, le-max-right, max-le}
+use Prim.Native.Nat.{ℕ, zero, suc, _+_, _-_, _*_, _^_, _/_, _%_, _≤_, _<_}
+use native.Mathlib.Nat.{add-comm, mul-zero, mul-suc, mul-add, mul-comm, mul-le-mul-left, div-add-mod, mod-lt, div-lt-iff-lt-mul, div-eq-of-lt, div-le-self, add-mul-div-left, le-max-left, le-max-right, max-le}
 use native.Mathlib.Decide.{decLt}
 use native.Mathlib.Omega.{arith}
 use lib.ListN.{length, getD, take, drop, length-append, length-drop, length-replicate, getD-replicate, List·getD-append, List·getD-eq-default}
 use lib.Seq.{length-take-le, take-append-le, take-at, take-add, take-take, getD-take, getD-append-add}
 use Rattle.wire.specs.Be.{splice, zeros}
 use Rattle.wire.proofs.Numbers.{length-splice, splice-after}
+use Rattle.block.specs.Block.{BlockSize}
 use Rattle.block.proofs.Blocks.{block-below}
 use Rattle.model.specs.Tree.{Name, Cell, Node, file, device, sub, Entry, Block, Tree, then, lookup, change, Edit, renewed, renew, atEnd, edit, inside}
 use Rattle.model.specs.Volume.{All, fileLimit, blocksFor, GoodCell, GoodFile}
@@ -62,13 +63,23 @@ length-places (c ∷ cs) = ap suc (length-places cs)
 -- ---- how many blocks a size needs
 
 -- as code computes it
-pub blocks-none : (s : ℕ) → s ≡ 0 → 1 ≡ blocksFor 512 s
-unfolding blocksFor
-blocks-none s e = omega arith
+module _ {B : ℕ} (b : BlockSize B) where
+  pub blocks-none : (s : ℕ) → s ≡ 0 → 1 ≡ blocksFor B s
+  unfolding blocksFor
+  blocks-none s e =
+      let q : (s + (B - 5)) / (B - 4) ≡ 0 = div-eq-of-lt (omega (arith, b .least)) in
+      omega (arith, q)
 
-pub blocks-last : (s : ℕ) → (s ≡ 0 → ⊥) → (s - 1) / 508 + 1 ≡ blocksFor 512 s
-unfolding blocksFor
-blocks-last s e = omega arith
+  -- and it is a number of 32 bits
+  pub count-fits : (s : ℕ) → s < 2 ^ 32 → (s ≡ 0 → ⊥) → (s - 1) / (B - 4) + 1 < 2 ^ 32
+  count-fits s h z = omega (arith, div-le-self (s - 1) (B - 4))
+
+  pub blocks-last : (s : ℕ) → (s ≡ 0 → ⊥) → (s - 1) / (B - 4) + 1 ≡ blocksFor B s
+  unfolding blocksFor
+  blocks-last s e =
+      let m : s + (B - 5) ≡ s - 1 + (B - 4) * 1 = omega (arith, b .least) in
+      let q : (s + (B - 5)) / (B - 4) ≡ (s - 1) / (B - 4) + 1 = ap (λ (x : ℕ). x / (B - 4)) m ∙ add-mul-div-left (s - 1) 1 (omega (arith, b .least)) in
+      omega (arith, q)
 
 module _ (B : ℕ) (five : 5 ≤ B) where
   -- at least one

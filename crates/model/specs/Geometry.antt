@@ -8,7 +8,7 @@ use lib.ListN.{length, take, drop}
 use Rattle.wire.specs.Be.{be, bytes}
 use Rattle.wire.specs.Pick.{same}
 use Rattle.bits.specs.Bit.{ones}
-use Rattle.block.specs.Block.{blockBytes}
+use Rattle.block.specs.Block.{Area, blockBytes}
 use Rattle.model.specs.Render.{padded}
 use Rattle.model.specs.Answers.{when, firstOf}
 
@@ -59,6 +59,10 @@ dataAt g = mapAt g + (rest g + mapSize g) / (mapSize g + 1)
 -- F4: how many indexes allocation looks at. The second number is rounded down, so the last blocks may be out of reach.
 unfoldable pub reach : Geo → ℕ
 reach g = min (g .n - dataAt g) (mapSize g * (g .n / mapSize g))
+
+-- F3: the data area.
+abbrev pub areaOf : Geo → Area
+areaOf g = record { size = blockSize g; first = dataAt g; end = g .n }
 
 -- All the bits of the bitmap: of blocks a to D-1.
 abbrev pub mapBits : Geo → ℕ

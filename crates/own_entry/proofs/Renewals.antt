@@ -2,8 +2,10 @@
 use mathlib.Core.Path.{_≡_, sym, ap, _∙_, subst}
 use mathlib.Core.List.{List}
 use Prim.Native.Nat.{ℕ}
+use Rattle.block.specs.Block.{Area}
 use Rattle.super_block.specs.declared.SuperBlock.{SuperBlock}
-use Rattle.super_block.specs.Super.{geoOf, Fit}
+use Rattle.super_block.specs.Super.{areaIn, geoOf, Fit}
+use Rattle.super_block.proofs.Fits.{area-is}
 use Rattle.read_dir.specs.declared.Place.{Place}
 use Rattle.read_dir.specs.declared.Summed.{Summed}
 use Rattle.read_dir.specs.declared.Summed.the-variants.{Total, Damaged}
@@ -13,21 +15,22 @@ use Rattle.own_entry.specs.declared.Own.{Own}
 use Rattle.own_entry.specs.declared.Own.the-variants.{At}
 use Rattle.own_entry.specs.Own.{OwnIn, ownRenewed, ownSummed, sumRenewed}
 
-pub own-at : (I : List ℕ) (o : Own) (p : Place) → o ≡ At p → OwnIn I o → OwnIn I (At p)
-own-at I o p e h = subst (OwnIn I) e h
+module _ (B : ℕ) (I : List ℕ) (o : Own) (p : Place) (e : o ≡ At p) where
+  pub own-at : OwnIn B I o → OwnIn B I (At p)
+  own-at h = subst (OwnIn B I) e h
 
-pub renewed-at : (I J : List ℕ) (o : Own) (p : Place) (z k : ℕ) → o ≡ At p → J ≡ ownRenewed 512 I (At p) z k → J ≡ ownRenewed 512 I o z k
-renewed-at I J o p z k e h = h ∙ ap (λ (x : Own). ownRenewed 512 I x z k) (sym e)
+  pub renewed-at : (J : List ℕ) (z k : ℕ) → J ≡ ownRenewed B I (At p) z k → J ≡ ownRenewed B I o z k
+  renewed-at J z k h = h ∙ ap (λ (x : Own). ownRenewed B I x z k) (sym e)
 
 -- ---- the sum of the directory
 
-pub sum-told : (s : SuperBlock) (I J : List ℕ) (dir : ℕ) (own : Own) (time z : ℕ) (r : Summed) → Fit s I → r ≡ sumFrom 0 (walk 512 (s .area .0) (s .blocks) I dir)
-    → r ≡ Total z → J ≡ ownRenewed 512 I own z time → J ≡ sumRenewed (geoOf s) I dir own time
-unfolding sumRenewed
-sum-told s I J dir own time z r f e q h =
-    h ∙ ap (ownSummed 512 I own time) (sym q ∙ e ∙ ap (λ (d : ℕ). sumFrom 0 (walk 512 d (s .blocks) I dir)) (f .area))
+module _ (s : SuperBlock) (I : List ℕ) (dir : ℕ) (own : Own) (time : ℕ) (r : Summed) (f : Fit s I) (e : r ≡ sumFrom 0 (walk (areaIn s) I dir)) where
+  renewed-by : ownSummed (s .size) I own time r ≡ sumRenewed (geoOf s) I dir own time
+  unfolding sumRenewed
+  renewed-by = ap (ownSummed (s .size) I own time) e ∙ ap (λ (A : Area). ownSummed (A .size) I own time (sumFrom 0 (walk A I dir))) (area-is f)
 
-pub sum-damaged : (s : SuperBlock) (I : List ℕ) (dir : ℕ) (own : Own) (time : ℕ) (r : Summed) → Fit s I → r ≡ sumFrom 0 (walk 512 (s .area .0) (s .blocks) I dir)
-    → r ≡ Damaged → I ≡ sumRenewed (geoOf s) I dir own time
-unfolding sumRenewed
-sum-damaged s I dir own time r f e q = ap (ownSummed 512 I own time) (sym q ∙ e ∙ ap (λ (d : ℕ). sumFrom 0 (walk 512 d (s .blocks) I dir)) (f .area))
+  pub sum-told : (J : List ℕ) (z : ℕ) → r ≡ Total z → J ≡ ownRenewed (s .size) I own z time → J ≡ sumRenewed (geoOf s) I dir own time
+  sum-told J z q h = h ∙ ap (ownSummed (s .size) I own time) (sym q) ∙ renewed-by
+
+  pub sum-damaged : r ≡ Damaged → I ≡ sumRenewed (geoOf s) I dir own time
+  sum-damaged q = ap (ownSummed (s .size) I own time) (sym q) ∙ renewed-by

@@ -9,7 +9,7 @@ use Rattle.block.specs.Block.{cell, Off, Kept}
 use Rattle.block.proofs.Blocks.{kept-trans, kept-less}
 use Rattle.model.specs.Tree.{Name, Tree, sum, Edit, edit, Some, find}
 use Rattle.model.specs.Render.{Piece, blocksAt, render, ats, count, blocks, ownTime, ShowsAll}
-use Rattle.model.specs.Geometry.{Geo, blockSize, mapAt, dataAt, mapBits, superBytes, Sound}
+use Rattle.model.specs.Geometry.{areaOf, Geo, blockSize, mapAt, dataAt, mapBits, superBytes, Sound}
 use Rattle.model.specs.Volume.{All, Volume}
 use Rattle.model.specs.Calls.{Makes}
 use Rattle.model.proofs.Areas.{area, size-large}
@@ -180,6 +180,6 @@ sum-makes g I J d t p now f s left own v h m o small =
       stored = record { shown = c .shown; once = λ i. omega (arith, c .fresh i, sub-blocks (blockSize g) d p t s h i); range = c .inside };
       good = c .good;
     } in
-    let e = ap (λ (a : ℕ). sumFrom 0 (walk (blockSize g) (dataAt g) (g .n) J a)) (sym (c .first)) ∙ part-sum g J (s .0) (f (s .0) (s .1)) q in
+    let e = ap (λ (a : ℕ). sumFrom 0 (walk (areaOf g) J a)) (sym (c .first)) ∙ part-sum g J (s .0) (f (s .0) (s .1)) q in
     subst (λ (z : Summed). Makes g d (edit d p (λ _. now) f t) left I (ownSummed (blockSize g) J own now z)) (sym e)
     (renewed-makes g I J d t p now f s left own v h m o small)

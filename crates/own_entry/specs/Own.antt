@@ -5,10 +5,9 @@ use mathlib.Core.List.{List, []}
 use Prim.Native.Nat.{ℕ, _+_, _-_, _*_, _≤_}
 use lib.ListN.{length}
 use Rattle.wire.specs.Be.{bytes, splice}
-use Rattle.block.specs.Block.{blockBytes}
 use Rattle.model.specs.Tree.{Name, Tree}
 use Rattle.model.specs.Render.{ownTime}
-use Rattle.model.specs.Geometry.{Geo, blockSize, dataAt}
+use Rattle.model.specs.Geometry.{areaOf, Geo, blockSize}
 use Rattle.dir_entry.specs.Entry.{header, placeAt}
 use Rattle.read_dir.specs.declared.Summed.{Summed}
 use Rattle.read_dir.specs.declared.Summed.the-variants.{Total, Damaged}
@@ -18,9 +17,9 @@ use Rattle.own_entry.specs.declared.Own.{Own}
 use Rattle.own_entry.specs.declared.Own.the-variants.{Root, At}
 
 -- The entry's fixed part lies in the image.
-abbrev pub OwnIn : List ℕ → Own → Type 0
-OwnIn I Root = Unit {0}
-OwnIn I (At p) = (blockBytes * p .block .0 + blockBytes ≤ length I) × (p .offset + header ≤ blockBytes - 5)
+abbrev pub OwnIn : ℕ → List ℕ → Own → Type 0
+OwnIn B I Root = Unit {0}
+OwnIn B I (At p) = (B * p .block .0 + B ≤ length I) × (p .offset + header ≤ B - 5)
 
 -- C13: the own entry with size z in its bytes 5 to 8 and time k in 9 to 16; the root has none.
 abbrev pub ownRenewed : ℕ → List ℕ → Own → ℕ → ℕ → List ℕ
@@ -33,7 +32,7 @@ ownSummed B I own time (Total z) = ownRenewed B I own z time
 ownSummed B I own time Damaged = I
 
 unfoldable pub sumRenewed : Geo → List ℕ → ℕ → Own → ℕ → List ℕ
-sumRenewed g I dir own time = ownSummed (blockSize g) I own time (sumFrom 0 (walk (blockSize g) (dataAt g) (g .n) I dir))
+sumRenewed g I dir own time = ownSummed (blockSize g) I own time (sumFrom 0 (walk (areaOf g) I dir))
 
 -- That is where the own entry of the directory at path p of the tree stands: the root's path is empty, and it has none.
 abbrev pub OwnOf : ℕ → (d : ℕ) → List Name → Tree d → Own → Type 0

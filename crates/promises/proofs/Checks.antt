@@ -11,7 +11,7 @@ use lib.ListN.{length}
 use borrow.Author.Tests.{le-ltb}
 use Rattle.wire.proofs.Picks.{either}
 use Rattle.model.specs.Answers.{when, firstOf}
-use Rattle.model.specs.Geometry.{Mount, geoAt, badImage, badMark, badCount, openRefusal}
+use Rattle.model.specs.Geometry.{Mount, geoAt, badCode, badImage, badMark, badCount, openRefusal}
 use Rattle.model.specs.Volume.{WellFormed}
 use Rattle.model.specs.Steps.{Bytes}
 use Rattle.model.proofs.OneVolume.{well-formed-opens}
@@ -39,19 +39,24 @@ module _ (M : Mount) (I : List ℕ) where
   abbrev second : List ℕ
   second = when 2 (badMark M I) ∷ third
 
+  abbrev first : List ℕ
+  first = when 1 (badImage M (length I)) ∷ second
+
   abbrev all : List ℕ
-  all = when 1 (badImage M (length I)) ∷ second
+  all = when 2 (badCode M) ∷ first
 
   open-small : openRefusal M I ≤ 3
   unfolding openRefusal
-  open-small = go (first-when 1 _ second (omega arith)) (first-when 2 _ third (omega arith)) (first-when 3 _ [] (omega arith))
+  open-small =
+      go (first-when 2 _ first (omega arith)) (first-when 1 _ second (omega arith)) (first-when 2 _ third (omega arith)) (first-when 3 _ [] (omega arith))
     where
-      go : (firstOf all ≡ 1) ⊎ (firstOf all ≡ firstOf second) → (firstOf second ≡ 2) ⊎ (firstOf second ≡ firstOf third)
-          → (firstOf third ≡ 3) ⊎ (firstOf third ≡ firstOf []) → firstOf all ≤ 3
-      go (inl a) b c = omega arith
-      go (inr a) (inl b) c = omega arith
-      go (inr a) (inr b) (inl c) = omega arith
-      go (inr a) (inr b) (inr c) = omega (arith, first-of-none)
+      go : (firstOf all ≡ 2) ⊎ (firstOf all ≡ firstOf first) → (firstOf first ≡ 1) ⊎ (firstOf first ≡ firstOf second)
+          → (firstOf second ≡ 2) ⊎ (firstOf second ≡ firstOf third) → (firstOf third ≡ 3) ⊎ (firstOf third ≡ firstOf []) → firstOf all ≤ 3
+      go (inl z) a b c = omega arith
+      go (inr z) (inl a) b c = omega arith
+      go (inr z) (inr a) (inl b) c = omega arith
+      go (inr z) (inr a) (inr b) (inl c) = omega arith
+      go (inr z) (inr a) (inr b) (inr c) = omega (arith, first-of-none)
 
 call-small : (M : Mount) (I : List ℕ) (len : ℕ) → checkCall M I len ≤ 16
 unfolding checkCall

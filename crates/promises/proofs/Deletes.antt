@@ -13,7 +13,7 @@ use Rattle.wire.proofs.Picks.{either, not-both}
 use Rattle.model.specs.Answers.{Reply, accepted, refused, andThen, when, reply, given}
 use Rattle.model.specs.Tree.{Name, Node, file, device, sub, Entry, Block, Below, entriesOf, Absent, lookup, Some, NoEntries, Bare}
 use Rattle.model.specs.Render.{blocksAt}
-use Rattle.model.specs.Geometry.{Mount, blockSize, dataAt, geoAt}
+use Rattle.model.specs.Geometry.{Mount, blockSize, areaOf, geoAt}
 use Rattle.model.specs.Volume.{WellFormed, maxDepth}
 use Rattle.model.specs.Calls.{Vacant, Occupied}
 use Rattle.model.specs.Steps.{Bytes}
@@ -109,7 +109,7 @@ module _ (M : Mount) (I W : List ℕ) (b : Bytes I) (w : WellFormed M I) (long :
 
   -- a name that is not there
   nothing-in : (h : Hold)
-      → findIn (lastOf cwd p) (walk (blockSize (geoAt M I)) (dataAt (geoAt M I)) (geoAt M I .n) I (h .dir)) ≡ found.Missing
+      → findIn (lastOf cwd p) (walk (areaOf (geoAt M I)) I (h .dir)) ≡ found.Missing
       → doomedIn (geoAt M I) I (lastOf cwd p) h ≡ refused 5
   unfolding doomedIn
   nothing-in h e = rw e
@@ -125,7 +125,7 @@ module _ (M : Mount) (I W : List ℕ) (b : Bytes I) (w : WellFormed M I) (long :
       = hold-is (geoAt M I) I maxDepth (w .tree) _ (wayOf cwd p) laid (h .0) (h .1) in
       let z : some s ≡ some (q .there) = sym (v .there) ∙ q .found in
       let y : s ≡ q .there = cc in
-      let found-from : ℕ → Found = λ a. findIn n (walk (blockSize (geoAt M I)) (dataAt (geoAt M I)) (geoAt M I .n) I a) in
+      let found-from : ℕ → Found = λ a. findIn n (walk (areaOf (geoAt M I)) I a) in
       let f : found-from (h .0 .dir) ≡ found.Missing
       = ap found-from (sym (ap (λ (x : Some). blocksAt (x .1)) y ∙ q .starts))
       ∙ find-missing (geoAt M I) I maxDepth (w .tree) _ (wayOf cwd p) s laid (v .there) n (v .free) in

@@ -42,7 +42,7 @@ use Rattle.write.specs.Written.{countedSays}
 use Rattle.handle.proofs.Seeks.{fresh}
 use Rattle.write.proofs.Aims.{aim-empty}
 use Rattle.write.proofs.Targets.{accepted-is, no-room, stale-is, long-is}
-use Rattle.call_read.specs.Reading.{size, area, end, readCall, Reads}
+use Rattle.call_read.specs.Reading.{areaAt, readCall, Reads}
 use Rattle.call_change.specs.Changing.{writeReply, Writes}
 use Rattle.thm_calls.specs.Handles.{HandleOf}
 use Rattle.thm_calls.proofs.Calls.{read-file, read-bytes}
@@ -274,11 +274,11 @@ module _ (M : Mount) (I : List ℕ) (w : WellFormed M I) (h : Handle) (q : List 
   -- the read's number and bytes are the tree's
   abbrev Shown : ℕ → Type 0
   Shown len = ((readCall M I h len ≡ 0) × (readNumber h (w .tree) ≡ 0)
-      × (bytesRead (size M I) (area M I) (end M I) I h len ≡ file-bytes len))
+      × (bytesRead (areaAt M I) I h len ≡ file-bytes len))
       ⊎ ((readCall M I h len ≡ 11) × (readNumber h (w .tree) ≡ 11))
 
   -- 1, 2 and 3 are not given
-  call-is : (len : ℕ) → readCall M I h len ≡ readRefusal (size M I) (area M I) (end M I) I h len
+  call-is : (len : ℕ) → readCall M I h len ≡ readRefusal (areaAt M I) I h len
   unfolding readCall
   call-is len = first-of-tail _ _ (well-formed-opens M I w) ∙ first-of-one _
 
@@ -324,7 +324,7 @@ module _ (M : Mount) (I : List ℕ) (w : WellFormed M I) (h : Handle) (q : List 
   shown len = go (either (staleFields h)) (numbered (geoAt M I) I (w .tree) (volume-at M I w) h)
     where
       lost : staleFields h ≡ false → staleBy h (fileBy h (w .tree)) ≡ 11
-          → FileThere (s .dir) h ⊎ ((len : ℕ) → readRefusal (size M I) (area M I) (end M I) I h len ≡ 11) → Shown len
+          → FileThere (s .dir) h ⊎ ((len : ℕ) → readRefusal (areaAt M I) I h len ≡ 11) → Shown len
       lost a e (inl x) = absurd (omega (arith, e, not-stale x))
       lost a e (inr r) = inr (call-is len ∙ r len, passes 11 _ a ∙ first-of-one _ ∙ e)
 
@@ -342,7 +342,7 @@ module _ (M : Mount) (I : List ℕ) (w : WellFormed M I) (h : Handle) (q : List 
   reads buf out o c = go (shown (length buf)) (counts h (o .handle) vs buf out (readCall M I h (length buf)) (o .answer) c)
     where
       vs : List ℕ
-      vs = bytesRead (size M I) (area M I) (end M I) I h (length buf)
+      vs = bytesRead (areaAt M I) I h (length buf)
 
       Gives : List ℕ → ℕ → Type 0
       Gives bs k =

@@ -31,7 +31,7 @@ use Rattle.thm_path.proofs.Resolves.{lookup-name, resolve-way}
 use Rattle.call_read.specs.declared.OpenOut.{OpenOut}
 use Rattle.call_read.specs.declared.InfoOut.{InfoOut}
 use Rattle.call_read.specs.declared.Listing.{Listing}
-use Rattle.call_read.specs.Reading.{size, area, end, pathCall, openEntry, openOn, openReply, openSays, Opens, About, about, aboutEntry}
+use Rattle.call_read.specs.Reading.{size, areaAt, pathCall, openEntry, openOn, openReply, openSays, Opens, About, about, aboutEntry}
 use Rattle.call_read.specs.Reading.{aboutRoot, infoOn, infoReply, infoSays, Informs, Counts, listOn, listReply, recordsOn, onReply}
 use Rattle.call_read.specs.Reading.{listSays, Lists}
 use Rattle.thm_calls.specs.Named.{wayOf, lastOf, allOf}
@@ -97,16 +97,16 @@ module _ (M : Mount) (I : List ℕ) (w : WellFormed M I) (cwd p : List ℕ) wher
   unfolding openReply openOn openAnswer
   opens o c =
       c .answer
-      ∙ ap (λ (k : ℕ). given k (openOn (size M I) (area M I) (end M I) I (realPath cwd p))) call-is
+      ∙ ap (λ (k : ℕ). given k (openOn (areaAt M I) I (realPath cwd p))) call-is
       ∙ ap (given (pathRefusal cwd p))
       (entry-then (geoAt M I) I (w .tree) _ laid (realPath cwd p) (openEntry (lastOf cwd p))
       (λ (x : Spot). openNode (blocksAt (x .0 .1)) (lastOf cwd p) (x .1 .node))
       (λ s e k. open-spot (size M I) (lastOf cwd p) s e))
 
-  root-sum : aboutRoot (sumFrom 0 (walk (size M I) (area M I) (end M I) I (area M I))) ≡ accepted (about Dir (sum (w .tree)) 0 [])
+  root-sum : aboutRoot (sumFrom 0 (walk (areaAt M I) I (areaAt M I .first))) ≡ accepted (about Dir (sum (w .tree)) 0 [])
   unfolding find
   root-sum =
-      ap (λ (a : ℕ). aboutRoot (sumFrom 0 (walk (size M I) (area M I) (end M I) I a))) (sym (laid .root))
+      ap (λ (a : ℕ). aboutRoot (sumFrom 0 (walk (areaAt M I) I a))) (sym (laid .root))
       ∙ ap aboutRoot (sum-is (geoAt M I) I maxDepth (w .tree) _ [] (maxDepth, w .tree) laid refl)
 
   pub informs : (o : InfoOut) → Informs M I cwd p o → infoSays o ≡ infoAnswer (blockSize (geoAt M I)) cwd p (w .tree)
@@ -114,9 +114,9 @@ module _ (M : Mount) (I : List ℕ) (w : WellFormed M I) (cwd p : List ℕ) wher
   informs o c =
       let entry = andThen (entryAt (wayOf cwd p) (lastOf cwd p) (w .tree)) (aboutSpot (size M I)) in
       c .answer
-      ∙ ap (λ (k : ℕ). given k (infoOn (size M I) (area M I) (end M I) I (realPath cwd p) p)) call-is
+      ∙ ap (λ (k : ℕ). given k (infoOn (areaAt M I) I (realPath cwd p) p)) call-is
       ∙ ap (λ (r : Reply About). given (pathRefusal cwd p)
-      (pick (same p (slash ∷ [])) (aboutRoot (sumFrom 0 (walk (size M I) (area M I) (end M I) I (area M I)))) r))
+      (pick (same p (slash ∷ [])) (aboutRoot (sumFrom 0 (walk (areaAt M I) I (areaAt M I .first)))) r))
       (entry-then (geoAt M I) I (w .tree) _ laid (realPath cwd p) (aboutEntry (lastOf cwd p)) (aboutSpot (size M I))
       (λ s e k. about-spot (size M I) (lastOf cwd p) s e k))
       ∙ ap (λ (r : Reply About). given (pathRefusal cwd p) (pick (same p (slash ∷ [])) r entry)) root-sum
@@ -133,7 +133,7 @@ module _ (M : Mount) (I : List ℕ) (w : WellFormed M I) (cwd p : List ℕ) wher
     list-refused k a b = (
       c .answer ∙ a ∙ sym (and-then-no k _ b),
       c .buffer ∙ ap (λ (r : Reply Counts). onReply r
-          (splice buf 0 (recordsOn (size M I) (area M I) (end M I) I (realPath cwd p) i (length buf))) buf) a
+          (splice buf 0 (recordsOn (areaAt M I) I (realPath cwd p) i (length buf))) buf) a
           ∙ sym (splice-none buf) ∙ ap (λ (r : Reply Some). splice buf 0 (recordsIn (size M I) i (length buf) r)) (sym b),
     )
 
@@ -145,7 +145,7 @@ module _ (M : Mount) (I : List ℕ) (w : WellFormed M I) (cwd p : List ℕ) wher
         let a = list-counts M I w cwd p good s found i (length buf) in (
           c .answer ∙ a ∙ sym (and-then-ok s _ b),
           c .buffer ∙ ap (λ (r : Reply Counts). onReply r
-              (splice buf 0 (recordsOn (size M I) (area M I) (end M I) I (realPath cwd p) i (length buf))) buf) a
+              (splice buf 0 (recordsOn (areaAt M I) I (realPath cwd p) i (length buf))) buf) a
               ∙ ap (splice buf 0) (list-records M I w cwd p good s found i (length buf))
               ∙ ap (λ (r : Reply Some). splice buf 0 (recordsIn (size M I) i (length buf) r)) (sym b),
         )

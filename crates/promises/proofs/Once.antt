@@ -10,7 +10,7 @@ use Rattle.handle.specs.Post.{MovedIs}
 use Rattle.file_read.specs.Post.{CountedIs}
 use Rattle.limits.specs.declared.Answer.{Answer}
 use Rattle.call_volume.specs.Says.{IfRefused}
-use Rattle.call_read.specs.Reading.{Counts, noHandle, noAbout, aboutOf, onReply, size, area, end, recordsOn, readCall}
+use Rattle.call_read.specs.Reading.{Counts, noHandle, noAbout, aboutOf, onReply, areaAt, recordsOn, readCall}
 use Rattle.file_read.specs.Read.{bytesRead}
 use Rattle.path.specs.Path.{realPath}
 use Rattle.call_room.proofs.Means.{room-one}
@@ -56,10 +56,10 @@ refusal-keeps =
       informs = λ M I cwd p o j c e.
           subst (λ (y : Answer). IfRefused y (aboutOf o ≡ noAbout)) (value-refused (o .answer) (aboutOf o) j e .1) (c .empty);
       lists = λ M I cwd p n buf out q j c e.
-          let records : List ℕ = recordsOn (size M I) (area M I) (end M I) I (realPath cwd p) n (length buf) in
+          let records : List ℕ = recordsOn (areaAt M I) I (realPath cwd p) n (length buf) in
           c .buffer ∙ ap (λ (r : Reply Counts). onReply r (splice buf 0 records) buf) (sym (c .answer) ∙ e);
       reads = λ M I h buf out o j c e.
-          let vs : List ℕ = bytesRead (size M I) (area M I) (end M I) I h (length buf) in
+          let vs : List ℕ = bytesRead (areaAt M I) I h (length buf) in
           let x = count-refused (o .answer) j e in
           let k = subst (CountedIs (readCall M I h (length buf)) h (o .handle) vs buf out) (x .1) c in
           (k .handle, k .kept);

@@ -1,22 +1,22 @@
 -- After the check and the walk the own entry of the holding directory is there.
-use mathlib.Core.Path.{_≡_, refl, _∙_}
+use mathlib.Core.Path.{_≡_, refl}
 use mathlib.Core.List.{List}
 use Prim.Native.Nat.{ℕ, _≤_}
 use native.Mathlib.Omega.{arith}
 use Rattle.model.specs.Answers.{accepted}
-use Rattle.model.specs.Geometry.{Mount, geoAt, blockSize, dataAt}
+use Rattle.model.specs.Geometry.{Mount, geoAt, blockSize, areaOf}
 use Rattle.model.specs.Volume.{maxDepth}
 use Rattle.model.specs.Steps.{Bytes}
 use Rattle.limits.specs.Refusals.{refusalNumber}
 use Rattle.limits.specs.declared.Refusal.{Refusal}
 use Rattle.limits.specs.declared.Refusal.the-variants.{BadImage, NotMfs, BadCount, BadPath, NotFound, WrongKind, Exists, BadName, NoRoom, TooLarge, Stale, BadSeek, EmptyWrite, NotEmpty, TooDeep, ShortWork, Damaged}
 use Rattle.super_block.specs.declared.SuperBlock.{SuperBlock}
-use Rattle.super_block.specs.Super.{superBlock, Fit}
+use Rattle.super_block.specs.Super.{superBlock}
 use Rattle.super_block.proofs.Fits.{opened-fit}
 use Rattle.own_entry.specs.Own.{OwnIn}
 use Rattle.path.specs.Path.{realPath, dirPart}
 use Rattle.dir.specs.Hold.{Hold, holdDir}
-use Rattle.dir.proofs.HoldLaws.{hold-inside, hold-numbers}
+use Rattle.dir.proofs.HoldLaws.{hold-inside}
 use Rattle.thm_path.proofs.Holding.{own-there}
 use Rattle.call_volume.specs.Checking.{checkRefusal}
 use Rattle.call_volume.proofs.Checked.{check-passed}
@@ -25,11 +25,10 @@ use Rattle.thm_calls.proofs.Changing.{volume-at}
 use Rattle.promises.specs.OwnEntry.{OwnEntryThere}
 
 own-inside : (M : Mount) (I : List ℕ) (len : ℕ) → Bytes I → checkRefusal M I len ≡ 0 → (cwd p : List ℕ) (h : Hold)
-    → holdDir (blockSize (geoAt M I)) (dataAt (geoAt M I)) (geoAt M I .n) I (dirPart (realPath cwd p)) ≡ accepted h → OwnIn I (h .own)
+    → holdDir (areaOf (geoAt M I)) I (dirPart (realPath cwd p)) ≡ accepted h → OwnIn (blockSize (geoAt M I)) I (h .own)
 own-inside M I len b e cwd p h q =
     let s : SuperBlock = superBlock (geoAt M I) in
-    let f : Fit s I = opened-fit M I s (check-passed M I len b e .1) refl in
-    hold-inside s I f (dirPart (realPath cwd p)) h (hold-numbers s I f (dirPart (realPath cwd p)) ∙ q)
+    hold-inside s I (opened-fit M I s (check-passed M I len b e .1) refl) (dirPart (realPath cwd p)) h q
 
 -- The last is 17: the number 18 is not used.
 number-few : (r : Refusal) → refusalNumber r ≤ 17

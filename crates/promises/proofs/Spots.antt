@@ -9,7 +9,7 @@ use lib.ListN.{length}
 use Rattle.model.specs.Answers.{Reply, accepted, refused, andThen}
 use Rattle.model.specs.Tree.{Name, Entry, Below, Tree, Absent, lookup, Some, find}
 use Rattle.model.specs.Render.{blocksAt, view}
-use Rattle.model.specs.Geometry.{Geo, blockSize, dataAt}
+use Rattle.model.specs.Geometry.{areaOf, Geo, blockSize, dataAt}
 use Rattle.model.specs.Volume.{GoodBelow, Laid, maxDepth}
 use Rattle.model.proofs.Full.{good-lookup, good-find}
 use Rattle.model.proofs.Lists.{not-some}
@@ -61,10 +61,10 @@ module _ (g : Geo) (I : List ℕ) (t : Tree maxDepth) (u : ℕ) (l : Laid g I ma
   -- The holding directory that a create or a delete finds is the way's, and a way that stops stops there too, with the same
   -- number.
   pub hold-stops : (p : List Name) (k : ℕ) → wayTo maxDepth p t ≡ refused k
-      → holdFrom (blockSize g) (dataAt g) (g .n) I p (rootHold (dataAt g)) ≡ refused k
+      → holdFrom (areaOf g) I p (rootHold (dataAt g)) ≡ refused k
   hold-stops p k e =
-      first-refused (holdFrom (blockSize g) (dataAt g) (g .n) I p (rootHold (dataAt g))) (λ h. h .dir) k
-      (hold-resolve (blockSize g) (dataAt g) (g .n) I p (rootHold (dataAt g)) ∙ resolve-way g I maxDepth t u p l
+      first-refused (holdFrom (areaOf g) I p (rootHold (dataAt g))) (λ h. h .dir) k
+      (hold-resolve (areaOf g) I p (rootHold (dataAt g)) ∙ resolve-way g I maxDepth t u p l
       ∙ and-then-no k (λ s. accepted (blocksAt (s .1))) e)
 
   module _ (q : List ℕ) where
@@ -104,12 +104,12 @@ module _ (g : Geo) (I : List ℕ) (t : Tree maxDepth) (u : ℕ) (l : Laid g I ma
     pub entry-then : {A : Type 0} (f : Held → Reply A) (h : Spot → Reply A)
         → ((s : Some) (e : Entry (Below (s .0))) → lookup last (s .1) ≡ some e
         → f (held (blocksAt (s .1)) (headOf (view (blockSize g) (s .0)) e)) ≡ h (s, e))
-        → andThen (entryOf (blockSize g) (dataAt g) (g .n) I q) f ≡ andThen (entryAt way last t) h
+        → andThen (entryOf (areaOf g) I q) f ≡ andThen (entryAt way last t) h
     entry-then f h same = go (wayTo maxDepth way t) refl
       where
         by : (s : Some) → wayTo maxDepth way t ≡ accepted s → ((e : Entry (Below (s .0))) × (lookup last (s .1) ≡ some e))
             ⊎ Absent last (s .1)
-            → andThen (entryOf (blockSize g) (dataAt g) (g .n) I q) f ≡ andThen (entryAt way last t) h
+            → andThen (entryOf (areaOf g) I q) f ≡ andThen (entryAt way last t) h
         by s w (inl e) =
             and-then-ok _ f (entry-is g I maxDepth t u q l s (e .0) (way-found maxDepth way t s w) (e .1)) ∙ same s (e .0) (e .1)
             ∙ sym (and-then-ok (s, e .0) h (at-entry s w (e .0) (e .1)))
@@ -117,13 +117,13 @@ module _ (g : Geo) (I : List ℕ) (t : Tree maxDepth) (u : ℕ) (l : Laid g I ma
             and-then-no 5 f (entry-missing g I maxDepth t u q l s (way-found maxDepth way t s w) a)
             ∙ sym (and-then-no 5 h (at-missing s w a))
 
-        stopped : (n : Name) (k : ℕ) → entryOf (blockSize g) (dataAt g) (g .n) I q ≡ onName n (refused k)
+        stopped : (n : Name) (k : ℕ) → entryOf (areaOf g) I q ≡ onName n (refused k)
             → entryAt way last t ≡ onName n (refused k)
-            → andThen (entryOf (blockSize g) (dataAt g) (g .n) I q) f ≡ andThen (entryAt way last t) h
+            → andThen (entryOf (areaOf g) I q) f ≡ andThen (entryAt way last t) h
         stopped [] k a b = and-then-no 5 f a ∙ sym (and-then-no 5 h b)
         stopped (c ∷ n) k a b = and-then-no k f a ∙ sym (and-then-no k h b)
 
         go : (r : Reply Some) → wayTo maxDepth way t ≡ r
-            → andThen (entryOf (blockSize g) (dataAt g) (g .n) I q) f ≡ andThen (entryAt way last t) h
+            → andThen (entryOf (areaOf g) I q) f ≡ andThen (entryAt way last t) h
         go (accepted s) w = by s w (lookup-or last (s .1))
         go (refused k) w = stopped last k (entry-stops g I maxDepth t u q l k w) (at-stops k w)

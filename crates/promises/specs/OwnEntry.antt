@@ -3,7 +3,7 @@ use mathlib.Core.Path.{_≡_}
 use mathlib.Core.List.{List}
 use Prim.Native.Nat.{ℕ, _≤_}
 use Rattle.model.specs.Answers.{accepted}
-use Rattle.model.specs.Geometry.{Mount, geoAt, blockSize, dataAt}
+use Rattle.model.specs.Geometry.{Mount, geoAt, blockSize, areaOf}
 use Rattle.model.specs.Volume.{WellFormed, maxDepth}
 use Rattle.model.specs.Steps.{Bytes}
 use Rattle.limits.specs.declared.Refusal.{Refusal}
@@ -19,9 +19,9 @@ use Rattle.thm_calls.specs.Named.{wayOf}
 -- the root, and else the entry of the last name in the directory above.
 pub record OwnEntryThere : Type 0 where
   pub inside : (M : Mount) (I : List ℕ) (len : ℕ) → Bytes I → checkRefusal M I len ≡ 0 → (cwd p : List ℕ) (h : Hold)
-      → holdDir (blockSize (geoAt M I)) (dataAt (geoAt M I)) (geoAt M I .n) I (dirPart (realPath cwd p)) ≡ accepted h → OwnIn I (h .own)
+      → holdDir (areaOf (geoAt M I)) I (dirPart (realPath cwd p)) ≡ accepted h → OwnIn (blockSize (geoAt M I)) I (h .own)
   pub there : (M : Mount) (I : List ℕ) (w : WellFormed M I) (cwd p : List ℕ) (h : Hold)
-      → holdDir (blockSize (geoAt M I)) (dataAt (geoAt M I)) (geoAt M I .n) I (dirPart (realPath cwd p)) ≡ accepted h
+      → holdDir (areaOf (geoAt M I)) I (dirPart (realPath cwd p)) ≡ accepted h
       → OwnOf (blockSize (geoAt M I)) maxDepth (wayOf cwd p) (w .tree) (h .own)
   -- So no refusal has the number 18.
   pub numbers : (r : Refusal) → refusalNumber r ≤ 17

@@ -7,6 +7,7 @@ use native.Mathlib.Omega.{arith}
 use borrow.Author.Tests.{eq-eqb, ne-eqb}
 use Rattle.wire.proofs.Picks.{pick-true, pick-false}
 use Rattle.block.specs.declared.Addr.{Addr}
+use Rattle.block.specs.Block.{Area}
 use Rattle.dir_entry.specs.declared.Kind.{Kind}
 use Rattle.dir_entry.specs.declared.Kind.the-variants.{Dir, File, Device}
 use Rattle.dir_entry.specs.declared.DirEntry.{DirEntry}
@@ -21,54 +22,54 @@ use Rattle.reached.specs.Reach.{ifDir, onDir, anyIn, reaches}
 
 -- ---- at the directory itself
 
-module _ (B D n : ℕ) (I : List ℕ) (target : ℕ) where
-  pub reach-here : (d a : ℕ) → target ≡ a → true ≡ reaches B D n I target d a
+module _ (A : Area) (I : List ℕ) (target : ℕ) where
+  pub reach-here : (d a : ℕ) → target ≡ a → true ≡ reaches A I target d a
   unfolding reaches
   reach-here zero a e = sym (eq-eqb target a e)
   reach-here (suc d) a e = sym (pick-true true _ (eq-eqb target a e))
 
-  pub reach-last : (d a : ℕ) → (target ≡ a → ⊥) → d ≡ 0 → false ≡ reaches B D n I target d a
+  pub reach-last : (d a : ℕ) → (target ≡ a → ⊥) → d ≡ 0 → false ≡ reaches A I target d a
   unfolding reaches
-  reach-last d a e z = sym (ap (λ (k : ℕ). reaches B D n I target k a) z ∙ ne-eqb target a e)
+  reach-last d a e z = sym (ap (λ (k : ℕ). reaches A I target k a) z ∙ ne-eqb target a e)
 
   -- elsewhere it is what the walk says, a level further down
-  reach-walk : (d m a : ℕ) → (target ≡ a → ⊥) → (d ≡ 0 → ⊥) → m ≡ d - 1 → reaches B D n I target d a ≡ anyIn (onDir (reaches B D n I target m)) (walk B D n I a)
+  reach-walk : (d m a : ℕ) → (target ≡ a → ⊥) → (d ≡ 0 → ⊥) → m ≡ d - 1 → reaches A I target d a ≡ anyIn (onDir (reaches A I target m)) (walk A I a)
   unfolding reaches
   reach-walk d m a e z b =
       let q : d ≡ suc m = omega arith in
-      ap (λ (k : ℕ). reaches B D n I target k a) q ∙ pick-false true _ (ne-eqb target a e)
+      ap (λ (k : ℕ). reaches A I target k a) q ∙ pick-false true _ (ne-eqb target a e)
 
 -- ---- along the walk
 
 -- what is found from a cursor on, d levels down
-unfoldable pub rest : (D n : ℕ) (I : List ℕ) (target d : ℕ) → ReadDir → Bool
-rest D n I target d c = anyIn (onDir (reaches 512 D n I target d)) (cursorWalk 512 D n I c)
+unfoldable pub rest : (A : Area) (I : List ℕ) (target d : ℕ) → ReadDir → Bool
+rest A I target d c = anyIn (onDir (reaches A I target d)) (cursorWalk A I c)
 
-module _ (D n : ℕ) (I : List ℕ) (c : ReadDir) (m : Step) (w : Stepped 512 D n I c m) (target d : ℕ) (c₀ : ReadDir) (inv : rest D n I target d c ≡ rest D n I target d c₀) where
-  found : (x : Step) → m ≡ x → anyIn (onDir (reaches 512 D n I target d)) (onStep 512 D n I x) ≡ rest D n I target d c₀
+module _ (A : Area) (I : List ℕ) (c : ReadDir) (m : Step) (w : Stepped A I c m) (target d : ℕ) (c₀ : ReadDir) (inv : rest A I target d c ≡ rest A I target d c₀) where
+  found : (x : Step) → m ≡ x → anyIn (onDir (reaches A I target d)) (onStep A I x) ≡ rest A I target d c₀
   unfolding rest
-  found x g = sym (ap (anyIn (onDir (reaches 512 D n I target d))) (w .walked ∙ ap (onStep 512 D n I) g)) ∙ inv
+  found x g = sym (ap (anyIn (onDir (reaches A I target d))) (w .walked ∙ ap (onStep A I) g)) ∙ inv
 
-  pub rest-again : (e : DirEntry) (p : Place) (k : ReadDir) (t : Bool) → m ≡ step.Entry e p k → t ≡ onDir (reaches 512 D n I target d) e → t ≡ false
-      → rest D n I target d k ≡ rest D n I target d c₀
+  pub rest-again : (e : DirEntry) (p : Place) (k : ReadDir) (t : Bool) → m ≡ step.Entry e p k → t ≡ onDir (reaches A I target d) e → t ≡ false
+      → rest A I target d k ≡ rest A I target d c₀
   unfolding rest anyIn
   rest-again e p k t g h f = sym (pick-false true _ (sym h ∙ f)) ∙ found (step.Entry e p k) g
 
-  module _ (depth : ℕ) (dir : Addr) (b : c₀ ≡ start D n dir) (o : target ≡ dir .0 → ⊥) (z : depth ≡ 0 → ⊥) (l : d ≡ depth - 1) where
-    whole : rest D n I target d c₀ ≡ reaches 512 D n I target depth (dir .0)
+  module _ (depth : ℕ) (dir : Addr) (b : c₀ ≡ start A dir) (o : target ≡ dir .0 → ⊥) (z : depth ≡ 0 → ⊥) (l : d ≡ depth - 1) where
+    whole : rest A I target d c₀ ≡ reaches A I target depth (dir .0)
     unfolding rest
-    whole = ap (anyIn (onDir (reaches 512 D n I target d))) (start-walk 512 D n I c₀ dir b) ∙ sym (reach-walk 512 D n I target depth d (dir .0) o z l)
+    whole = ap (anyIn (onDir (reaches A I target d))) (start-walk A I c₀ dir b) ∙ sym (reach-walk A I target depth d (dir .0) o z l)
 
-    pub rest-hit : (e : DirEntry) (p : Place) (k : ReadDir) (t : Bool) → m ≡ step.Entry e p k → t ≡ onDir (reaches 512 D n I target d) e → t ≡ true
-        → true ≡ reaches 512 D n I target depth (dir .0)
+    pub rest-hit : (e : DirEntry) (p : Place) (k : ReadDir) (t : Bool) → m ≡ step.Entry e p k → t ≡ onDir (reaches A I target d) e → t ≡ true
+        → true ≡ reaches A I target depth (dir .0)
     unfolding anyIn
     rest-hit e p k t g h f = sym (pick-true true _ (sym h ∙ f)) ∙ found (step.Entry e p k) g ∙ whole
 
-    pub rest-end : m ≡ step.End → false ≡ reaches 512 D n I target depth (dir .0)
+    pub rest-end : m ≡ step.End → false ≡ reaches A I target depth (dir .0)
     unfolding anyIn
     rest-end g = found step.End g ∙ whole
 
-    pub rest-bad : m ≡ step.Damaged → false ≡ reaches 512 D n I target depth (dir .0)
+    pub rest-bad : m ≡ step.Damaged → false ≡ reaches A I target depth (dir .0)
     unfolding anyIn
     rest-bad g = found step.Damaged g ∙ whole
 

@@ -1,5 +1,5 @@
 -- Which directories are reached from one, on the bytes of any image. Definitions alone.
--- B is the block size, D the data area's first address and n the volume's blocks.
+-- A is the data area: the size of its blocks, its first address and the volume's end.
 use mathlib.Core.Path.{_≡_}
 use mathlib.Core.Bool.{Bool, true, false}
 use mathlib.Core.Option.{Option, none, some}
@@ -7,6 +7,7 @@ use mathlib.Core.List.{List}
 use Prim.Native.Nat.{ℕ, zero, suc}
 use lib.Dec.{eqb}
 use Rattle.wire.specs.Pick.{pick}
+use Rattle.block.specs.Block.{Area}
 use Rattle.model.specs.Tree.{Name, Tree}
 use Rattle.model.specs.Calls.{DirAt}
 use Rattle.dir_entry.specs.declared.Kind.{Kind}
@@ -32,9 +33,9 @@ anyIn f damaged = false
 
 -- H4: directories are walked in their turn, the levels falling: whether the directory whose first block is `target` is the one at
 -- a, or is reached from it through at most d levels of directories.
-unfoldable pub reaches : (B D n : ℕ) (I : List ℕ) (target : ℕ) → ℕ → ℕ → Bool
-reaches B D n I target zero a = eqb target a
-reaches B D n I target (suc d) a = pick (eqb target a) true (anyIn (onDir (reaches B D n I target d)) (walk B D n I a))
+unfoldable pub reaches : (A : Area) (I : List ℕ) (target : ℕ) → ℕ → ℕ → Bool
+reaches A I target zero a = eqb target a
+reaches A I target (suc d) a = pick (eqb target a) true (anyIn (onDir (reaches A I target d)) (walk A I a))
 
 -- H4: in the tree, whether there is a path to it.
 abbrev pub hasPath : Option (List Name) → Bool

@@ -9,6 +9,7 @@ use lib.Dec.{eqb}
 use borrow.Author.Tests.{eqb-false}
 use Rattle.wire.specs.Pick.{same}
 use Rattle.wire.proofs.Picks.{either, pick-true, pick-false, same-eq, pick-case}
+use Rattle.block.specs.Block.{Area}
 use Rattle.dir_entry.specs.declared.DirEntry.{DirEntry}
 use Rattle.dir_entry.specs.declared.Slot.the-variants.{Entry}
 use Rattle.dir_entry.specs.Entry.{placeAt, nameAt, slotAt}
@@ -27,27 +28,27 @@ Each P finished = Unit {0}
 Each P damaged = Unit {0}
 
 -- An entry of the walk is what stands at its place, in a block of D..n-1, with an address and under its name.
-pub record Item (B D n : ℕ) (I : List ℕ) (e : DirEntry) (a o : ℕ) (x : List ℕ) : Type 0 where
-  pub from : D ≤ a
-  pub below : a < n
-  pub stands : slotAt B I a o ≡ Entry e
+pub record Item (A : Area) (I : List ℕ) (e : DirEntry) (a o : ℕ) (x : List ℕ) : Type 0 where
+  pub from : A .first ≤ a
+  pub below : a < A .end
+  pub stands : slotAt (A .size) I a o ≡ Entry e
   pub address : e .addr .0 ≡ 0 → ⊥
-  pub name : x ≡ nameAt I (placeAt B a o) (e .len)
+  pub name : x ≡ nameAt I (placeAt (A .size) a o) (e .len)
 
-module _ (B D n : ℕ) (I : List ℕ) where
-  entries-each : (a : ℕ) (w : Walk) → D ≤ a → a < n → Each (Item B D n I) w → (f o : ℕ) → Each (Item B D n I) (entriesFrom B D n I f a o w)
+module _ (A : Area) (I : List ℕ) where
+  entries-each : (a : ℕ) (w : Walk) → A .first ≤ a → a < A .end → Each (Item A I) w → (f o : ℕ) → Each (Item A I) (entriesFrom A I f a o w)
   unfolding shown
   entries-each a w h l i =
-      entries-ind B D n I a w (λ o v. Each (Item B D n I) v) (λ o. i)
+      entries-ind A I a w (λ o v. Each (Item A I) v) (λ o. i)
       (λ o e v p q.
-      pick-case (Each (Item B D n I)) (eqb (e .addr .0) 0) _ _ (λ _. q)
+      pick-case (Each (Item A I)) (eqb (e .addr .0) 0) _ _ (λ _. q)
       (λ z. (record { from = h; below = l; stands = p; address = eqb-false _ _ z; name = refl }, q)))
 
-  pub chain-each : (k a : ℕ) → Each (Item B D n I) (chainFrom B D n I k a)
+  pub chain-each : (k a : ℕ) → Each (Item A I) (chainFrom A I k a)
   chain-each =
-      chain-ind B D n I (λ k a w. Each (Item B D n I) w) (λ k a. tt)
-      (λ k a h l z. entries-each a finished h l tt B 0)
-      (λ k a w h l z q. entries-each a w h l q B 0)
+      chain-ind A I (λ k a w. Each (Item A I) w) (λ k a. tt)
+      (λ k a h l z. entries-each a finished h l tt (A .size) 0)
+      (λ k a w h l z q. entries-each a w h l q (A .size) 0)
 
 -- ---- an answer of a lookup
 
@@ -70,8 +71,8 @@ found-each P name finished e p i f = absurd (let z : _≡_ {A = ℕ} 0 1 = cc in
 found-each P name damaged e p i f = absurd (let z : _≡_ {A = ℕ} 0 1 = cc in omega arith)
 
 -- so it is an entry of the directory under that name.
-pub found-item : (B D n : ℕ) (I : List ℕ) (dir : ℕ) (name : List ℕ) (e : DirEntry) (p : Place) → findIn name (walk B D n I dir) ≡ found.At e p → Item B D n I e (p .block .0) (p .offset) name
-found-item B D n I dir name e p f = found-each (Item B D n I) name (walk B D n I dir) e p (chain-each B D n I (n - D) dir) f
+pub found-item : (A : Area) (I : List ℕ) (dir : ℕ) (name : List ℕ) (e : DirEntry) (p : Place) → findIn name (walk A I dir) ≡ found.At e p → Item A I e (p .block .0) (p .offset) name
+found-item A I dir name e p f = found-each (Item A I) name (walk A I dir) e p (chain-each A I (A .end - A .first) dir) f
 
 -- ---- a listing past the last entry
 

@@ -5,7 +5,7 @@ use Prim.Native.Nat.{ℕ, zero, suc, _+_, _-_, _≤_, _<_}
 use lib.Dec.{eqb}
 use Rattle.wire.specs.Pick.{pick}
 use Rattle.block.specs.declared.Addr.{Addr}
-use Rattle.block.specs.Block.{next}
+use Rattle.block.specs.Block.{Area, next}
 use Rattle.dir_entry.specs.declared.DirEntry.{DirEntry}
 use Rattle.dir_entry.specs.declared.Slot.{Slot}
 use Rattle.dir_entry.specs.declared.Slot.the-variants as slot
@@ -21,8 +21,8 @@ use Rattle.read_dir.specs.declared.Step.the-variants as step
 -- ---- one move
 
 -- The cursor at a directory's first entry; the cursor past an entry; the place of the entry that it stands at.
-abbrev pub start : ℕ → ℕ → Addr → ReadDir
-start D n a = record { block = a; offset = 0; left = n - D }
+abbrev pub start : Area → Addr → ReadDir
+start A a = record { block = a; offset = 0; left = A .end - (A .first) }
 
 abbrev pub past : ReadDir → DirEntry → ReadDir
 past c e = record { block = c .block; offset = c .offset + header + e .len; left = c .left }
@@ -44,12 +44,12 @@ abbrev pub onDecoded : ℕ → List ℕ → ReadDir → Slot → Move
 onDecoded B I c (slot.Entry e) = overMove c e
 onDecoded B I c slot.Stop = hopMove B I c
 
-module _ (B D n : ℕ) (I : List ℕ) where
+module _ (A : Area) (I : List ℕ) where
   -- Where no block may be read any more, or this one is not in D..n-1, it is damage.
   unfoldable pub moveAt : ReadDir → Move
   moveAt c =
       pick (eqb (c .left) 0) move.Damaged
-      (pick (inArea B D n I (c .block .0)) (onDecoded B I c (slotAt B I (c .block .0) (c .offset))) move.Damaged)
+      (pick (inArea A I (c .block .0)) (onDecoded (A .size) I c (slotAt (A .size) I (c .block .0) (c .offset))) move.Damaged)
 
   -- ---- what remains
 
@@ -57,7 +57,7 @@ module _ (B D n : ℕ) (I : List ℕ) where
   unfoldable pub restFrom : ℕ → ℕ → ℕ → Walk
   restFrom zero a o = damaged
   restFrom (suc k) a o =
-      pick (inArea B D n I a) (entriesFrom B D n I B a o (pick (eqb (next B I a) 0) finished (chainFrom B D n I k (next B I a)))) damaged
+      pick (inArea A I a) (entriesFrom A I (A .size) a o (pick (eqb (next (A .size) I a) 0) finished (chainFrom A I k (next (A .size) I a)))) damaged
 
   abbrev pub cursorWalk : ReadDir → Walk
   cursorWalk c = restFrom (c .left) (c .block .0) (c .offset)
@@ -66,15 +66,15 @@ module _ (B D n : ℕ) (I : List ℕ) where
 
   -- The item that a step gives, and what remains from the cursor past it.
   abbrev pub onStep : Step → Walk
-  onStep (step.Entry e p c) = item e (p .block .0) (p .offset) (nameAt I (placeAt B (p .block .0) (p .offset)) (e .len)) (cursorWalk c)
+  onStep (step.Entry e p c) = item e (p .block .0) (p .offset) (nameAt I (placeAt (A .size) (p .block .0) (p .offset)) (e .len)) (cursorWalk c)
   onStep step.End = finished
   onStep step.Damaged = damaged
 
   -- An entry that was read stands in a block of D..n-1, and it ends there.
   pub record Lies (e : DirEntry) (p : Place) : Type 0 where
-    pub from : D ≤ p .block .0
-    pub below : p .block .0 < n
-    pub ends : p .offset + header + e .len ≤ B - 5
+    pub from : A .first ≤ p .block .0
+    pub below : p .block .0 < A .end
+    pub ends : p .offset + header + e .len ≤ A .size - 5
 
   abbrev pub StepIn : Step → Type 0
   StepIn (step.Entry e p c) = Lies e p

@@ -10,9 +10,9 @@ ghost use Prim.Native.Nat.{_+_, _-_, _*_, _≤_, _<_, _^_};
 ghost use lib.ListN.{length};
 ghost use Rattle.wire.specs.Be.{splice};
 ghost use Rattle.wire.specs.Pick.{same};
-ghost use Rattle.block.specs.Block.{blockBytes};
+ghost use Rattle.block.specs.Block.{BlockSize};
 ghost use Rattle.dir_entry.specs.Entry.{header, placeAt, nameAt};
-ghost use Rattle.super_block.specs.Super.{Fit};
+ghost use Rattle.super_block.specs.Super.{areaIn, Fit};
 ghost use Rattle.read_dir.specs.Walk.{walk};
 ghost use Rattle.read_dir.specs.Cursor.{start, hopMove, overMove, moveAt, cursorWalk, Stepped, items};
 ghost use Rattle.read_dir.specs.Finds.{findIn, sumFrom, recordOf, skip, listFrom, recordsFrom, onListed};
@@ -69,7 +69,7 @@ impl ReadDir {
     // At the first entry of the directory that begins at block dir.
     pub fn new(s: SuperBlock, dir: Addr) -> ReadDir
         requires { ⌜ s .area .0 ≤ s .blocks ⌝ }
-        ensures { λ r. ⌜ r ≡ start (s .area .0) (s .blocks) dir ⌝ }
+        ensures { λ r. ⌜ r ≡ start (areaIn s) dir ⌝ }
     {
         let d = s.area;
         ReadDir {
@@ -80,13 +80,14 @@ impl ReadDir {
     }
 
     // From a block whose entries have stopped: to the next one, unless there is none.
-    fn hop(self, img: &[u8]) -> Move
-        requires { ⌜ blockBytes * self .block .0 + blockBytes ≤ length (now img) ⌝ }
+    fn hop(self, img: &[u8], size: u32) -> Move
+        requires { ⌜ BlockSize size ⌝ }
+        requires { ⌜ size * self .block .0 + size ≤ length (now img) ⌝ }
         requires { ⌜ 0 < self .left ⌝ }
-        ensures { λ r. ⌜ r ≡ hopMove blockBytes (now (img .entry)) self ⌝ }
+        ensures { λ r. ⌜ r ≡ hopMove size (now (img .entry)) self ⌝ }
     {
         let b = self.block;
-        let next = LinkedBlock::new(b).next_addr(img);
+        let next = LinkedBlock::new(size, b).next_addr(img);
         if next.0 == 0 {
             return Move::End;
         }
@@ -99,7 +100,7 @@ impl ReadDir {
 
     // Over an entry that was read here. One with address 0 is not shown.
     fn over(self, e: DirEntry) -> Move
-        requires { ⌜ self .offset + header + e .len ≤ blockBytes - 5 ⌝ }
+        requires { ⌜ self .offset + header + e .len < 2 ^ 64 ⌝ }
         ensures { λ r. ⌜ r ≡ overMove self e ⌝ }
     {
         let b = self.block;
@@ -123,7 +124,7 @@ impl ReadDir {
     // One move. The block is looked at anew each time, so a cursor needs no promise.
     fn advance(self, img: &[u8], s: SuperBlock) -> Move
         requires { ⌜ Fit s (now img) ⌝ }
-        ensures { λ r. ⌜ r ≡ moveAt blockBytes (s .area .0) (s .blocks) (now (img .entry)) self ⌝ }
+        ensures { λ r. ⌜ r ≡ moveAt (areaIn s) (now (img .entry)) self ⌝ }
     {
         let b = self.block;
         let d = s.area;
@@ -136,8 +137,8 @@ impl ReadDir {
         if s.blocks <= b.0 {
             return Move::Damaged;
         }
-        match DirEntry::decode(img, LinkedBlock::new(b), self.offset) {
-            Slot::Stop => self.hop(img),
+        match DirEntry::decode(img, LinkedBlock::new(s.size, b), self.offset) {
+            Slot::Stop => self.hop(img, s.size),
             Slot::Entry(e) => self.over(e),
         }
     }
@@ -145,7 +146,7 @@ impl ReadDir {
     // The next entry and the cursor past it, the end, or damage.
     pub fn next(self, img: &[u8], s: SuperBlock) -> Step
         requires { ⌜ Fit s (now img) ⌝ }
-        ensures { λ r. ⌜ Stepped blockBytes (s .area .0) (s .blocks) (now (img .entry)) self r ⌝ }
+        ensures { λ r. ⌜ Stepped (areaIn s) (now (img .entry)) self r ⌝ }
     {
         let mut c = self;
         loop {
@@ -162,24 +163,26 @@ impl ReadDir {
 }
 
 // The name of an entry at its place.
-pub fn name_of(img: &[u8], e: DirEntry, p: Place) -> &[u8]
-    requires { ⌜ blockBytes * p .block .0 + blockBytes ≤ length (now img) ⌝ }
-    requires { ⌜ p .offset + header + e .len ≤ blockBytes - 5 ⌝ }
-    ensures { λ r. ⌜ now r ≡ nameAt (now (img .entry)) (placeAt blockBytes (p .block .0) (p .offset)) (e .len) ⌝ }
+pub fn name_of(img: &[u8], size: u32, e: DirEntry, p: Place) -> &[u8]
+    requires { ⌜ BlockSize size ⌝ }
+    requires { ⌜ size * p .block .0 + size ≤ length (now img) ⌝ }
+    requires { ⌜ p .offset + header + e .len ≤ size - 5 ⌝ }
+    ensures { λ r. ⌜ now r ≡ nameAt (now (img .entry)) (placeAt size (p .block .0) (p .offset)) (e .len) ⌝ }
 {
     let b = p.block;
-    let from = dir_entry::place(b, p.offset) + DirEntry::HEADER;
+    let from = dir_entry::place(size, b, p.offset) + DirEntry::HEADER;
     let to = from + (e.len as usize);
     &img[from..to]
 }
 
 // Whether an entry has that name.
-pub fn named(img: &[u8], e: DirEntry, p: Place, name: &[u8]) -> bool
-    requires { ⌜ blockBytes * p .block .0 + blockBytes ≤ length (now img) ⌝ }
-    requires { ⌜ p .offset + header + e .len ≤ blockBytes - 5 ⌝ }
-    ensures { λ r. ⌜ r ≡ same (nameAt (now (img .entry)) (placeAt blockBytes (p .block .0) (p .offset)) (e .len)) (now (name .entry)) ⌝ }
+pub fn named(img: &[u8], size: u32, e: DirEntry, p: Place, name: &[u8]) -> bool
+    requires { ⌜ BlockSize size ⌝ }
+    requires { ⌜ size * p .block .0 + size ≤ length (now img) ⌝ }
+    requires { ⌜ p .offset + header + e .len ≤ size - 5 ⌝ }
+    ensures { λ r. ⌜ r ≡ same (nameAt (now (img .entry)) (placeAt size (p .block .0) (p .offset)) (e .len)) (now (name .entry)) ⌝ }
 {
-    let x = name_of(img, e, p);
+    let x = name_of(img, size, e, p);
     if x.len() != name.len() {
         return false;
     }
@@ -189,13 +192,13 @@ pub fn named(img: &[u8], e: DirEntry, p: Place, name: &[u8]) -> bool
 // The first entry of that name in the directory that begins at block dir.
 pub fn lookup(img: &[u8], s: SuperBlock, dir: Addr, name: &[u8]) -> Found
     requires { ⌜ Fit s (now img) ⌝ }
-    ensures { λ r. ⌜ r ≡ findIn (now (name .entry)) (walk blockBytes (s .area .0) (s .blocks) (now (img .entry)) (dir .0)) ⌝ }
+    ensures { λ r. ⌜ r ≡ findIn (now (name .entry)) (walk (areaIn s) (now (img .entry)) (dir .0)) ⌝ }
 {
     let mut c = ReadDir::new(s, dir);
     loop {
         match c.next(img, s) {
             Step::Entry(e, p, d) => {
-                if named(img, e, p, name) {
+                if named(img, s.size, e, p, name) {
                     return Found::At(e, p);
                 }
                 c = d;
@@ -209,7 +212,7 @@ pub fn lookup(img: &[u8], s: SuperBlock, dir: Addr, name: &[u8]) -> Found
 // The bytes of its entries, which are a directory's size.
 pub fn sum(img: &[u8], s: SuperBlock, dir: Addr) -> Summed
     requires { ⌜ Fit s (now img) ⌝ }
-    ensures { λ r. ⌜ r ≡ sumFrom 0 (walk blockBytes (s .area .0) (s .blocks) (now (img .entry)) (dir .0)) ⌝ }
+    ensures { λ r. ⌜ r ≡ sumFrom 0 (walk (areaIn s) (now (img .entry)) (dir .0)) ⌝ }
 {
     let mut c = ReadDir::new(s, dir);
     let mut total: u32 = 0;
@@ -228,7 +231,7 @@ pub fn sum(img: &[u8], s: SuperBlock, dir: Addr) -> Summed
 // To entry number i: past the last one, to where the walk ends or is damaged.
 fn seek(img: &[u8], s: SuperBlock, dir: Addr, i: u32) -> ReadDir
     requires { ⌜ Fit s (now img) ⌝ }
-    ensures { λ r. ⌜ cursorWalk blockBytes (s .area .0) (s .blocks) (now (img .entry)) r ≡ skip i (walk blockBytes (s .area .0) (s .blocks) (now (img .entry)) (dir .0)) ⌝ }
+    ensures { λ r. ⌜ cursorWalk (areaIn s) (now (img .entry)) r ≡ skip i (walk (areaIn s) (now (img .entry)) (dir .0)) ⌝ }
 {
     let mut c = ReadDir::new(s, dir);
     let mut left = i;
@@ -248,8 +251,8 @@ fn seek(img: &[u8], s: SuperBlock, dir: Addr, i: u32) -> ReadDir
 // How many bytes the records from a cursor take in a buffer of cap bytes, and the number after the last.
 fn measure(img: &[u8], s: SuperBlock, from: ReadDir, i: u32, cap: usize) -> Listed
     requires { ⌜ Fit s (now img) ⌝ }
-    requires { ⌜ i + items (cursorWalk blockBytes (s .area .0) (s .blocks) (now img) from) < 2 ^ 32 ⌝ }
-    ensures { λ r. ⌜ r ≡ listFrom cap 0 i (cursorWalk blockBytes (s .area .0) (s .blocks) (now (img .entry)) from) ⌝ }
+    requires { ⌜ i + items (cursorWalk (areaIn s) (now img) from) < 2 ^ 32 ⌝ }
+    ensures { λ r. ⌜ r ≡ listFrom cap 0 i (cursorWalk (areaIn s) (now (img .entry)) from) ⌝ }
 {
     let mut c = from;
     let mut used: usize = 0;
@@ -272,15 +275,16 @@ fn measure(img: &[u8], s: SuperBlock, from: ReadDir, i: u32, cap: usize) -> List
 }
 
 // Stores the record of an entry.
-fn put_record(buf: &mut [u8], at: usize, img: &[u8], e: DirEntry, p: Place)
+fn put_record(buf: &mut [u8], at: usize, img: &[u8], size: u32, e: DirEntry, p: Place)
     requires { ⌜ at + (14 + e .len) ≤ length (now buf) ⌝ }
-    requires { ⌜ blockBytes * p .block .0 + blockBytes ≤ length (now img) ⌝ }
-    requires { ⌜ p .offset + header + e .len ≤ blockBytes - 5 ⌝ }
-    ensures { λ _. ⌜ now (buf .exit) ≡ splice (now (buf .entry)) at (recordOf e (nameAt (now (img .entry)) (placeAt blockBytes (p .block .0) (p .offset)) (e .len))) ⌝ }
+    requires { ⌜ BlockSize size ⌝ }
+    requires { ⌜ size * p .block .0 + size ≤ length (now img) ⌝ }
+    requires { ⌜ p .offset + header + e .len ≤ size - 5 ⌝ }
+    ensures { λ _. ⌜ now (buf .exit) ≡ splice (now (buf .entry)) at (recordOf e (nameAt (now (img .entry)) (placeAt size (p .block .0) (p .offset)) (e .len))) ⌝ }
 {
     let k = e.kind;
     let b = p.block;
-    let from = dir_entry::place(b, p.offset) + DirEntry::HEADER;
+    let from = dir_entry::place(size, b, p.offset) + DirEntry::HEADER;
     buf[at] = k.byte();
     wire::put(buf, at + 1, 4, e.size as u64);
     wire::put(buf, at + 5, 8, e.time);
@@ -291,7 +295,7 @@ fn put_record(buf: &mut [u8], at: usize, img: &[u8], e: DirEntry, p: Place)
 // The records from a cursor, while they fit.
 fn fill(img: &[u8], s: SuperBlock, from: ReadDir, buf: &mut [u8])
     requires { ⌜ Fit s (now img) ⌝ }
-    ensures { λ _. ⌜ now (buf .exit) ≡ splice (now (buf .entry)) 0 (recordsFrom (length (now (buf .entry))) 0 (cursorWalk blockBytes (s .area .0) (s .blocks) (now (img .entry)) from)) ⌝ }
+    ensures { λ _. ⌜ now (buf .exit) ≡ splice (now (buf .entry)) 0 (recordsFrom (length (now (buf .entry))) 0 (cursorWalk (areaIn s) (now (img .entry)) from)) ⌝ }
 {
     let cap = buf.len();
     let mut c = from;
@@ -303,7 +307,7 @@ fn fill(img: &[u8], s: SuperBlock, from: ReadDir, buf: &mut [u8])
                 if cap - used <= need {
                     return;
                 }
-                put_record(buf, used, img, e, p);
+                put_record(buf, used, img, s.size, e, p);
                 used = used + need;
                 c = d;
             }
@@ -317,8 +321,8 @@ fn fill(img: &[u8], s: SuperBlock, from: ReadDir, buf: &mut [u8])
 // they take is measured first, so that damage leaves the buffer as it was.
 pub fn list(img: &[u8], s: SuperBlock, dir: Addr, i: u32, buf: &mut [u8]) -> Listed
     requires { ⌜ Fit s (now img) ⌝ }
-    ensures { λ r. ⌜ r ≡ listFrom (length (now (buf .entry))) 0 i (skip i (walk blockBytes (s .area .0) (s .blocks) (now (img .entry)) (dir .0))) ⌝ }
-    ensures { λ r. ⌜ now (buf .exit) ≡ onListed r (recordsFrom (length (now (buf .entry))) 0 (skip i (walk blockBytes (s .area .0) (s .blocks) (now (img .entry)) (dir .0)))) (now (buf .entry)) ⌝ }
+    ensures { λ r. ⌜ r ≡ listFrom (length (now (buf .entry))) 0 i (skip i (walk (areaIn s) (now (img .entry)) (dir .0))) ⌝ }
+    ensures { λ r. ⌜ now (buf .exit) ≡ onListed r (recordsFrom (length (now (buf .entry))) 0 (skip i (walk (areaIn s) (now (img .entry)) (dir .0)))) (now (buf .entry)) ⌝ }
 {
     let c = seek(img, s, dir, i);
     match measure(img, s, c, i, buf.len()) {

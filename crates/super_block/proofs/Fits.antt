@@ -1,77 +1,101 @@
 -- What `Fit` gives: the places of superblock, bitmap and data in the image, and the volume of an image that was checked.
 use mathlib.Core.Path.{_≡_, refl, sym, ap, _∙_, subst}
 use mathlib.Core.List.{List}
-use Prim.Native.Nat.{ℕ, _+_, _-_, _*_, _≤_, _<_}
+use Prim.Native.Nat.{ℕ, suc, _+_, _-_, _*_, _≤_, _<_}
+use native.Mathlib.Nat.{mul-suc, mul-add, mul-comm, mul-le-mul-left}
 use native.Mathlib.Omega.{arith}
 use lib.ListN.{length}
-use Rattle.model.specs.Geometry.{Mount, mount, Geo, geo, geoAt, formatGeo, dataAt, reach, Sound, openRefusal, formatRefusal, countAt}
-use Rattle.model.proofs.Areas.{area, few, sound-geo}
+use Rattle.model.specs.Geometry.{Mount, Geo, blockSize, areaOf, geo, geoAt, formatGeo, Sound, openRefusal, formatRefusal, countAt}
+use Rattle.model.proofs.Areas.{size-known, area, few}
 use Rattle.model.proofs.Opens.{opens-sound, format-sound}
 use Rattle.model.specs.Volume.{Volume, WellFormed, maxDepth}
 use Rattle.model.proofs.OneVolume.{well-formed-geo}
 use Rattle.super_block.specs.declared.SuperBlock.{SuperBlock}
-use Rattle.super_block.specs.Super.{mountOf, geoOf, superBlock, Fit}
+use Rattle.super_block.specs.Super.{mountOf, geoOf, areaIn, superBlock, Fit}
+
+-- the superblock and the block behind it are in the image
+top-in : (g : Geo) (len : ℕ) → Sound g len → blockSize g * g .K + 2 * blockSize g ≤ len
+top-in g len s =
+    let h : g .K + 2 ≤ g .n = omega (arith, s .room) in
+    omega (arith, s .inside-image, mul-comm (g .n) (blockSize g), mul-le-mul-left (blockSize g) h, mul-add (blockSize g) (g .K) 2)
 
 -- the struct of sound numbers fits
-pub fit-of : (g : Geo) (I : List ℕ) → g ≡ geo (mount (g .K)) (g .n) → Sound g (length I) → Fit (superBlock g) I
-fit-of g I e s = record {
-  bitmap = refl;
-  area = ap dataAt e;
-  reach = ap reach e;
-  sound = subst (λ (x : Geo). Sound x (length I)) e s;
-}
+pub fit-of : (g : Geo) (I : List ℕ) → Sound g (length I) → Fit (superBlock g) I
+fit-of g I s =
+    record {
+      size = refl;
+      known = size-known g (length I) s;
+      bitmap = refl;
+      area = refl;
+      reach = refl;
+      sound = s;
+      inside = rw mul-comm (s .inside-image);
+      top = top-in g (length I) s;
+    }
 
 -- so does a struct that was read from the image, or made for it
 pub opened-fit : (M : Mount) (I : List ℕ) (s : SuperBlock) → openRefusal M I ≡ 0 → s ≡ superBlock (geoAt M I) → Fit s I
-opened-fit M I s e f =
-    let d : Sound (geoAt M I) (length I) = opens-sound M I e .0 in
-    subst (λ (x : SuperBlock). Fit x I) (sym f) (fit-of (geoAt M I) I (sound-geo _ _ d) d)
+opened-fit M I s e f = subst (λ (x : SuperBlock). Fit x I) (sym f) (fit-of (geoAt M I) I (opens-sound M I e .0))
 
 pub made-fit : (M : Mount) (I : List ℕ) (s : SuperBlock) → formatRefusal M (length I) ≡ 0 → s ≡ superBlock (formatGeo M (length I)) → Fit s I
-made-fit M I s e f =
-    let d : Sound (formatGeo M (length I)) (length I) = format-sound M (length I) e in
-    subst (λ (x : SuperBlock). Fit x I) (sym f) (fit-of (formatGeo M (length I)) I (sound-geo _ _ d) d)
+made-fit M I s e f = subst (λ (x : SuperBlock). Fit x I) (sym f) (fit-of (formatGeo M (length I)) I (format-sound M (length I) e))
 
--- Its numbers are then those of the image, or those that are made.
-pub opened-geo : (M : Mount) (I : List ℕ) (s : SuperBlock) → openRefusal M I ≡ 0 → s ≡ superBlock (geoAt M I) → geoOf s ≡ geoAt M I
-opened-geo M I s e f = ap geoOf f ∙ sym (sound-geo (geoAt M I) (length I) (opens-sound M I e .0))
+-- its numbers are then those of the image, or those that are made
+pub opened-geo : (M : Mount) (I : List ℕ) (s : SuperBlock) → s ≡ superBlock (geoAt M I) → geoOf s ≡ geoAt M I
+opened-geo M I s f = ap geoOf f
 
-pub made-geo : (M : Mount) (len : ℕ) (s : SuperBlock) → formatRefusal M len ≡ 0 → s ≡ superBlock (formatGeo M len) → geoOf s ≡ formatGeo M len
-made-geo M len s e f = ap geoOf f ∙ sym (sound-geo (formatGeo M len) len (format-sound M len e))
+pub made-geo : (M : Mount) (len : ℕ) (s : SuperBlock) → s ≡ superBlock (formatGeo M len) → geoOf s ≡ formatGeo M len
+made-geo M len s f = ap geoOf f
 
 -- it goes by the image's length alone
 pub fit-long : {s : SuperBlock} {I J : List ℕ} → length J ≡ length I → Fit s I → Fit s J
-fit-long {s} e f = record { bitmap = f .bitmap; area = f .area; reach = f .reach; sound = subst (Sound (geoOf s)) (sym e) (f .sound) }
+fit-long {s} e f =
+    record {
+      size = f .size;
+      known = f .known;
+      bitmap = f .bitmap;
+      area = f .area;
+      reach = f .reach;
+      sound = subst (Sound (geoOf s)) (sym e) (f .sound);
+      inside = omega (arith, f .inside);
+      top = omega (arith, f .top);
+    }
 
 -- the areas in the image, by the struct's own numbers
 pub record Placed (s : SuperBlock) (I : List ℕ) : Type 0 where
   pub few : s .blocks ≤ 8388608
-  pub inside : 512 * s .blocks ≤ length I
-  pub top : 512 * (s .addr .0) + 1024 ≤ length I
+  pub bytes : s .size * s .blocks ≤ 4294967296
+  pub map : s .size * s .bitmap .0 + s .size * (s .area .0 - s .bitmap .0) ≤ length I
   pub after : s .bitmap .0 ≡ s .addr .0 + 2
   pub maps : s .bitmap .0 < s .area .0
   pub some-data : s .area .0 < s .blocks
   pub reached : s .area .0 + s .reach ≤ s .blocks
-  pub enough : s .blocks ≤ s .area .0 + 8 * (512 * (s .area .0 - s .bitmap .0))
+  pub enough : s .blocks ≤ s .area .0 + 8 * (s .size * (s .area .0 - s .bitmap .0))
 
 pub placed : {s : SuperBlock} {I : List ℕ} → Fit s I → Placed s I
 placed {s} {I} f =
     let a = area (geoOf s) (length I) (f .sound) in
-    let k = few (geoOf s) (length I) (f .sound) in
-    let i : s .blocks * 512 ≤ length I = f .sound .inside-image in
-    let r : 2 ≤ s .blocks - (s .addr .0 + 2) = f .sound .room in
+    let i = f .inside in
     let b = f .bitmap in
     let d = f .area in
+    let some-data : s .area .0 < s .blocks = omega (arith, a .some-data) in
     record {
-      few = k;
-      inside = omega arith;
-      top = omega arith;
+      few = few (geoOf s) (length I) (f .sound);
+      bytes = omega (arith, f .sound .limit);
+      map =
+          let m : s .bitmap .0 < s .area .0 = omega (arith, a .maps) in
+          let h : s .bitmap .0 + (s .area .0 - s .bitmap .0) ≤ s .blocks = omega arith in
+          omega (arith, mul-le-mul-left (s .size) h, mul-add (s .size) (s .bitmap .0) (s .area .0 - s .bitmap .0));
       after = b;
       maps = omega (arith, a .maps);
-      some-data = omega (arith, a .some-data);
+      some-data = some-data;
       reached = omega (arith, a .reached, f .reach);
-      enough = rw (b, d) (a .enough);
+      enough = rw (f .size, b, d) (a .enough);
     }
+
+-- the area is that of the numbers,
+pub area-is : {s : SuperBlock} {I : List ℕ} → Fit s I → areaIn s ≡ areaOf (geoOf s)
+area-is {s} f = λ i. record { size = f .size i; first = f .area i; end = s .blocks }
 
 -- there is a data area,
 pub area-inside : {s : SuperBlock} {I : List ℕ} → Fit s I → s .area .0 ≤ s .blocks
@@ -82,9 +106,16 @@ pub few-blocks : {s : SuperBlock} {I : List ℕ} → Fit s I → s .blocks ≤ 8
 few-blocks f = placed f .few
 
 -- and each lies in the image, and in every image of its length
-pub fit-inside : (s : SuperBlock) (I J : List ℕ) (a b : ℕ) → Fit s I → length J ≡ length I → a ≡ b → b < s .blocks → 512 * a + 512 ≤ length J
-fit-inside s I J a b f e q h = omega (arith, placed f .inside)
+pub fit-inside : (s : SuperBlock) (I J : List ℕ) (a b : ℕ) → Fit s I → length J ≡ length I → a ≡ b → b < s .blocks → s .size * a + s .size ≤ length J
+fit-inside s I J a b f e q h =
+    let k : suc a ≤ s .blocks = omega arith in
+    omega (arith, f .inside, mul-le-mul-left (s .size) k, mul-suc (s .size) a)
+
+-- The numbers of the struct are those of its superblock's place and its block count.
+geo-is : {s : SuperBlock} {I : List ℕ} → Fit s I → geo (mountOf s) (s .blocks) ≡ geoOf s
+geo-is {s} f = λ i. record { K = s .addr .0; n = s .blocks; version = sym (f .sound .known .0) i; code = s .code }
 
 -- The volume of a checked image, by the struct's own numbers.
-pub well-volume : (s : SuperBlock) (I : List ℕ) (w : WellFormed (mountOf s) I) → s .blocks ≡ countAt (mountOf s) I → Volume (geoOf s) I maxDepth (w .tree)
-well-volume s I w b = subst (λ (g : Geo). Volume g I maxDepth (w .tree)) (well-formed-geo (mountOf s) I w ∙ ap (geo (mountOf s)) (sym b)) (w .volume)
+pub well-volume : (s : SuperBlock) (I : List ℕ) → Fit s I → (w : WellFormed (mountOf s) I) → s .blocks ≡ countAt (mountOf s) I → Volume (geoOf s) I maxDepth (w .tree)
+well-volume s I f w b =
+    subst (λ (g : Geo). Volume g I maxDepth (w .tree)) (well-formed-geo (mountOf s) I w ∙ ap (geo (mountOf s)) (sym b) ∙ geo-is f) (w .volume)

@@ -9,11 +9,25 @@ use lib.ListN.{length, length-append, length-replicate}
 use borrow.Author.Tests.{eq-eqb, ne-eqb, lt-ltb, le-ltb}
 use Rattle.wire.specs.Be.{be, bytes, splice, zeros}
 use Rattle.wire.proofs.Numbers.{splice-append, length-bytes}
-use Rattle.model.specs.Geometry.{mount, geo, geoAt, countAt, openRefusal, rest, dataAt, reach, imageLimit, badCode, badImage, badMark, badCount, signature, superBytes}
+use Rattle.model.specs.Geometry.{Geo, blockSize, mount, geo, geoAt, countAt, openRefusal, rest, dataAt, reach, imageLimit, badCode, badImage, badMark, badCount, signature, superBytes}
 use Rattle.model.specs.Render.{padded}
 use Rattle.model.proofs.Opens.{code-good, good-image, good-count, open-3, open-0}
 use Rattle.super_block.specs.declared.SuperBlock.{SuperBlock}
-use Rattle.super_block.specs.Super.{superBlock}
+use Rattle.super_block.specs.Super.{geoOf, superBlock, Fit, superWritten}
+
+-- the struct that code builds
+abbrev pub built : ℕ → ℕ → ℕ → SuperBlock
+built K n r =
+    record {
+      addr = record { 0 = K };
+      blocks = n;
+      size = 512;
+      version = 2;
+      code = 0;
+      bitmap = record { 0 = K + 2 };
+      area = record { 0 = K + 2 + (n - (K + 2) + 4096) / 4097 };
+      reach = r;
+    }
 
 -- code names size code 0, which is known
 pub known-code : (K : ℕ) → badCode (mount K) ≡ false
@@ -80,10 +94,9 @@ read-0 K I n e p q r s t u x y =
     (open-0 (mount K) I (known-code K) (told p q) (told r s) (subst (λ (m : ℕ). badCount (geo (mount K) m) (length I) ≡ false) e (told t u)), y ∙ ap (λ (m : ℕ). superBlock (geo (mount K) m)) e)
 
 -- the struct, by its reach
-pub made : (K n r : ℕ) → r ≡ reach (geo (mount K) n)
-    → _≡_ {A = SuperBlock} (record { addr = record { 0 = K }; blocks = n; bitmap = record { 0 = K + 2 }; area = record { 0 = K + 2 + (n - (K + 2) + 4096) / 4097 }; reach = r }) (superBlock (geo (mount K) n))
+pub made : (K n r : ℕ) → r ≡ reach (geo (mount K) n) → _≡_ {A = SuperBlock} (built K n r) (superBlock (geo (mount K) n))
 unfolding dataAt
-made K n r e = λ i. record { addr = record { 0 = K }; blocks = n; bitmap = record { 0 = K + 2 }; area = record { 0 = K + 2 + (n - (K + 2) + 4096) / 4097 }; reach = e i }
+made K n r e = λ i. built K n (e i)
 
 pub reach-whole : (K n : ℕ) → 4096 * (n / 4096) < n - (K + 2 + (n - (K + 2) + 4096) / 4097) → 4096 * (n / 4096) ≡ reach (geo (mount K) n)
 unfolding reach dataAt
@@ -93,28 +106,45 @@ pub reach-all : (K n : ℕ) → n - (K + 2 + (n - (K + 2) + 4096) / 4097) ≤ 40
 unfolding reach dataAt
 reach-all K n h = omega arith
 
--- the four stores of a superblock, side by side, are one
-pub super-stored : (I : List ℕ) (K n v : ℕ) → 512 * K + 512 ≤ length I
-    → splice (splice (splice (splice I (512 * K) (signature ++ (2 ∷ (0 ∷ [])))) (512 * K + 10) (bytes 4 n)) (512 * K + 14) (bytes 4 v)) (512 * K + 18) (zeros 494)
-    ≡ splice I (512 * K) (superBytes (geo (mount K) n) v)
+-- the first ten bytes of a superblock with known numbers are those that code has
+mark-is : (g : Geo) → (g .version ≡ 2) × (g .code ≡ 0) → signature ++ (2 ∷ (0 ∷ [])) ≡ signature ++ (g .version ∷ (g .code ∷ []))
+mark-is g k = λ i. signature ++ (sym (k .0) i ∷ (sym (k .1) i ∷ []))
+
+-- the four stores of a superblock, side by side, are one; M is its first ten bytes
+super-stored : (g : Geo) (I M : List ℕ) (v at m : ℕ) → at ≡ blockSize g * g .K → m ≡ blockSize g - 18 → M ≡ signature ++ (g .version ∷ (g .code ∷ []))
+    → blockSize g * g .K + blockSize g ≤ length I → 18 ≤ blockSize g
+    → splice (splice (splice (splice I at M) (at + 10) (bytes 4 (g .n))) (at + 14) (bytes 4 v)) (at + 18) (zeros m) ≡ splice I (blockSize g * g .K) (superBytes g v)
 unfolding superBytes padded
-super-stored I K n v h =
-    let at : ℕ = 512 * K in
-    let M : List ℕ = signature ++ (2 ∷ (0 ∷ [])) in
-    let N : List ℕ = bytes 4 n in
+super-stored g I M v at m eat em eM h large =
+    let N : List ℕ = bytes 4 (g .n) in
     let U : List ℕ = bytes 4 v in
-    let ln : length N ≡ 4 = length-bytes 4 n in
+    let lm : length M ≡ 10 = ap length eM in
+    let ln : length N ≡ 4 = length-bytes 4 (g .n) in
     let lv : length U ≡ 4 = length-bytes 4 v in
-    let a : splice (splice I at M) (at + 10) N ≡ splice I at (M ++ N) = splice-append M N I at (omega arith) in
+    let a : splice (splice I at M) (at + length M) N ≡ splice I at (M ++ N) = splice-append M N I at (omega arith) in
+    let a′ : splice (splice I at M) (at + 10) N ≡ splice I at (M ++ N) = subst (λ (x : ℕ). splice (splice I at M) (at + x) N ≡ splice I at (M ++ N)) lm a in
     let lmn : length (M ++ N) ≡ 14 = rw length-append (omega arith) in
     let b : splice (splice I at (M ++ N)) (at + length (M ++ N)) U ≡ splice I at ((M ++ N) ++ U) = splice-append (M ++ N) U I at (omega arith) in
     let b′ : splice (splice I at (M ++ N)) (at + 14) U ≡ splice I at ((M ++ N) ++ U) = subst (λ (x : ℕ). splice (splice I at (M ++ N)) (at + x) U ≡ splice I at ((M ++ N) ++ U)) lmn b in
     let lmv : length ((M ++ N) ++ U) ≡ 18 = rw length-append (omega arith) in
-    let lz : length (zeros 494) ≡ 494 = length-replicate {A = ℕ} 494 0 in
-    let c : splice (splice I at ((M ++ N) ++ U)) (at + length ((M ++ N) ++ U)) (zeros 494) ≡ splice I at (((M ++ N) ++ U) ++ zeros 494) = splice-append ((M ++ N) ++ U) (zeros 494) I at (omega arith) in
-    let c′ : splice (splice I at ((M ++ N) ++ U)) (at + 18) (zeros 494) ≡ splice I at (((M ++ N) ++ U) ++ zeros 494)
-    = subst (λ (x : ℕ). splice (splice I at ((M ++ N) ++ U)) (at + x) (zeros 494) ≡ splice I at (((M ++ N) ++ U) ++ zeros 494)) lmv c in
+    let lz : length (zeros m) ≡ m = length-replicate {A = ℕ} m 0 in
+    let c : splice (splice I at ((M ++ N) ++ U)) (at + length ((M ++ N) ++ U)) (zeros m) ≡ splice I at (((M ++ N) ++ U) ++ zeros m) = splice-append ((M ++ N) ++ U) (zeros m) I at (omega arith) in
+    let c′ : splice (splice I at ((M ++ N) ++ U)) (at + 18) (zeros m) ≡ splice I at (((M ++ N) ++ U) ++ zeros m)
+    = subst (λ (x : ℕ). splice (splice I at ((M ++ N) ++ U)) (at + x) (zeros m) ≡ splice I at (((M ++ N) ++ U) ++ zeros m)) lmv c in
     let e : (M ++ N) ++ U ≡ M ++ (N ++ U) = append-assoc M N U in
-    let w : 512 - length (M ++ (N ++ U)) ≡ 494 = omega (arith, ap length e) in
-    ap (λ (L : List ℕ). splice (splice L (at + 14) U) (at + 18) (zeros 494)) a ∙ ap (λ (L : List ℕ). splice L (at + 18) (zeros 494)) b′ ∙ c′
-    ∙ ap (splice I at) (ap (λ (l : List ℕ). l ++ zeros 494) e ∙ ap (λ (k : ℕ). (M ++ (N ++ U)) ++ zeros k) (sym w))
+    let w : blockSize g - length (M ++ (N ++ U)) ≡ m = omega (arith, ap length e) in
+    ap (λ (L : List ℕ). splice (splice L (at + 14) U) (at + 18) (zeros m)) a′ ∙ ap (λ (L : List ℕ). splice L (at + 18) (zeros m)) b′ ∙ c′
+    ∙ ap (splice I at) (ap (λ (l : List ℕ). l ++ zeros m) e ∙ ap (λ (k : ℕ). (M ++ (N ++ U)) ++ zeros k) (sym w))
+    ∙ ap (λ (j : ℕ). splice I j ((M ++ (N ++ U)) ++ zeros (blockSize g - length (M ++ (N ++ U))))) eat
+    ∙ ap (λ (X : List ℕ). splice I (blockSize g * g .K) ((X ++ (N ++ U)) ++ zeros (blockSize g - length (X ++ (N ++ U))))) eM
+
+-- as code makes them, one after the other
+pub super-steps : (s : SuperBlock) (I J₁ J₂ J₃ J₄ M : List ℕ) (v at : ℕ) → Fit s I → at ≡ s .size * s .addr .0 → M ≡ signature ++ (2 ∷ (0 ∷ []))
+    → J₁ ≡ splice I at M → J₂ ≡ splice J₁ (at + 10) (bytes 4 (s .blocks)) → J₃ ≡ splice J₂ (at + 14) (bytes 4 v) → J₄ ≡ splice J₃ (at + 18) (zeros (s .size - 18))
+    → J₄ ≡ superWritten (geoOf s) I v
+unfolding superWritten
+super-steps s I J₁ J₂ J₃ J₄ M v at f eat eM e₁ e₂ e₃ e₄ =
+    let e = f .size in
+    e₄ ∙ ap (λ (L : List ℕ). splice L (at + 18) (zeros (s .size - 18))) (e₃ ∙ ap (λ (L : List ℕ). splice L (at + 14) (bytes 4 v)) (e₂ ∙ ap (λ (L : List ℕ). splice L (at + 10) (bytes 4 (s .blocks))) e₁))
+    ∙ super-stored (geoOf s) I M v at (s .size - 18) (eat ∙ ap (λ (z : ℕ). z * s .addr .0) e) (ap (λ (z : ℕ). z - 18) e) (eM ∙ mark-is (geoOf s) (f .sound .known))
+    (subst (λ (z : ℕ). z * s .addr .0 + z ≤ length I) e (omega (arith, f .top))) (omega (arith, f .known .least, e))

@@ -14,8 +14,16 @@ const MAX_IMAGE: usize = 4_294_967_296;
 // The indexes whose bits one bitmap block holds.
 pub const BITMAP_SIZE: u32 = 4096;
 
+// The version and the size code that are known.
+const VERSION: u8 = 2;
+
+const CODE: u8 = 0;
+
 // The bytes of a superblock that never change: signature, version, size code.
 const MARK: [u8; 10] = [77, 79, 82, 79, 83, 32, 70, 83, 2, 0];
+
+// The bytes of a block, as an image's are counted.
+const SIZE: usize = block::BLOCK_SIZE as usize;
 
 // The numbers of a volume.
 pub struct SuperBlock {
@@ -23,6 +31,10 @@ pub struct SuperBlock {
     pub addr: Addr,
     // how many blocks the volume has
     pub blocks: u32,
+    // the bytes of a block, the version and the size code
+    pub size: u32,
+    pub version: u8,
+    pub code: u8,
     // the first bitmap block and the first data block
     pub bitmap: Addr,
     pub area: Addr,
@@ -42,13 +54,13 @@ fn bad_image(len: usize, k: u32) -> bool
     if len == 0 {
         return true;
     }
-    if len % block::BLOCK_SIZE != 0 {
+    if len % SIZE != 0 {
         return true;
     }
     if MAX_IMAGE < len {
         return true;
     }
-    len / block::BLOCK_SIZE <= (k as usize) + 2
+    len / SIZE <= (k as usize) + 2
 }
 
 // Refusal 2.
@@ -56,7 +68,7 @@ fn bad_mark(img: &[u8], k: u32) -> bool
     requires { ⌜ 512 * k + 10 ≤ length (now img) ⌝ }
     ensures { λ r. ⌜ r ≡ badMark (mount k) (now (img .entry)) ⌝ }
 {
-    let at = block::offset(Addr(k));
+    let at = block::offset(block::BLOCK_SIZE, Addr(k));
     !wire::same_bytes(img, at, &MARK)
 }
 
@@ -76,7 +88,7 @@ fn after_bitmap(n: u32, k: u32) -> u32
 fn bad_count(n: u32, k: u32, len: usize) -> bool
     ensures { λ r. ⌜ r ≡ badCount (geo (mount k) n) len ⌝ }
 {
-    if len / block::BLOCK_SIZE < (n as usize) {
+    if len / SIZE < (n as usize) {
         return true;
     }
     let left = after_bitmap(n, k);
@@ -103,6 +115,9 @@ impl SuperBlock {
         SuperBlock {
             addr: Addr(k),
             blocks: n,
+            size: block::BLOCK_SIZE,
+            version: VERSION,
+            code: CODE,
             bitmap: Addr(a),
             area: Addr(d),
             reach,
@@ -120,7 +135,7 @@ impl SuperBlock {
         if bad_mark(img, k) {
             return Opened::Refused(Refusal::NotMfs);
         }
-        let at = block::offset(Addr(k)) + 10;
+        let at = block::offset(block::BLOCK_SIZE, Addr(k)) + 10;
         let n = wire::get32(img, at);
         if bad_count(n, k, len) {
             return Opened::Refused(Refusal::BadCount);
@@ -135,7 +150,7 @@ impl SuperBlock {
         if bad_image(len, k) {
             return Opened::Refused(Refusal::BadImage);
         }
-        let n = (len / block::BLOCK_SIZE) as u32;
+        let n = (len / SIZE) as u32;
         if bad_count(n, k, len) {
             return Opened::Refused(Refusal::BadCount);
         }
@@ -148,7 +163,7 @@ impl SuperBlock {
         ensures { λ r. ⌜ r ≡ usedCount (geoOf self) (now (img .entry)) ⌝ }
     {
         let a = self.addr;
-        let at = block::offset(a) + 14;
+        let at = block::offset(self.size, a) + 14;
         wire::get32(img, at)
     }
 
@@ -158,7 +173,7 @@ impl SuperBlock {
         ensures { λ _. ⌜ now (img .exit) ≡ counted (geoOf self) (now (img .entry)) v ⌝ }
     {
         let a = self.addr;
-        let at = block::offset(a) + 14;
+        let at = block::offset(self.size, a) + 14;
         wire::put(img, at, 4, v as u64);
     }
 
@@ -169,10 +184,11 @@ impl SuperBlock {
     {
         let a = self.addr;
         let n = self.blocks;
-        let at = block::offset(a);
+        let at = block::offset(self.size, a);
         wire::copy(img, at, &MARK, 0, 10);
         wire::put(img, at + 10, 4, n as u64);
         wire::put(img, at + 14, 4, v as u64);
-        wire::fill(img, at + 18, 494, 0);
+        let rest = (self.size - 18) as usize;
+        wire::fill(img, at + 18, rest, 0);
     }
 }

@@ -30,7 +30,7 @@ use Rattle.path.proofs.FullPaths.{root-good}
 use Rattle.dir.specs.Resolve.{Held, held, onName, entryOf, openDir}
 use Rattle.handle.specs.declared.Handle.{Handle}
 use Rattle.file_read.specs.Read.{readRefusal, bytesRead}
-use Rattle.call_read.specs.Reading.{pathCall, size, area, end, handleFor, openEntry, openOn, openReply, about, aboutEntry, aboutRoot, infoOn, infoReply, countsOf, listOn, listReply, recordsAt, recordsOn}
+use Rattle.call_read.specs.Reading.{pathCall, size, areaAt, handleFor, openEntry, openOn, openReply, about, aboutEntry, aboutRoot, infoOn, infoReply, countsOf, listOn, listReply, recordsAt, recordsOn}
 use Rattle.call_read.proofs.Opening.{entry-dir, entry-device, entry-file}
 use Rattle.call_read.proofs.Paths.{given-none}
 use Rattle.thm_walk.specs.Shown.{walkOf}
@@ -76,7 +76,7 @@ module _ (M : Mount) (I : List ℕ) (w : WellFormed M I) (cwd p : List ℕ) (goo
 
   -- the entry at the path
   abbrev at-path : Reply Held
-  at-path = entryOf (size M I) (area M I) (end M I) I (realPath cwd p)
+  at-path = entryOf (areaAt M I) I (realPath cwd p)
 
   -- an empty last name
   at-none : lastOf cwd p ≡ [] → at-path ≡ refused 5
@@ -211,7 +211,7 @@ module _ (M : Mount) (I : List ℕ) (w : WellFormed M I) (cwd p : List ℕ) (goo
       stopped : (k : ℕ) → wayTo maxDepth (allOf cwd p) (w .tree) ≡ refused k → listReply M I cwd p i cap ≡ refused k
       stopped k a =
           call-given M I w cwd p good _
-          ∙ ap (λ (r : Reply ℕ). andThen r (λ x. countsOf (listFrom cap 0 i (skip i (walk (size M I) (area M I) (end M I) I x)))))
+          ∙ ap (λ (r : Reply ℕ). andThen r (λ x. countsOf (listFrom cap 0 i (skip i (walk (areaAt M I) I x)))))
           (resolve-way (geoAt M I) I maxDepth (w .tree) (taken M I w) (allOf cwd p) (laid-at M I w) ∙ ap starts a)
 
       go : Agree (wayTo maxDepth (allOf cwd p) (w .tree)) (find maxDepth (allOf cwd p) (w .tree)) → (listReply M I cwd p i cap ≡ refused 5) ⊎ (listReply M I cwd p i cap ≡ refused 6)
@@ -221,10 +221,10 @@ module _ (M : Mount) (I : List ℕ) (w : WellFormed M I) (cwd p : List ℕ) (goo
 
   module _ (s : Some) (f : LeadsTo M I w (allOf cwd p) s) where
     -- the directory is found, and walked as the tree has it
-    dir-found : openDir (size M I) (area M I) (end M I) I (realPath cwd p) ≡ accepted (blocksAt (s .1))
+    dir-found : openDir (areaAt M I) I (realPath cwd p) ≡ accepted (blocksAt (s .1))
     dir-found = resolve-is (geoAt M I) I maxDepth (w .tree) (taken M I w) (allOf cwd p) (laid-at M I w) s f
 
-    dir-walk : walk (size M I) (area M I) (end M I) I (blocksAt (s .1)) ≡ walkOf (viewAt M I (s .0)) (s .1)
+    dir-walk : walk (areaAt M I) I (blocksAt (s .1)) ≡ walkOf (viewAt M I (s .0)) (s .1)
     dir-walk = walk-is (geoAt M I) I maxDepth (w .tree) (taken M I w) (allOf cwd p) s (laid-at M I w) f
 
     module _ (i cap : ℕ) where
@@ -233,7 +233,7 @@ module _ (M : Mount) (I : List ℕ) (w : WellFormed M I) (cwd p : List ℕ) (goo
       unfolding listReply listOn andThen
       list-dir =
           call-given M I w cwd p good _
-          ∙ ap (λ (r : Reply ℕ). andThen r (λ x. countsOf (listFrom cap 0 i (skip i (walk (size M I) (area M I) (end M I) I x))))) dir-found
+          ∙ ap (λ (r : Reply ℕ). andThen r (λ x. countsOf (listFrom cap 0 i (skip i (walk (areaAt M I) I x))))) dir-found
           ∙ ap (λ (x : Walk). countsOf (listFrom cap 0 i (skip i x))) dir-walk
 
       -- and always accepted: it answers how many bytes the entries have that it shows, and the number after them,
@@ -242,10 +242,10 @@ module _ (M : Mount) (I : List ℕ) (w : WellFormed M I) (cwd p : List ℕ) (goo
       list-counts = list-dir ∙ ap countsOf (dir-counts (viewAt M I (s .0)) i cap (s .1))
 
       -- and its bytes are their records.
-      pub list-records : recordsOn (size M I) (area M I) (end M I) I (realPath cwd p) i cap ≡ recordsOf (viewAt M I (s .0)) (listedFrom i cap (entriesOf (s .1)))
+      pub list-records : recordsOn (areaAt M I) I (realPath cwd p) i cap ≡ recordsOf (viewAt M I (s .0)) (listedFrom i cap (entriesOf (s .1)))
       unfolding recordsOn
       list-records =
-          ap (recordsAt (size M I) (area M I) (end M I) I i cap) dir-found
+          ap (recordsAt (areaAt M I) I i cap) dir-found
           ∙ ap (λ (x : Walk). recordsFrom cap 0 (skip i x)) dir-walk
           ∙ dir-records (viewAt M I (s .0)) i cap (s .1)
 
@@ -259,7 +259,7 @@ module _ (M : Mount) (I : List ℕ) (w : WellFormed M I) (cwd p : List ℕ) (goo
           list-counts 0 cap ∙ λ j. accepted (record { bytes = a j; next = b j })
 
       -- Its bytes are the records of all entries.
-      pub list-all-records : recordsOn (size M I) (area M I) (end M I) I (realPath cwd p) 0 cap ≡ recordsOf (viewAt M I (s .0)) (entriesOf (s .1))
+      pub list-all-records : recordsOn (areaAt M I) I (realPath cwd p) 0 cap ≡ recordsOf (viewAt M I (s .0)) (entriesOf (s .1))
       list-all-records = list-records 0 cap ∙ ap (recordsOf (viewAt M I (s .0))) (listed-all 0 cap (entriesOf (s .1)) large)
 
 -- ---- the root's own info
@@ -271,7 +271,7 @@ info-root M I w cwd =
     let l : Laid (geoAt M I) I maxDepth (w .tree) (taken M I w) = laid-at M I w in
     call-given M I w cwd (slash ∷ []) (root-good cwd) _
     ∙ pick-true _ _ (same-refl (slash ∷ []))
-    ∙ ap (λ (a : ℕ). aboutRoot (sumFrom 0 (walk (size M I) (area M I) (end M I) I a))) (sym (l .root))
+    ∙ ap (λ (a : ℕ). aboutRoot (sumFrom 0 (walk (areaAt M I) I a))) (sym (l .root))
     ∙ ap aboutRoot (sum-is (geoAt M I) I maxDepth (w .tree) (taken M I w) [] (maxDepth, w .tree) l refl)
 
 -- ---- read
@@ -279,11 +279,11 @@ info-root M I w cwd =
 module _ (M : Mount) (I : List ℕ) (w : WellFormed M I) (q : List Name) (s : Some) (f : LeadsTo M I w q s) (n : Name) (e : Entry (Below (s .0))) (k : lookup n (s .1) ≡ some e)
     (z : ℕ) (cs : List Cell) (i : e .node ≡ file z cs) (h : Handle) (o : HandleOf (blocksAt (s .1)) n z cs h) (len : ℕ) where
   -- A read by a handle of a file of the tree is accepted,
-  pub read-file : firstOf (openRefusal M I ∷ (readRefusal (size M I) (area M I) (end M I) I h len ∷ [])) ≡ 0
+  pub read-file : firstOf (openRefusal M I ∷ (readRefusal (areaAt M I) I h len ∷ [])) ≡ 0
   read-file =
       first-of-tail _ _ (well-formed-opens M I w) ∙ first-of-one _
       ∙ read-accepted (geoAt M I) I maxDepth (w .tree) (taken M I w) q s n e z cs (laid-at M I w) f k i h o len
 
   -- and gives the file's bytes from the position on: as many as are asked for, or as there are.
-  pub read-bytes : bytesRead (size M I) (area M I) (end M I) I h len ≡ take (min len (z - h .position)) (drop (h .position) (contents z cs))
+  pub read-bytes : bytesRead (areaAt M I) I h len ≡ take (min len (z - h .position)) (drop (h .position) (contents z cs))
   read-bytes = read-is (geoAt M I) I maxDepth (w .tree) (taken M I w) q s n e z cs (laid-at M I w) f k i h o len

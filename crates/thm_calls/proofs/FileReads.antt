@@ -18,7 +18,7 @@ use Rattle.wire.proofs.Picks.{either, pick-true, pick-false, same-refl, both-an
 use Rattle.block.specs.Block.{next}
 use Rattle.model.specs.Tree.{Name, Cell, Node, file, device, Entry, Block, Below, Tree, then, first, entriesOf, called, lookup, weight, Some, find}
 use Rattle.model.specs.Render.{View, cellsAt, blocksAt, addressOf, sizeOf, cellPieces, nodePieces, view, render, Shows}
-use Rattle.model.specs.Geometry.{Geo, blockSize, dataAt, Sound}
+use Rattle.model.specs.Geometry.{areaOf, Geo, blockSize, dataAt, Sound}
 use Rattle.model.specs.Volume.{All, fileLimit, blocksFor, named, namedIn, GoodCell, GoodNode, GoodFile, GoodBelow, Laid}
 use Rattle.model.specs.Calls.{stream, contents, places}
 use Rattle.model.proofs.Areas.{few, size-large, block-inside}
@@ -55,7 +55,7 @@ module _ (g : Geo) (I : List ℕ) (sound : Sound g (length I)) where
 
   -- The first m blocks of a chain that the image holds.
   chain-cells : (cs : List Cell) (m : ℕ) → m ≤ length cs → Stored g I (cellPieces cs)
-      → chain (blockSize g) (dataAt g) (g .n) I m (cellsAt cs) ≡ some (take m (places cs))
+      → chain (areaOf g) I m (cellsAt cs) ≡ some (take m (places cs))
   unfolding chain cellsAt places cellPieces
   chain-cells [] zero h s = refl
   chain-cells [] (suc m) h s = absurd (omega arith)
@@ -64,8 +64,8 @@ module _ (g : Geo) (I : List ℕ) (sound : Sound g (length I)) where
       let B : ℕ = blockSize g in
       let r : Stored g I (cellPieces cs) = stored-tail g I _ _ s in
       let z : next B I (c .at) ≡ cellsAt cs = next-shown B I (c .at) (cellsAt cs) (c .body) (cells-small cs r) (s .shown .0) in
-      pick-true _ _ (in-area B (dataAt g) (g .n) I (c .at) (stored-in g I _ _ s))
-      ∙ ap (λ (x : ℕ). then (chain B (dataAt g) (g .n) I m x) (λ xs. some (c .at ∷ xs))) z
+      pick-true _ _ (in-area (areaOf g) I (c .at) (stored-in g I _ _ s))
+      ∙ ap (λ (x : ℕ). then (chain (areaOf g) I m x) (λ xs. some (c .at ∷ xs))) z
       ∙ then-some (λ xs. some (c .at ∷ xs)) (chain-cells cs m (omega arith) r)
 
   -- the data bytes of one of its blocks
@@ -82,21 +82,21 @@ module _ (g : Geo) (I : List ℕ) (sound : Sound g (length I)) where
 
   -- The data bytes of its first m blocks.
   data-cells : (cs : List Cell) (m : ℕ) → All (GoodCell (blockSize g)) cs → Stored g I (cellPieces cs)
-      → dataOf (blockSize g) (dataAt g) (g .n) I (take m (places cs)) ≡ take ((blockSize g - 4) * m) (stream cs)
+      → dataOf (areaOf g) I (take m (places cs)) ≡ take ((blockSize g - 4) * m) (stream cs)
   unfolding dataOf places stream
-  data-cells [] m w s = ap (dataOf (blockSize g) (dataAt g) (g .n) I) (take-nil m) ∙ sym (take-nil ((blockSize g - 4) * m))
+  data-cells [] m w s = ap (dataOf (areaOf g) I) (take-nil m) ∙ sym (take-nil ((blockSize g - 4) * m))
   data-cells (c ∷ cs) zero w s = sym (ap (λ (j : ℕ). take j (c .body ++ stream cs)) (mul-zero (blockSize g - 4)))
   data-cells (c ∷ cs) (suc m) w s =
       let B : ℕ = blockSize g in
       let e : (B - 4) * suc m ≡ length (c .body) + (B - 4) * m = omega (arith, mul-suc (B - 4) m, w .0 .whole) in
-      ap (λ (l : List ℕ). l ++ dataOf B (dataAt g) (g .n) I (take m (places cs))) (body-is c cs (w .0) s)
+      ap (λ (l : List ℕ). l ++ dataOf (areaOf g) I (take m (places cs))) (body-is c cs (w .0) s)
       ∙ ap (λ (l : List ℕ). c .body ++ l) (data-cells cs m (w .1) (unfold cellPieces in stored-tail g I _ _ s))
       ∙ sym (ap (λ (j : ℕ). take j (c .body ++ stream cs)) e ∙ take-append-add (c .body) (stream cs) ((B - 4) * m))
 
   -- The data bytes of all of it.
-  data-all : (cs : List Cell) → All (GoodCell (blockSize g)) cs → Stored g I (cellPieces cs) → dataOf (blockSize g) (dataAt g) (g .n) I (places cs) ≡ stream cs
+  data-all : (cs : List Cell) → All (GoodCell (blockSize g)) cs → Stored g I (cellPieces cs) → dataOf (areaOf g) I (places cs) ≡ stream cs
   data-all cs w s =
-      ap (dataOf (blockSize g) (dataAt g) (g .n) I) (sym (take-all (length cs) (places cs) (omega (arith, length-places cs))))
+      ap (dataOf (areaOf g) I) (sym (take-all (length cs) (places cs) (omega (arith, length-places cs))))
       ∙ data-cells cs (length cs) w s
       ∙ take-all ((blockSize g - 4) * length cs) (stream cs) (omega (arith, length-stream (blockSize g) cs w))
 
@@ -128,11 +128,11 @@ module _ (g : Geo) (I : List ℕ) (d : ℕ) (t : Tree d) (u : ℕ) (p : List Nam
 
   -- The chain from its first address gives its blocks, as many as it has,
   pub chain-is : (e .node ≡ file z cs) ⊎ (e .node ≡ device z cs) → (m : ℕ) → m ≤ length cs
-      → chain (blockSize g) (dataAt g) (g .n) I m (cellsAt cs) ≡ some (take m (places cs))
+      → chain (areaOf g) I m (cellsAt cs) ≡ some (take m (places cs))
   chain-is i m h = chain-cells g I (l .sound) cs m h (chained i .stored)
 
   -- and their data bytes are the tree's.
-  pub data-is : (e .node ≡ file z cs) ⊎ (e .node ≡ device z cs) → dataOf (blockSize g) (dataAt g) (g .n) I (places cs) ≡ stream cs
+  pub data-is : (e .node ≡ file z cs) ⊎ (e .node ≡ device z cs) → dataOf (areaOf g) I (places cs) ≡ stream cs
   data-is i = let c = chained i in data-all g I (l .sound) cs (c .cells) (c .stored)
 
 -- ---- the entry of a handle
@@ -188,7 +188,7 @@ module _ {X : Type 0} (v : View X) (h : Handle) where
 
 -- A handle of a directory of the volume: 0 where the tree has its file there, else 11.
 held-is : (g : Geo) (I : List ℕ) (d : ℕ) (t : Tree d) (u : ℕ) (p : List Name) (s : Some) (h : Handle) → Laid g I d t u → find d p t ≡ some s
-    → heldIn h (walk (blockSize g) (dataAt g) (g .n) I (blocksAt (s .1))) ≡ heldBy (view (blockSize g) (s .0)) h (lookup (nameOf h) (s .1))
+    → heldIn h (walk (areaOf g) I (blocksAt (s .1))) ≡ heldBy (view (blockSize g) (s .0)) h (lookup (nameOf h) (s .1))
 held-is g I d t u p s h l f =
     ap (heldIn h) (walk-is g I d t u p s l f)
     ∙ walk-held (view (blockSize g) (s .0)) h (s .1) (good-find (blockSize g) d p t s (l .good) f .distinct)
@@ -206,7 +206,7 @@ in-size p len y z e h = omega arith
 
 module _ (g : Geo) (I : List ℕ) (sound : Sound g (length I)) (cs : List Cell) (c : Chained g I cs) where
   -- as many blocks as there are may be walked
-  chain-read : (m : ℕ) → m ≤ length cs → chainRead (blockSize g) (dataAt g) (g .n) I (cellsAt cs) m ≡ some (take m (places cs))
+  chain-read : (m : ℕ) → m ≤ length cs → chainRead (areaOf g) I (cellsAt cs) m ≡ some (take m (places cs))
   unfolding chainRead
   chain-read m h =
       pick-true _ _ (le-leb m (g .n - dataAt g) (omega (arith, cells-long cs, stored-few g I (cellPieces cs) (c .stored))))
@@ -214,8 +214,8 @@ module _ (g : Geo) (I : List ℕ) (sound : Sound g (length I)) (cs : List Cell) 
 
   -- A read of k bytes at p, all of them in the first z bytes of a chain that has so many.
   read-window : (z p k : ℕ) → p + k ≤ z → z ≤ (blockSize g - 4) * length cs
-      → (m : ℕ) × (chainRead (blockSize g) (dataAt g) (g .n) I (cellsAt cs) (blocksRead (blockSize g) (dataAt g) (g .n) I p k) ≡ some (take m (places cs)))
-      × (take k (drop p (dataOf (blockSize g) (dataAt g) (g .n) I (take m (places cs)))) ≡ take k (drop p (contents z cs)))
+      → (m : ℕ) × (chainRead (areaOf g) I (cellsAt cs) (blocksRead (areaOf g) I p k) ≡ some (take m (places cs)))
+      × (take k (drop p (dataOf (areaOf g) I (take m (places cs)))) ≡ take k (drop p (contents z cs)))
   unfolding blocksRead contents
   read-window z p zero h q = (0, chain-read 0 (omega arith), refl)
   read-window z p (suc k) h q =
@@ -259,38 +259,38 @@ module _ (g : Geo) (I : List ℕ) (d : ℕ) (t : Tree d) (u : ℕ) (p : List Nam
       both-and (both-and a b) (both-and (eq-eqb _ _ q) (eq-eqb _ _ r))
 
   -- so the directory holds the handle
-  held-here : heldIn h (walk (blockSize g) (dataAt g) (g .n) I (h .dir .0)) ≡ 0
+  held-here : heldIn h (walk (areaOf g) I (h .dir .0)) ≡ 0
   unfolding heldBy
   held-here =
-      ap (λ (a : ℕ). heldIn h (walk (blockSize g) (dataAt g) (g .n) I a)) (o .dir)
+      ap (λ (a : ℕ). heldIn h (walk (areaOf g) I a)) (o .dir)
       ∙ held-is g I d t u p s h l f
       ∙ ap (heldBy (view (blockSize g) (s .0)) h) (ap (λ (x : Name). lookup x (s .1)) (o .name) ∙ k)
       ∙ pick-true 0 11 is-current
 
   module _ (len : ℕ) where
     -- the blocks of the read, and their bytes
-    walked : (m : ℕ) × (chainRead (blockSize g) (dataAt g) (g .n) I (cellsAt cs) (blocksRead (blockSize g) (dataAt g) (g .n) I (h .position) (toRead h len)) ≡ some (take m (places cs)))
-        × (take (toRead h len) (drop (h .position) (dataOf (blockSize g) (dataAt g) (g .n) I (take m (places cs)))) ≡ take (toRead h len) (drop (h .position) (contents z cs)))
+    walked : (m : ℕ) × (chainRead (areaOf g) I (cellsAt cs) (blocksRead (areaOf g) I (h .position) (toRead h len)) ≡ some (take m (places cs)))
+        × (take (toRead h len) (drop (h .position) (dataOf (areaOf g) I (take m (places cs)))) ≡ take (toRead h len) (drop (h .position) (contents z cs)))
     walked =
         let x : z ≤ (blockSize g - 4) * blocksFor (blockSize g) z = blocks-enough (blockSize g) (omega (arith, size-large g)) z in
         read-window g I (l .sound) cs (chained g I d t u p s n e z cs l f k (inl i)) z (h .position) (toRead h len)
         (in-size (h .position) len (h .size) z (o .size) (o .position)) (subst (λ (j : ℕ). z ≤ (blockSize g - 4) * j) (sym (good-file .long)) x)
 
-    on-chain : chainRead (blockSize g) (dataAt g) (g .n) I (h .addr .0) (blocksRead (blockSize g) (dataAt g) (g .n) I (h .position) (toRead h len)) ≡ some (take (walked .0) (places cs))
+    on-chain : chainRead (areaOf g) I (h .addr .0) (blocksRead (areaOf g) I (h .position) (toRead h len)) ≡ some (take (walked .0) (places cs))
     on-chain =
-        ap (λ (a : ℕ). chainRead (blockSize g) (dataAt g) (g .n) I a (blocksRead (blockSize g) (dataAt g) (g .n) I (h .position) (toRead h len))) (o .addr) ∙ walked .1
+        ap (λ (a : ℕ). chainRead (areaOf g) I a (blocksRead (areaOf g) I (h .position) (toRead h len))) (o .addr) ∙ walked .1
 
     -- A read by a handle of a file of the volume is accepted,
-    pub read-accepted : readRefusal (blockSize g) (dataAt g) (g .n) I h len ≡ 0
+    pub read-accepted : readRefusal (areaOf g) I h len ≡ 0
     unfolding readRefusal
     read-accepted =
-        passes 11 _ fresh ∙ first-of-tail _ _ held-here ∙ passes 17 [] (ap (missing (blockSize g) (dataAt g) (g .n) I) on-chain) ∙ first-of-none
+        passes 11 _ fresh ∙ first-of-tail _ _ held-here ∙ passes 17 [] (ap (missing (areaOf g) I) on-chain) ∙ first-of-none
 
     -- and gives the file's bytes from the position on: as many as are asked for, or as there are.
-    pub read-is : bytesRead (blockSize g) (dataAt g) (g .n) I h len ≡ take (min len (z - h .position)) (drop (h .position) (contents z cs))
+    pub read-is : bytesRead (areaOf g) I h len ≡ take (min len (z - h .position)) (drop (h .position) (contents z cs))
     unfolding bytesRead
     read-is =
-        ap (λ (x : Option (List ℕ)). bytesOf (blockSize g) (dataAt g) (g .n) I x (h .position) (toRead h len)) on-chain ∙ walked .2
+        ap (λ (x : Option (List ℕ)). bytesOf (areaOf g) I x (h .position) (toRead h len)) on-chain ∙ walked .2
         ∙ ap (λ (j : ℕ). take (min len (j - h .position)) (drop (h .position) (contents z cs))) (o .size)
 
 -- ---- any handle of a directory of the volume
@@ -320,19 +320,19 @@ FileThere s h =
 module _ (g : Geo) (I : List ℕ) (d : ℕ) (t : Tree d) (u : ℕ) (p : List Name) (s : Some) (h : Handle) (l : Laid g I d t u) (f : find d p t ≡ some s)
     (long : length (h .name) ≡ 255) (in-dir : h .dir .0 ≡ blocksAt (s .1)) where
   -- A handle whose directory is one of the volume's is a handle of a file there, or stale: then every read gives 11.
-  pub handle-or : FileThere s h ⊎ ((len : ℕ) → readRefusal (blockSize g) (dataAt g) (g .n) I h len ≡ 11)
+  pub handle-or : FileThere s h ⊎ ((len : ℕ) → readRefusal (areaOf g) I h len ≡ 11)
   unfolding readRefusal
   handle-or = go (either (staleFields h)) (held-or (view (blockSize g) (s .0)) h (s .1))
     where
       go : (staleFields h ≡ true) ⊎ (staleFields h ≡ false)
           → ((e : Entry (Below (s .0))) × (cs : List Cell) × (lookup (nameOf h) (s .1) ≡ some e) × (e .node ≡ file (h .size) cs) × (h .addr .0 ≡ cellsAt cs))
           ⊎ (heldBy (view (blockSize g) (s .0)) h (lookup (nameOf h) (s .1)) ≡ 11)
-          → FileThere s h ⊎ ((len : ℕ) → readRefusal (blockSize g) (dataAt g) (g .n) I h len ≡ 11)
+          → FileThere s h ⊎ ((len : ℕ) → readRefusal (areaOf g) I h len ≡ 11)
       go (inl a) b = inr (λ len. refuses 11 _ (omega arith) a)
       go (inr a) (inr b) =
           inr (λ len.
-          let k : heldIn h (walk (blockSize g) (dataAt g) (g .n) I (h .dir .0)) ≡ 11
-          = ap (λ (x : ℕ). heldIn h (walk (blockSize g) (dataAt g) (g .n) I x)) in-dir ∙ held-is g I d t u p s h l f ∙ b in
+          let k : heldIn h (walk (areaOf g) I (h .dir .0)) ≡ 11
+          = ap (λ (x : ℕ). heldIn h (walk (areaOf g) I x)) in-dir ∙ held-is g I d t u p s h l f ∙ b in
           passes 11 _ a ∙ first-of-head _ _ (omega arith) ∙ k)
       go (inr a) (inl b) =
           let c = fields-fresh h a in

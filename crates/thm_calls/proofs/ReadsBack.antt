@@ -35,7 +35,7 @@ use Rattle.handle.specs.OnTree.{OnFile}
 use Rattle.handle.proofs.Seeks.{fresh}
 use Rattle.write.proofs.Targets.{accepted-is}
 use Rattle.write.proofs.Renewed.{still-fresh, was-good, there-after, starts-after, held-after, from-after}
-use Rattle.call_read.specs.Reading.{size, area, end, readCall, Reads}
+use Rattle.call_read.specs.Reading.{areaAt, readCall, Reads}
 use Rattle.call_change.specs.Changing.{Writes}
 use Rattle.thm_calls.specs.Handles.{HandleOf}
 use Rattle.thm_calls.proofs.Calls.{read-file, read-bytes}
@@ -99,7 +99,7 @@ module _ (M : Mount) (I J : List ℕ) (w : WellFormed M I) (h : Handle) (now : �
       reads-back = read-file M J after q dir′ there (nameOf h) (fileEntry (nameOf h) now long es) held long es refl at handle-of len
 
       -- and gives those bytes from there on: as many as are asked for, or as there are.
-      bytes-back : bytesRead (size M J) (area M J) (end M J) J (moved (grownHandle h (length buf)) i) len
+      bytes-back : bytesRead (areaAt M J) J (moved (grownHandle h (length buf)) i) len
           ≡ take (min len (h .position + length buf - i)) (drop i (take (h .position) (contents (m .size) (m .cells)) ++ buf))
       unfolding fileEntry
       bytes-back =

@@ -12,7 +12,7 @@ use Rattle.wire.proofs.Numbers.{getD-zeros}
 use Rattle.bits.specs.Bit.{digit, withDigit, withBit}
 use Rattle.block.specs.Block.{linked, zeroed, next}
 use Rattle.model.specs.Tree.{Name}
-use Rattle.model.specs.Geometry.{Geo, blockSize, mapAt, dataAt, usedCount}
+use Rattle.model.specs.Geometry.{areaOf, Geo, blockSize, mapAt, dataAt, usedCount}
 use Rattle.wire.proofs.Picks.{and-both}
 use Rattle.text.specs.Text.{isText, isName, hasByte, slash}
 use Rattle.thm_text.proofs.Small.{text-bytes}
@@ -146,7 +146,7 @@ module _ (g : Geo) where
 
   bytes-renewed : (I : List ℕ) → Bytes I → (dir : ℕ) (o : Own) (time : ℕ) → Bytes (sumRenewed g I dir o time)
   unfolding sumRenewed
-  bytes-renewed I b dir o time = summed-bytes o (sumFrom 0 (walk (blockSize g) (dataAt g) (g .n) I dir))
+  bytes-renewed I b dir o time = summed-bytes o (sumFrom 0 (walk (areaOf g) I dir))
     where
       summed-bytes : (o : Own) (s : Summed) → Bytes (ownSummed (blockSize g) I o time s)
       summed-bytes own.Root (summed.Total z) = b
@@ -216,7 +216,7 @@ module _ (g : Geo) where
   unfolding chainFreed
   bytes-chain zero I b a = b
   bytes-chain (suc k) I b a =
-      bytes-pick (inArea (blockSize g) (dataAt g) (g .n) I a) (chainFreed g (released g I a) k (next (blockSize g) I a)) I
+      bytes-pick (inArea (areaOf g) I a) (chainFreed g (released g I a) k (next (blockSize g) I a)) I
       (bytes-chain k (released g I a) (bytes-released I b a) (next (blockSize g) I a)) b
 
   bytes-bare : (I : List ℕ) → Bytes I → (dir a : ℕ) → Bytes (lessBare g I dir a)

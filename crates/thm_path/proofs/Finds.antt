@@ -10,7 +10,7 @@ use native.Mathlib.Omega.{arith}
 use Rattle.wire.proofs.Picks.{either, not-both, pick-true, pick-false, same-swap}
 use Rattle.model.specs.Tree.{Name, Entry, Block, Below, Tree, any, first, then, entriesOf, called, holds, Absent, lookup, weight, sum, Some, find}
 use Rattle.model.specs.Render.{View, blocksAt, view, offset}
-use Rattle.model.specs.Geometry.{Geo, blockSize, dataAt}
+use Rattle.model.specs.Geometry.{areaOf, Geo, blockSize}
 use Rattle.model.specs.Volume.{Laid}
 use Rattle.model.proofs.Lists.{not-some, any-there, first-here, first-there, none-head, none-tail}
 use Rattle.model.proofs.Others.{lookup-here, lookup-there}
@@ -125,7 +125,7 @@ module _ {X : Type 0} (v : View X) where
 module _ (g : Geo) (I : List ℕ) (d : ℕ) (t : Tree d) (u : ℕ) (p : List Name) (s : Some) (l : Laid g I d t u) (f : find d p t ≡ some s) where
   -- the walk of the directory at path p
   abbrev at-path : Walk
-  at-path = walk (blockSize g) (dataAt g) (g .n) I (blocksAt (s .1))
+  at-path = walk (areaOf g) I (blocksAt (s .1))
 
   abbrev view-there : View (Below (s .0))
   view-there = view (blockSize g) (s .0)

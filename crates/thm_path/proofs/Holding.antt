@@ -10,7 +10,7 @@ use Rattle.wire.specs.Pick.{pick}
 use Rattle.model.specs.Answers.{Reply, accepted, refused, andThen}
 use Rattle.model.specs.Tree.{Name, Node, file, device, sub, Entry, Below, Tree, Absent, lookup, inside, Some, find}
 use Rattle.model.specs.Render.{View, blocksAt, addressOf, view, ownTime}
-use Rattle.model.specs.Geometry.{Geo, blockSize, dataAt}
+use Rattle.model.specs.Geometry.{areaOf, Geo, blockSize, dataAt}
 use Rattle.model.specs.Volume.{Laid}
 use Rattle.model.proofs.Lists.{not-some, then-some}
 use Rattle.model.proofs.Replies.{not-accepted, accepted-one, then-accepted}
@@ -52,21 +52,21 @@ enters-entry v (c ∷ n) x k p r e = enters-node v (x .node) k p r e
 module _ (g : Geo) (I : List ℕ) where
   -- the directory of that name in the directory h
   abbrev inside-of : Hold → Name → Reply Hold
-  inside-of h n = entered (blockSize g) (dataAt g) (g .n) I h n
+  inside-of h n = entered (areaOf g) I h n
 
   entered-finds : (d : ℕ) (t : Tree d) (h : Hold) (n : Name) (e : Entry (Below d)) → Part g I d t → h .dir ≡ blocksAt t → lookup n t ≡ some e
       → inside-of h n ≡ onName n (holdAt (h .depth) (headOf (view (blockSize g) d) e) (spotOf n t))
   entered-finds d t h [] e a s l = refl
   entered-finds d t h (c ∷ n) e a s l =
       ap (λ (r : Found). onPlaced r (holdAt (h .depth)))
-      (ap (λ (b : ℕ). findIn (c ∷ n) (walk (blockSize g) (dataAt g) (g .n) I b)) s ∙ ap (findIn (c ∷ n)) (part-walk g I d t a)
+      (ap (λ (b : ℕ). findIn (c ∷ n) (walk (areaOf g) I b)) s ∙ ap (findIn (c ∷ n)) (part-walk g I d t a)
       ∙ walk-finds (c ∷ n) (view (blockSize g) d) t e l)
 
   entered-misses : (d : ℕ) (t : Tree d) (h : Hold) (n : Name) → Part g I d t → h .dir ≡ blocksAt t → Absent n t → inside-of h n ≡ refused 5
   entered-misses d t h [] a s l = refl
   entered-misses d t h (c ∷ n) a s l =
       ap (λ (r : Found). onPlaced r (holdAt (h .depth)))
-      (ap (λ (b : ℕ). findIn (c ∷ n) (walk (blockSize g) (dataAt g) (g .n) I b)) s ∙ ap (findIn (c ∷ n)) (part-walk g I d t a)
+      (ap (λ (b : ℕ). findIn (c ∷ n) (walk (areaOf g) I b)) s ∙ ap (findIn (c ∷ n)) (part-walk g I d t a)
       ∙ walk-misses (c ∷ n) (view (blockSize g) d) t l)
 
   -- A directory that is entered is one of the tree, and its own entry stands where the tree has it.
@@ -147,27 +147,27 @@ module _ (B : ℕ) where
 module _ (g : Geo) (I : List ℕ) where
   -- from any directory that the image holds
   led : (d : ℕ) (p : List Name) (t : Tree d) (h r : Hold) → Part g I d t → h .dir ≡ blocksAt t
-      → holdFrom (blockSize g) (dataAt g) (g .n) I p h ≡ accepted r → Led (blockSize g) d p t h r
+      → holdFrom (areaOf g) I p h ≡ accepted r → Led (blockSize g) d p t h r
   unfolding find view
-  led zero [] t h r a s q = led-none (blockSize g) zero t h r refl s (accepted-one h r (sym (hold-none (blockSize g) (dataAt g) (g .n) I h) ∙ q))
-  led (suc d) [] t h r a s q = led-none (blockSize g) (suc d) t h r refl s (accepted-one h r (sym (hold-none (blockSize g) (dataAt g) (g .n) I h) ∙ q))
+  led zero [] t h r a s q = led-none (blockSize g) zero t h r refl s (accepted-one h r (sym (hold-none (areaOf g) I h) ∙ q))
+  led (suc d) [] t h r a s q = led-none (blockSize g) (suc d) t h r refl s (accepted-one h r (sym (hold-none (areaOf g) I h) ∙ q))
   led zero (n ∷ p) t h r a s q =
-      let w = then-accepted _ _ r (sym (hold-step (blockSize g) (dataAt g) (g .n) I n p h) ∙ q) in
+      let w = then-accepted _ _ r (sym (hold-step (areaOf g) I n p h) ∙ q) in
       let z = enters g I zero t h n (w .0) a s (w .1) in
       absurd (z .1)
   led (suc d) (n ∷ p) t h r a s q =
-      let w = then-accepted _ _ r (sym (hold-step (blockSize g) (dataAt g) (g .n) I n p h) ∙ q) in
+      let w = then-accepted _ _ r (sym (hold-step (areaOf g) I n p h) ∙ q) in
       let z = enters g I (suc d) t h n (w .0) a s (w .1) in
       let under : Hold = below (h .depth) (spotOf n t) (blocksAt (z .1)) in
       led-step (blockSize g) d t n p (z .0) (z .1) h r (blocksAt (z .1)) (z .2) (z .3)
       (led d p (z .1) under r (part-sub g I d t n (z .0) (z .1) a (z .2) (z .3)) refl
-      (ap (holdFrom (blockSize g) (dataAt g) (g .n) I p) (z .4) ∙ w .2))
+      (ap (holdFrom (areaOf g) I p) (z .4) ∙ w .2))
 
 -- ---- on a volume
 
 module _ (g : Geo) (I : List ℕ) (d : ℕ) (t : Tree d) (u : ℕ) (p : List Name) (l : Laid g I d t u) where
   -- The holding directory that is found at these names is the tree's.
-  pub hold-is : (h : Hold) → holdFrom (blockSize g) (dataAt g) (g .n) I p (rootHold (dataAt g)) ≡ accepted h → HeldAt (blockSize g) d p t h
+  pub hold-is : (h : Hold) → holdFrom (areaOf g) I p (rootHold (dataAt g)) ≡ accepted h → HeldAt (blockSize g) d p t h
   hold-is h q =
       let z = led g I d p t (rootHold (dataAt g)) h (laid-part g I d t u l) (sym (l .root)) q in
       record { there = z .there; found = z .found; starts = z .starts; deep = omega (arith, z .deep); levels = z .levels; own = go p (z .past) }
@@ -177,21 +177,21 @@ module _ (g : Geo) (I : List ℕ) (d : ℕ) (t : Tree d) (u : ℕ) (p : List Nam
       go (n ∷ q) x = x
 
   -- So on a volume the own entry of every directory that a path leads to is there, and it is the tree's.
-  pub own-there : (h : Hold) → holdFrom (blockSize g) (dataAt g) (g .n) I p (rootHold (dataAt g)) ≡ accepted h → OwnOf (blockSize g) d p t (h .own)
+  pub own-there : (h : Hold) → holdFrom (areaOf g) I p (rootHold (dataAt g)) ≡ accepted h → OwnOf (blockSize g) d p t (h .own)
   own-there h q = hold-is h q .own
 
   -- Names that stop give 5 or 6, never 17, and there is no directory there.
-  pub hold-refused : (k : ℕ) → holdFrom (blockSize g) (dataAt g) (g .n) I p (rootHold (dataAt g)) ≡ refused k → (find d p t ≡ none) × ((k ≡ 5) ⊎ (k ≡ 6))
+  pub hold-refused : (k : ℕ) → holdFrom (areaOf g) I p (rootHold (dataAt g)) ≡ refused k → (find d p t ≡ none) × ((k ≡ 5) ⊎ (k ≡ 6))
   unfolding andThen
   hold-refused k q =
       unresolved-is g I d t u p l k
-      (sym (hold-resolve (blockSize g) (dataAt g) (g .n) I p (rootHold (dataAt g))) ∙ ap (λ (y : Reply Hold). andThen y (λ r. accepted (r .dir))) q)
+      (sym (hold-resolve (areaOf g) I p (rootHold (dataAt g))) ∙ ap (λ (y : Reply Hold). andThen y (λ r. accepted (r .dir))) q)
 
   -- Where the tree has a directory, one is found.
-  pub hold-some : (s : Some) → find d p t ≡ some s → (h : Hold) × (holdFrom (blockSize g) (dataAt g) (g .n) I p (rootHold (dataAt g)) ≡ accepted h)
-  hold-some s f = go (holdFrom (blockSize g) (dataAt g) (g .n) I p (rootHold (dataAt g))) refl
+  pub hold-some : (s : Some) → find d p t ≡ some s → (h : Hold) × (holdFrom (areaOf g) I p (rootHold (dataAt g)) ≡ accepted h)
+  hold-some s f = go (holdFrom (areaOf g) I p (rootHold (dataAt g))) refl
     where
-      go : (r : Reply Hold) → holdFrom (blockSize g) (dataAt g) (g .n) I p (rootHold (dataAt g)) ≡ r
-          → (h : Hold) × (holdFrom (blockSize g) (dataAt g) (g .n) I p (rootHold (dataAt g)) ≡ accepted h)
+      go : (r : Reply Hold) → holdFrom (areaOf g) I p (rootHold (dataAt g)) ≡ r
+          → (h : Hold) × (holdFrom (areaOf g) I p (rootHold (dataAt g)) ≡ accepted h)
       go (accepted h) q = (h, q)
       go (refused k) q = absurd (not-some (hold-refused k q .0) f)

@@ -11,7 +11,7 @@ use Rattle.wire.proofs.Picks.{same-eq}
 use Rattle.model.specs.Answers.{Reply, accepted, refused, andThen}
 use Rattle.model.specs.Tree.{Name, Node, file, device, sub, Entry, Block, Below, Tree, then, entriesOf, called, holds, first, Absent, lookup, inside, Some, find}
 use Rattle.model.specs.Render.{View, blocksAt, addressOf, view}
-use Rattle.model.specs.Geometry.{Geo, blockSize, dataAt}
+use Rattle.model.specs.Geometry.{areaOf, Geo, blockSize, dataAt}
 use Rattle.model.specs.Volume.{GoodBelow, Laid}
 use Rattle.model.proofs.Full.{good-lookup, good-find}
 use Rattle.model.proofs.Lists.{not-some, first-none, first-passes}
@@ -89,7 +89,7 @@ starts r = andThen r (λ s. accepted (blocksAt (s .1)))
 module _ (g : Geo) (I : List ℕ) where
   -- the way from a directory at a, by these names
   abbrev onward : List Name → ℕ → Reply ℕ
-  onward p a = resolve (blockSize g) (dataAt g) (g .n) I p a
+  onward p a = resolve (areaOf g) I p a
 
   -- what is done with an entry that is found
   abbrev enter : List Name → DirEntry → Reply ℕ
@@ -137,7 +137,7 @@ module _ (g : Geo) (I : List ℕ) where
 
   -- The way from a directory that the image holds is the tree's.
   resolve-part : (d : ℕ) (p : List Name) (t : Tree d) → Part g I d t
-      → resolve (blockSize g) (dataAt g) (g .n) I p (blocksAt t) ≡ starts (wayTo d p t)
+      → resolve (areaOf g) I p (blocksAt t) ≡ starts (wayTo d p t)
   unfolding wayTo resolve andThen view
   resolve-part zero [] t a = refl
   resolve-part (suc d) [] t a = refl
@@ -149,20 +149,20 @@ module _ (g : Geo) (I : List ℕ) where
 
 module _ (g : Geo) (I : List ℕ) (d : ℕ) (t : Tree d) (u : ℕ) (p : List Name) (l : Laid g I d t u) where
   -- From the root, which begins at D, a path leads where the tree says, and stops with the tree's number.
-  pub resolve-way : resolve (blockSize g) (dataAt g) (g .n) I p (dataAt g) ≡ starts (wayTo d p t)
-  resolve-way = ap (resolve (blockSize g) (dataAt g) (g .n) I p) (sym (l .root)) ∙ resolve-part g I d p t (laid-part g I d t u l)
+  pub resolve-way : resolve (areaOf g) I p (dataAt g) ≡ starts (wayTo d p t)
+  resolve-way = ap (resolve (areaOf g) I p) (sym (l .root)) ∙ resolve-part g I d p t (laid-part g I d t u l)
 
   -- The directory at a path is the one that the path leads to.
-  pub resolve-is : (s : Some) → find d p t ≡ some s → resolve (blockSize g) (dataAt g) (g .n) I p (dataAt g) ≡ accepted (blocksAt (s .1))
+  pub resolve-is : (s : Some) → find d p t ≡ some s → resolve (areaOf g) I p (dataAt g) ≡ accepted (blocksAt (s .1))
   unfolding andThen
   resolve-is s f = go (way-agrees d p t)
     where
-      go : Agree (wayTo d p t) (find d p t) → resolve (blockSize g) (dataAt g) (g .n) I p (dataAt g) ≡ accepted (blocksAt (s .1))
+      go : Agree (wayTo d p t) (find d p t) → resolve (areaOf g) I p (dataAt g) ≡ accepted (blocksAt (s .1))
       go (leads r a b) = let k : r ≡ s = cc in resolve-way ∙ ap starts (a ∙ ap (λ (z : Some). accepted z) k)
       go (stops k a b c) = absurd (not-some b f)
 
   -- An address that a path leads to is that of the directory there.
-  pub resolved-is : (a : ℕ) → resolve (blockSize g) (dataAt g) (g .n) I p (dataAt g) ≡ accepted a → (s : Some) × (find d p t ≡ some s) × (blocksAt (s .1) ≡ a)
+  pub resolved-is : (a : ℕ) → resolve (areaOf g) I p (dataAt g) ≡ accepted a → (s : Some) × (find d p t ≡ some s) × (blocksAt (s .1) ≡ a)
   unfolding andThen
   resolved-is a h = go (way-agrees d p t)
     where
@@ -171,7 +171,7 @@ module _ (g : Geo) (I : List ℕ) (d : ℕ) (t : Tree d) (u : ℕ) (p : List Nam
       go (stops k r b c) = let e : refused k ≡ accepted a = sym (resolve-way ∙ ap starts r) ∙ h in let z : _≡_ {A = ℕ} 0 1 = cc in absurd (omega arith)
 
   -- A path that stops gives 5 or 6, never 17, and there is no directory there.
-  pub unresolved-is : (k : ℕ) → resolve (blockSize g) (dataAt g) (g .n) I p (dataAt g) ≡ refused k → (find d p t ≡ none) × ((k ≡ 5) ⊎ (k ≡ 6))
+  pub unresolved-is : (k : ℕ) → resolve (areaOf g) I p (dataAt g) ≡ refused k → (find d p t ≡ none) × ((k ≡ 5) ⊎ (k ≡ 6))
   unfolding andThen
   unresolved-is k h = go (way-agrees d p t)
     where
@@ -189,11 +189,11 @@ name-either (c ∷ n) r e = e
 module _ (g : Geo) (I : List ℕ) (d : ℕ) (t : Tree d) (u : ℕ) (q : List ℕ) (l : Laid g I d t u) where
   -- the entry of q's last name in the directory at a
   abbrev last-in : ℕ → Reply Held
-  last-in a = lookupIn (blockSize g) (dataAt g) (g .n) I a (lastName q) (λ e. accepted (record { dir = a; entry = e }))
+  last-in a = lookupIn (areaOf g) I a (lastName q) (λ e. accepted (record { dir = a; entry = e }))
 
   -- What the tree has at the path is found there,
   pub entry-is : (s : Some) (e : Entry (Below (s .0))) → find d (steps (dirPart q)) t ≡ some s → lookup (lastName q) (s .1) ≡ some e
-      → entryOf (blockSize g) (dataAt g) (g .n) I q ≡ accepted (record { dir = blocksAt (s .1); entry = headOf (view (blockSize g) (s .0)) e })
+      → entryOf (areaOf g) I q ≡ accepted (record { dir = blocksAt (s .1); entry = headOf (view (blockSize g) (s .0)) e })
   unfolding entryOf andThen
   entry-is s e f k =
       let m = good-lookup (blockSize g) (GoodBelow (blockSize g) (s .0)) (lastName q) (s .1) e (good-find (blockSize g) d (steps (dirPart q)) t s (l .good) f) k .good-name .some-bytes in
@@ -203,13 +203,13 @@ module _ (g : Geo) (I : List ℕ) (d : ℕ) (t : Tree d) (u : ℕ) (q : List ℕ
       ∙ ap (λ (r : Found). onFound r (λ x. accepted (record { dir = blocksAt (s .1); entry = x }))) (find-is g I d t u (steps (dirPart q)) s l f (lastName q) e k)
 
   -- a name that the directory has not gives 5,
-  pub entry-missing : (s : Some) → find d (steps (dirPart q)) t ≡ some s → Absent (lastName q) (s .1) → entryOf (blockSize g) (dataAt g) (g .n) I q ≡ refused 5
+  pub entry-missing : (s : Some) → find d (steps (dirPart q)) t ≡ some s → Absent (lastName q) (s .1) → entryOf (areaOf g) I q ≡ refused 5
   unfolding entryOf andThen
   entry-missing s f k =
       name-either (lastName q) _ (ap (λ (r : Reply ℕ). andThen r last-in) (resolve-is g I d t u (steps (dirPart q)) l s f)
       ∙ ap (λ (r : Found). onFound r (λ x. accepted (record { dir = blocksAt (s .1); entry = x }))) (find-missing g I d t u (steps (dirPart q)) s l f (lastName q) k))
 
   -- and a way that stops gives its number, but for an empty last name.
-  pub entry-stops : (k : ℕ) → wayTo d (steps (dirPart q)) t ≡ refused k → entryOf (blockSize g) (dataAt g) (g .n) I q ≡ onName (lastName q) (refused k)
+  pub entry-stops : (k : ℕ) → wayTo d (steps (dirPart q)) t ≡ refused k → entryOf (areaOf g) I q ≡ onName (lastName q) (refused k)
   unfolding entryOf andThen
   entry-stops k w = ap (λ (r : Reply ℕ). onName (lastName q) (andThen r last-in)) (resolve-way g I d t u (steps (dirPart q)) l ∙ ap starts w)

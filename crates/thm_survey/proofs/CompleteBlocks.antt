@@ -10,7 +10,7 @@ use borrow.Author.Tests.{eq-eqb, ne-eqb}
 use Rattle.wire.specs.Be.{bytes}
 use Rattle.wire.specs.Pick.{pick}
 use Rattle.wire.proofs.Picks.{pick-true, pick-false}
-use Rattle.block.specs.Block.{next}
+use Rattle.block.specs.Block.{Area, next}
 use Rattle.model.specs.Tree.{Entry, Block, then, Filled, Packed}
 use Rattle.model.specs.Render.{View, blocksAt, padded, entriesBytes, entryPieces, dirPieces, count, Shows, ShowsAll}
 use Rattle.model.specs.Volume.{All, GoodBlock}
@@ -46,39 +46,39 @@ unfolding hasSome rawsOf
 has-some v [] h = absurd (omega arith)
 has-some v (e ∷ es) h = refl
 
-module _ {X : Type 0} {B D n : ℕ} {I : List ℕ} (g : Ground B D n I) (v : View X) (S : X → Type 0) where
+module _ {X : Type 0} {A : Area} {I : List ℕ} (g : Ground A I) (v : View X) (S : X → Type 0) where
   -- the entries of one block
-  block-raws : (b : Block X) (z : ℕ) → b .at < n → GoodBlock B S b → Clear v b → Shows I (B * b .at) (bytes 4 z ++ padded (B - 4) (entriesBytes v (b .entries)))
-      → rawsFrom B I B (b .at) 0 ≡ some (rawsOf v (b .entries))
+  block-raws : (b : Block X) (z : ℕ) → b .at < A .end → GoodBlock (A .size) S b → Clear v b → Shows I (A .size * b .at) (bytes 4 z ++ padded (A .size - 4) (entriesBytes v (b .entries)))
+      → rawsFrom (A .size) I (A .size) (b .at) 0 ≡ some (rawsOf v (b .entries))
   block-raws b z h a l s =
-      find-raws B D n I v (b .at) (g .large) (ground-inside g (b .at) h) (b .entries) B 0 (omega arith) (omega (arith, a .fits)) l (data-shown B I v (b .at) z (b .entries) s)
+      find-raws A I v (b .at) (g .known) (ground-inside g (b .at) h) (b .entries) (A .size) 0 (omega arith) (omega (arith, a .fits)) l (data-shown (A .size) I v (b .at) z (b .entries) s)
 
   -- a next address fits its field
-  own-small : (bs : List (Block X)) (seen : List ℕ) → Free D n seen (ownCount bs) → blocksAt bs < 2 ^ 32
+  own-small : (bs : List (Block X)) (seen : List ℕ) → Free A seen (ownCount bs) → blocksAt bs < 2 ^ 32
   unfolding own blocksAt
   own-small [] seen f = omega arith
   own-small (b ∷ bs) seen f = address-small g (b .at) (f .range (b .at) (omega (arith, count-cons (b .at) (b .at) (own bs), count-self (b .at))) .1)
 
-  after : (b : Block X) (bs : List (Block X)) → ShowsAll B I (dirPieces B v (b ∷ bs)) → ShowsAll B I (dirPieces B v bs)
+  after : (b : Block X) (bs : List (Block X)) → ShowsAll (A .size) I (dirPieces (A .size) v (b ∷ bs)) → ShowsAll (A .size) I (dirPieces (A .size) v bs)
   unfolding dirPieces
-  after b bs s = shows-right B I (entryPieces v (b .entries)) (dirPieces B v bs) (s .1)
+  after b bs s = shows-right (A .size) I (entryPieces v (b .entries)) (dirPieces (A .size) v bs) (s .1)
 
   -- one block is claimed and read, then a step that knows its entries and the next address
   find-block : {Y : Type 0} (b : Block X) (bs : List (Block X)) (seen : List ℕ) (f : List Raw → ℕ → List ℕ → Option (Claimed Y)) (y : Y)
-      → GoodBlock B S b → Clear v b → ShowsAll B I (dirPieces B v (b ∷ bs)) → Free D n seen (ownCount (b ∷ bs))
-      → (Free D n (b .at ∷ seen) (ownCount bs) → Yields (f (rawsOf v (b .entries)) (blocksAt bs) (b .at ∷ seen)) y (b .at ∷ seen) (ownCount bs))
-      → Yields (then (claim B D n I (b .at) seen) (λ s. then (rawsFrom B I B (b .at) 0) (λ rs. f rs (next B I (b .at)) s))) y seen (ownCount (b ∷ bs))
+      → GoodBlock (A .size) S b → Clear v b → ShowsAll (A .size) I (dirPieces (A .size) v (b ∷ bs)) → Free A seen (ownCount (b ∷ bs))
+      → (Free A (b .at ∷ seen) (ownCount bs) → Yields (f (rawsOf v (b .entries)) (blocksAt bs) (b .at ∷ seen)) y (b .at ∷ seen) (ownCount bs))
+      → Yields (then (claim A I (b .at) seen) (λ s. then (rawsFrom (A .size) I (A .size) (b .at) 0) (λ rs. f rs (next (A .size) I (b .at)) s))) y seen (ownCount (b ∷ bs))
   unfolding dirPieces own then
   find-block b bs seen f y a l s r go =
-      let q : Free D n seen (λ i. one (b .at) i + ownCount bs i) = free-as (ownCount (b ∷ bs)) (λ i. one (b .at) i + ownCount bs i) (λ i. count-cons i (b .at) (own bs)) r in
-      let h : (D ≤ b .at) × (b .at < n) = q .range (b .at) (omega (arith, count-self (b .at))) in
-      let rest : Free D n (b .at ∷ seen) (ownCount bs) = free-right (one (b .at)) (ownCount bs) (b .at ∷ seen) (λ i. omega (arith, count-cons i (b .at) seen)) q in
-      let z : next B I (b .at) ≡ blocksAt bs = next-shown B I (b .at) (blocksAt bs) (padded (B - 4) (entriesBytes v (b .entries))) (own-small bs (b .at ∷ seen) rest) (s .0) in
-      let w : rawsFrom B I B (b .at) 0 ≡ some (rawsOf v (b .entries)) = block-raws b (blocksAt bs) (h .1) a l (s .0) in
+      let q : Free A seen (λ i. one (b .at) i + ownCount bs i) = free-as (ownCount (b ∷ bs)) (λ i. one (b .at) i + ownCount bs i) (λ i. count-cons i (b .at) (own bs)) r in
+      let h : (A .first ≤ b .at) × (b .at < A .end) = q .range (b .at) (omega (arith, count-self (b .at))) in
+      let rest : Free A (b .at ∷ seen) (ownCount bs) = free-right (one (b .at)) (ownCount bs) (b .at ∷ seen) (λ i. omega (arith, count-cons i (b .at) seen)) q in
+      let z : next (A .size) I (b .at) ≡ blocksAt bs = next-shown (A .size) I (b .at) (blocksAt bs) (padded (A .size - 4) (entriesBytes v (b .entries))) (own-small bs (b .at ∷ seen) rest) (s .0) in
+      let w : rawsFrom (A .size) I (A .size) (b .at) 0 ≡ some (rawsOf v (b .entries)) = block-raws b (blocksAt bs) (h .1) a l (s .0) in
       finds-as _ y seen (λ i. one (b .at) i + ownCount bs i) (ownCount (b ∷ bs)) (λ i. sym (count-cons i (b .at) (own bs)))
-      (finds-claim B D n I (b .at) seen (λ s. then (rawsFrom B I B (b .at) 0) (λ rs. f rs (next B I (b .at)) s)) y (ownCount bs) q
+      (finds-claim A I (b .at) seen (λ s. then (rawsFrom (A .size) I (A .size) (b .at) 0) (λ rs. f rs (next (A .size) I (b .at)) s)) y (ownCount bs) q
       (λ m. finds-same (f (rawsOf v (b .entries)) (blocksAt bs) (b .at ∷ seen)) _ y (b .at ∷ seen) (ownCount bs)
-      (ap (λ (o : Option (List Raw)). then o (λ rs. f rs (next B I (b .at)) (b .at ∷ seen))) w ∙ ap (λ (j : ℕ). f (rawsOf v (b .entries)) j (b .at ∷ seen)) z)
+      (ap (λ (o : Option (List Raw)). then o (λ rs. f rs (next (A .size) I (b .at)) (b .at ∷ seen))) w ∙ ap (λ (j : ℕ). f (rawsOf v (b .entries)) j (b .at ∷ seen)) z)
       (go m)))
 
   -- what is found with a block
@@ -86,27 +86,27 @@ module _ {X : Type 0} {B D n : ℕ} {I : List ℕ} (g : Ground B D n I) (v : Vie
   with a rs bs = record { at = a; raws = rs } ∷ bs
 
   -- The later blocks, at most k.
-  find-later : (bs : List (Block X)) (k : ℕ) (seen : List ℕ) → length bs ≤ k → Filled bs → All (GoodBlock B S) bs → All (Clear v) bs → ShowsAll B I (dirPieces B v bs)
-      → Free D n seen (ownCount bs) → Yields (laterOf B D n I k (blocksAt bs) seen) (rawBlocks v bs) seen (ownCount bs)
+  find-later : (bs : List (Block X)) (k : ℕ) (seen : List ℕ) → length bs ≤ k → Filled bs → All (GoodBlock (A .size) S) bs → All (Clear v) bs → ShowsAll (A .size) I (dirPieces (A .size) v bs)
+      → Free A seen (ownCount bs) → Yields (laterOf A I k (blocksAt bs) seen) (rawBlocks v bs) seen (ownCount bs)
   unfolding laterOf blocksAt rawBlocks own with
   find-later [] zero seen h p a l s r = finds-test _ _ [] seen _ (eq-eqb 0 0 refl) (finds-end [] seen _ (λ i. count-none i))
   find-later [] (suc k) seen h p a l s r = finds-same _ _ [] seen _ (pick-true _ _ (eq-eqb 0 0 refl)) (finds-end [] seen _ (λ i. count-none i))
   find-later (b ∷ bs) zero seen h p a l s r = absurd (omega arith)
   find-later (b ∷ bs) (suc k) seen h p a l s r =
-      let m : (D ≤ b .at) × (b .at < n) = r .range (b .at) (omega (arith, count-cons (b .at) (b .at) (own bs), count-self (b .at))) in
+      let m : (A .first ≤ b .at) × (b .at < A .end) = r .range (b .at) (omega (arith, count-cons (b .at) (b .at) (own bs), count-self (b .at))) in
       finds-same _ _ (rawBlocks v (b ∷ bs)) seen _ (pick-false _ _ (ne-eqb (b .at) 0 (λ z. omega (arith, m .0, g .first))))
-      (find-block b bs seen (λ rs z t. pick (hasSome rs) (withFound (with (b .at) rs) (laterOf B D n I k z t)) none) (rawBlocks v (b ∷ bs)) (a .0) (l .0) s r
+      (find-block b bs seen (λ rs z t. pick (hasSome rs) (withFound (with (b .at) rs) (laterOf A I k z t)) none) (rawBlocks v (b ∷ bs)) (a .0) (l .0) s r
       (λ q. finds-test _ _ _ (b .at ∷ seen) _ (has-some v (b .entries) (p .0))
       (finds-with (with (b .at) (rawsOf v (b .entries))) _ (rawBlocks v bs) (b .at ∷ seen) _
       (find-later bs k (b .at ∷ seen) (omega arith) (p .1) (a .1) (l .1) (after b bs s) q))))
 
   -- A directory's blocks, with what stands in them.
-  pub find-blocks : (bs : List (Block X)) (seen : List ℕ) → Packed bs → All (GoodBlock B S) bs → All (Clear v) bs → ShowsAll B I (dirPieces B v bs)
-      → Free D n seen (ownCount bs) → Yields (blocksOf B D n I (blocksAt bs) seen) (rawBlocks v bs) seen (ownCount bs)
+  pub find-blocks : (bs : List (Block X)) (seen : List ℕ) → Packed bs → All (GoodBlock (A .size) S) bs → All (Clear v) bs → ShowsAll (A .size) I (dirPieces (A .size) v bs)
+      → Free A seen (ownCount bs) → Yields (blocksOf A I (blocksAt bs) seen) (rawBlocks v bs) seen (ownCount bs)
   unfolding blocksOf blocksAt rawBlocks with
   find-blocks [] seen p a l s r = absurd p
   find-blocks (b ∷ bs) seen p a l s r =
-      let h : length (b ∷ bs) ≤ n - D = omega (arith, own-long (b ∷ bs), free-few seen (own (b ∷ bs)) r) in
-      find-block b bs seen (λ rs z t. withFound (with (b .at) rs) (laterOf B D n I (n - D - 1) z t)) (rawBlocks v (b ∷ bs)) (a .0) (l .0) s r
+      let h : length (b ∷ bs) ≤ A .end - A .first = omega (arith, own-long (b ∷ bs), free-few seen (own (b ∷ bs)) r) in
+      find-block b bs seen (λ rs z t. withFound (with (b .at) rs) (laterOf A I (A .end - A .first - 1) z t)) (rawBlocks v (b ∷ bs)) (a .0) (l .0) s r
       (λ q. finds-with (with (b .at) (rawsOf v (b .entries))) _ (rawBlocks v bs) (b .at ∷ seen) _
-      (find-later bs (n - D - 1) (b .at ∷ seen) (omega arith) p (a .1) (l .1) (after b bs s) q))
+      (find-later bs (A .end - A .first - 1) (b .at ∷ seen) (omega arith) p (a .1) (l .1) (after b bs s) q))

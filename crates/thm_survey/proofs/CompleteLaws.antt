@@ -10,6 +10,7 @@ use native.Mathlib.Omega.{arith}
 use Rattle.thm_survey.proofs.ClaimTests.{claim-free}
 use Rattle.wire.specs.Pick.{pick}
 use Rattle.wire.proofs.Picks.{pick-true}
+use Rattle.block.specs.Block.{Area, BlockSize}
 use Rattle.model.specs.Tree.{then}
 use Rattle.model.specs.Render.{count}
 use Rattle.model.proofs.Counts.{count-cons, count-self}
@@ -17,8 +18,8 @@ use Rattle.model.proofs.Areas.{row-inside}
 use Rattle.thm_survey.specs.Survey.{Claimed, withFound, claim}
 
 -- Blocks, of which i stands c i times: they are in D..n-1, none is there twice, and none is claimed.
-pub record Free (D n : ℕ) (seen : List ℕ) (c : ℕ → ℕ) : Type 0 where
-  pub range : (i : ℕ) → 1 ≤ c i → (D ≤ i) × (i < n)
+pub record Free (A : Area) (seen : List ℕ) (c : ℕ → ℕ) : Type 0 where
+  pub range : (i : ℕ) → 1 ≤ c i → (A .first ≤ i) × (i < A .end)
   pub once : (i : ℕ) → count i seen + c i ≤ 1
 
 -- The step o finds x, and claims the blocks that c counts besides those that are claimed.
@@ -29,20 +30,20 @@ pub record Yields {X : Type 0} (o : Option (Claimed X)) (x : X) (seen : List ℕ
 
 -- ---- what is free
 
-module _ {D n : ℕ} {seen : List ℕ} where
+module _ {A : Area} {seen : List ℕ} where
   -- the same blocks, counted otherwise
-  pub free-as : (c e : ℕ → ℕ) → ((i : ℕ) → c i ≡ e i) → Free D n seen c → Free D n seen e
+  pub free-as : (c e : ℕ → ℕ) → ((i : ℕ) → c i ≡ e i) → Free A seen c → Free A seen e
   free-as c e q f = record { range = λ i h. f .range i (omega (arith, q i)); once = λ i. omega (arith, q i, f .once i) }
 
   -- some of them
-  pub free-part : (c e : ℕ → ℕ) → ((i : ℕ) → e i ≤ c i) → Free D n seen c → Free D n seen e
+  pub free-part : (c e : ℕ → ℕ) → ((i : ℕ) → e i ≤ c i) → Free A seen c → Free A seen e
   free-part c e h f = record { range = λ i k. f .range i (omega (arith, h i)); once = λ i. omega (arith, h i, f .once i) }
 
   -- the first of two parts; the second, once the first is claimed
-  pub free-left : (c e : ℕ → ℕ) → Free D n seen (λ i. c i + e i) → Free D n seen c
+  pub free-left : (c e : ℕ → ℕ) → Free A seen (λ i. c i + e i) → Free A seen c
   free-left c e f = record { range = λ i h. f .range i (omega arith); once = λ i. omega (arith, f .once i) }
 
-  pub free-right : (c e : ℕ → ℕ) (s : List ℕ) → ((i : ℕ) → count i s ≡ count i seen + c i) → Free D n seen (λ i. c i + e i) → Free D n s e
+  pub free-right : (c e : ℕ → ℕ) (s : List ℕ) → ((i : ℕ) → count i s ≡ count i seen + c i) → Free A seen (λ i. c i + e i) → Free A s e
   free-right c e s q f = record { range = λ i h. f .range i (omega arith); once = λ i. omega (arith, f .once i, q i) }
 
 -- ---- steps
@@ -83,30 +84,30 @@ finds-then {X} {Y} o f x y seen c e r k =
 abbrev pub one : ℕ → ℕ → ℕ
 one a i = count i (a ∷ [])
 
-module _ (B D n : ℕ) (I : List ℕ) (a : ℕ) (seen : List ℕ) where
+module _ (A : Area) (I : List ℕ) (a : ℕ) (seen : List ℕ) where
   -- a block is claimed, then another step
-  pub finds-claim : {Y : Type 0} (f : List ℕ → Option (Claimed Y)) (y : Y) (e : ℕ → ℕ) → Free D n seen (λ i. one a i + e i)
-      → (Free D n (a ∷ seen) e → Yields (f (a ∷ seen)) y (a ∷ seen) e) → Yields (then (claim B D n I a seen) f) y seen (λ i. one a i + e i)
+  pub finds-claim : {Y : Type 0} (f : List ℕ → Option (Claimed Y)) (y : Y) (e : ℕ → ℕ) → Free A seen (λ i. one a i + e i)
+      → (Free A (a ∷ seen) e → Yields (f (a ∷ seen)) y (a ∷ seen) e) → Yields (then (claim A I a seen) f) y seen (λ i. one a i + e i)
   unfolding then
   finds-claim f y e r k =
       let q : (i : ℕ) → count i (a ∷ seen) ≡ count i seen + one a i = λ i. omega (arith, count-cons i a seen) in
       let m : Yields (f (a ∷ seen)) y (a ∷ seen) e = k (free-right (one a) e (a ∷ seen) q r) in
-      let z : claim B D n I a seen ≡ some (a ∷ seen) = let h = r .range a (omega (arith, count-self a)) in claim-free B D n I a seen (h .0) (h .1) (omega (arith, count-self a, r .once a)) in
+      let z : claim A I a seen ≡ some (a ∷ seen) = let h = r .range a (omega (arith, count-self a)) in claim-free A I a seen (h .0) (h .1) (omega (arith, count-self a, r .once a)) in
       record { now = m .now; is = ap (λ (x : Option (List ℕ)). then x f) z ∙ m .is; counts = λ i. omega (arith, m .counts i, q i) }
 
 -- ---- the volume's numbers
 
--- Blocks are large enough, block 0 is no data, the volume lies in the image, and its bytes are counted by 32 bits.
-pub record Ground (B D n : ℕ) (I : List ℕ) : Type 0 where
-  pub large : 512 ≤ B
-  pub first : 1 ≤ D
-  pub inside : n * B ≤ length I
-  pub few : n * B ≤ 2 ^ 32
+-- Blocks have a size that is known, block 0 is no data, the volume lies in the image, and its bytes are counted by 32 bits.
+pub record Ground (A : Area) (I : List ℕ) : Type 0 where
+  pub known : BlockSize (A .size)
+  pub first : 1 ≤ A .first
+  pub inside : A .end * A .size ≤ length I
+  pub few : A .end * A .size ≤ 2 ^ 32
 
-module _ {B D n : ℕ} {I : List ℕ} (g : Ground B D n I) where
+module _ {A : Area} {I : List ℕ} (g : Ground A I) where
   -- a block of the volume is in the image, and its address fits four bytes
-  pub ground-inside : (a : ℕ) → a < n → B * a + B ≤ length I
-  ground-inside a h = row-inside B n (length I) a (g .inside) h
+  pub ground-inside : (a : ℕ) → a < A .end → A .size * a + A .size ≤ length I
+  ground-inside a h = row-inside (A .size) (A .end) (length I) a (g .inside) h
 
-  pub address-small : (a : ℕ) → a < n → a < 2 ^ 32
-  address-small a h = omega (arith, g .few, mul-le-mul-left n (g .large))
+  pub address-small : (a : ℕ) → a < A .end → a < 2 ^ 32
+  address-small a h = omega (arith, g .few, mul-le-mul-left (A .end) (g .known .least))

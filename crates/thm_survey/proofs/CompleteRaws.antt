@@ -10,6 +10,7 @@ use borrow.Author.Tests.{ne-eqb}
 use Rattle.thm_survey.proofs.RawSteps.{reads, stops}
 use Rattle.wire.proofs.Picks.{pick-true}
 use Rattle.wire.proofs.Zeros.{zeros-pass}
+use Rattle.block.specs.Block.{Area, BlockSize}
 use Rattle.model.specs.Tree.{Name, Entry, then, weight, used}
 use Rattle.model.specs.Render.{View, padded, entryBytes, entriesBytes, Shows}
 use Rattle.model.specs.Volume.{All}
@@ -38,28 +39,28 @@ entry-passes e x r a = rw (ne-eqb (e .addr .0) 0 r) a
 
 -- ---- one block
 
-module _ {X : Type 0} (B D n : ℕ) (I : List ℕ) (v : View X) (a : ℕ) (large : 512 ≤ B) (inside : B * a + B ≤ length I) where
-  reads-entry : (f o : ℕ) (e : Entry X) (rs : List Raw) → Legible v e → o + weight e ≤ B - 5 → Shows I (placeAt B a o) (entryBytes v e)
-      → rawsFrom B I f a (o + weight e) ≡ some rs → reads B I a f o (headOf v e) ≡ some (rawOf v e ∷ rs)
+module _ {X : Type 0} (A : Area) (I : List ℕ) (v : View X) (a : ℕ) (known : BlockSize (A .size)) (inside : A .size * a + A .size ≤ length I) where
+  reads-entry : (f o : ℕ) (e : Entry X) (rs : List Raw) → Legible v e → o + weight e ≤ A .size - 5 → Shows I (placeAt (A .size) a o) (entryBytes v e)
+      → rawsFrom (A .size) I f a (o + weight e) ≡ some rs → reads (A .size) I a f o (headOf v e) ≡ some (rawOf v e ∷ rs)
   unfolding headOf then
   reads-entry f o e rs l h s r =
       let w : o + 18 + length (e .name) ≡ o + weight e = unfold weight in omega arith in
-      let x : nameAt I (placeAt B a o) (length (e .name)) ≡ e .name = name-is B I v a inside o e h s in
+      let x : nameAt I (placeAt (A .size) a o) (length (e .name)) ≡ e .name = name-is (A .size) I v a inside o e h s in
       pick-true _ _ (ap (passes (headOf v e)) x ∙ entry-passes (headOf v e) (e .name) (λ z. omega (arith, l .some-address)) (l .good-name .allowed))
-      ∙ ap (λ (z : List ℕ). then (rawsFrom B I f a (o + 18 + length (e .name))) (λ rs. some (record { head = headOf v e; name = z } ∷ rs))) x
-      ∙ ap (λ (z : Option (List Raw)). then z (λ rs. some (rawOf v e ∷ rs))) (ap (rawsFrom B I f a) w ∙ r)
+      ∙ ap (λ (z : List ℕ). then (rawsFrom (A .size) I f a (o + 18 + length (e .name))) (λ rs. some (record { head = headOf v e; name = z } ∷ rs))) x
+      ∙ ap (λ (z : Option (List Raw)). then z (λ rs. some (rawOf v e ∷ rs))) (ap (rawsFrom (A .size) I f a) w ∙ r)
 
   -- A block that shows entries from offset o on, and zeros after them: they are read, with any bound that the block's rest does not pass.
-  pub find-raws : (es : List (Entry X)) (f o : ℕ) → B - o ≤ f → o + used es ≤ B - 5 → All (Legible v) es
-      → Shows I (placeAt B a o) (padded (B - 4 - o) (entriesBytes v es)) → rawsFrom B I f a o ≡ some (rawsOf v es)
+  pub find-raws : (es : List (Entry X)) (f o : ℕ) → A .size - o ≤ f → o + used es ≤ A .size - 5 → All (Legible v) es
+      → Shows I (placeAt (A .size) a o) (padded (A .size - 4 - o) (entriesBytes v es)) → rawsFrom (A .size) I f a o ≡ some (rawsOf v es)
   unfolding rawsFrom rawsOf onSlot used entriesBytes
   find-raws es zero o k h l s = absurd (omega arith)
   find-raws [] (suc f) o k h l s =
-      ap (λ (z : Slot). onSlot z (reads B I a f o) (stops B I a o)) (block-stops B I v a o (omega arith) s)
-      ∙ pick-true _ _ (zeros-pass I (B - 4 - o) (placeAt B a o) (zero-at B I v a o s))
+      ap (λ (z : Slot). onSlot z (reads (A .size) I a f o) (stops (A .size) I a o)) (block-stops (A .size) I v a o (omega arith) s)
+      ∙ pick-true _ _ (zeros-pass I (A .size - 4 - o) (placeAt (A .size) a o) (zero-at (A .size) I v a o s))
   find-raws (e ∷ es) (suc f) o k h l s =
-      let q = first-shown B I v a o e es (unfold entriesBytes in s) in
+      let q = first-shown (A .size) I v a o e es (unfold entriesBytes in s) in
       let g : 18 ≤ weight e = unfold weight in omega arith in
-      let m : rawsFrom B I f a (o + weight e) ≡ some (rawsOf v es) = find-raws es f (o + weight e) (less-left B o f (weight e) k (omega arith)) (omega arith) (l .1) (q .1) in
-      ap (λ (z : Slot). onSlot z (reads B I a f o) (stops B I a o)) (slot-is B I v a o e (l .0) (omega arith) (q .0))
+      let m : rawsFrom (A .size) I f a (o + weight e) ≡ some (rawsOf v es) = find-raws es f (o + weight e) (less-left (A .size) o f (weight e) k (omega arith)) (omega arith) (l .1) (q .1) in
+      ap (λ (z : Slot). onSlot z (reads (A .size) I a f o) (stops (A .size) I a o)) (slot-is (A .size) I v a o e (l .0) (omega arith) (q .0))
       ∙ reads-entry f o e (rawsOf v es) (l .0) (omega arith) (q .0) m

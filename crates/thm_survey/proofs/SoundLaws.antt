@@ -10,6 +10,7 @@ use lib.Dec.{ltb, leb, eqb}
 use borrow.Author.Tests.{ltb-true, leb-true, eqb-true}
 use Rattle.wire.specs.Pick.{pick}
 use Rattle.wire.proofs.Picks.{and-both}
+use Rattle.block.specs.Block.{Area}
 use Rattle.model.specs.Tree.{then}
 use Rattle.model.specs.Render.{count}
 use Rattle.model.proofs.Lists.{not-some}
@@ -56,18 +57,18 @@ each-with P f o h = each-then P o _ (λ c e. each-some P _ (h c e))
 -- ---- the blocks that are claimed
 
 -- From `seen` to `now` exactly the blocks xs were claimed, all in D..n-1, and none that was claimed before.
-pub record Claims (D n : ℕ) (seen now xs : List ℕ) : Type 0 where
+pub record Claims (A : Area) (seen now xs : List ℕ) : Type 0 where
   pub counted : (i : ℕ) → count i now ≡ count i seen + count i xs
-  pub range : (i : ℕ) → 1 ≤ count i xs → (D ≤ i) × (i < n)
+  pub range : (i : ℕ) → 1 ≤ count i xs → (A .first ≤ i) × (i < A .end)
   pub once : (i : ℕ) → count i seen ≤ 1 → count i now ≤ 1
 
-module _ (D n : ℕ) where
+module _ (A : Area) where
   -- nothing was claimed
-  pub claims-none : (seen : List ℕ) → Claims D n seen seen []
+  pub claims-none : (seen : List ℕ) → Claims A seen seen []
   claims-none seen = record { counted = λ i. omega (arith, count-none i); range = λ i h. absurd (omega (arith, count-none i)); once = λ i h. h }
 
   -- first xs, then ys
-  pub claims-both : (r s t xs ys : List ℕ) → Claims D n r s xs → Claims D n s t ys → Claims D n r t (xs ++ ys)
+  pub claims-both : (r s t xs ys : List ℕ) → Claims A r s xs → Claims A s t ys → Claims A r t (xs ++ ys)
   claims-both r s t xs ys c d =
       record {
         counted = λ i. omega (arith, c .counted i, d .counted i, count-append i xs ys);
@@ -75,29 +76,29 @@ module _ (D n : ℕ) where
         once = λ i h. d .once i (c .once i h);
       }
     where
-      go : (i : ℕ) → 1 ≤ count i (xs ++ ys) → Dec (0 < count i xs) → (D ≤ i) × (i < n)
+      go : (i : ℕ) → 1 ≤ count i (xs ++ ys) → Dec (0 < count i xs) → (A .first ≤ i) × (i < A .end)
       go i h (yes p) = c .range i p
       go i h (no p) = d .range i (omega (arith, count-append i xs ys))
 
   -- the order of the blocks is no matter
-  pub claims-same : (s t xs ys : List ℕ) → ((i : ℕ) → count i ys ≡ count i xs) → Claims D n s t xs → Claims D n s t ys
+  pub claims-same : (s t xs ys : List ℕ) → ((i : ℕ) → count i ys ≡ count i xs) → Claims A s t xs → Claims A s t ys
   claims-same s t xs ys e c =
       record { counted = λ i. omega (arith, c .counted i, e i); range = λ i h. c .range i (omega (arith, e i)); once = c .once }
 
   -- A block that is claimed is in D..n-1, and it alone is claimed.
   pub record Claim (a : ℕ) (seen now : List ℕ) : Type 0 where
-    pub low : D ≤ a
-    pub high : a < n
-    pub claims : Claims D n seen now (a ∷ [])
+    pub low : A .first ≤ a
+    pub high : a < A .end
+    pub claims : Claims A seen now (a ∷ [])
 
-  one-claim : (a : ℕ) (seen : List ℕ) → D ≤ a → a < n → count a seen ≡ 0 → Claim a seen (a ∷ seen)
+  one-claim : (a : ℕ) (seen : List ℕ) → A .first ≤ a → a < A .end → count a seen ≡ 0 → Claim a seen (a ∷ seen)
   one-claim a seen l h z = record { low = l; high = h; claims = record { counted = λ i. at i (ℕ-discrete i a); range = λ i k. within i k (ℕ-discrete i a); once = λ i k. few i k (ℕ-discrete i a) } }
     where
       at : (i : ℕ) → Dec (i ≡ a) → count i (a ∷ seen) ≡ count i seen + count i (a ∷ [])
       at i (yes e) = omega (arith, count-same i a seen e, count-same i a [] e, count-none i)
       at i (no e) = omega (arith, count-other i a seen e, count-other i a [] e, count-none i)
 
-      within : (i : ℕ) → 1 ≤ count i (a ∷ []) → Dec (i ≡ a) → (D ≤ i) × (i < n)
+      within : (i : ℕ) → 1 ≤ count i (a ∷ []) → Dec (i ≡ a) → (A .first ≤ i) × (i < A .end)
       within i k (yes e) = (omega arith, omega arith)
       within i k (no e) = absurd (omega (arith, count-other i a [] e, count-none i))
 
@@ -106,11 +107,11 @@ module _ (D n : ℕ) where
       few i k (no e) = omega (arith, count-other i a seen e)
 
   -- So it is wherever `claim` answers.
-  pub each-claim : (B : ℕ) (I : List ℕ) (a : ℕ) (seen : List ℕ) → Each (Claim a seen) (claim B D n I a seen)
+  pub each-claim : (I : List ℕ) (a : ℕ) (seen : List ℕ) → Each (Claim a seen) (claim A I a seen)
   unfolding claim
-  each-claim B I a seen =
-      each-test (Claim a seen) (inArea B D n I a && eqb (count a seen) 0) (some (a ∷ seen))
+  each-claim I a seen =
+      each-test (Claim a seen) (inArea A I a && eqb (count a seen) 0) (some (a ∷ seen))
       (λ t.
-      let p = and-both (inArea B D n I a) (eqb (count a seen) 0) t in
-      let q = and-both (leb D a) (ltb a n) (p .0) in
-      each-some (Claim a seen) (a ∷ seen) (one-claim a seen (leb-true D a (q .0)) (ltb-true a n (q .1)) (eqb-true (count a seen) 0 (p .1))))
+      let p = and-both (inArea A I a) (eqb (count a seen) 0) t in
+      let q = and-both (leb (A .first) a) (ltb a (A .end)) (p .0) in
+      each-some (Claim a seen) (a ∷ seen) (one-claim a seen (leb-true (A .first) a (q .0)) (ltb-true a (A .end) (q .1)) (eqb-true (count a seen) 0 (p .1))))

@@ -12,7 +12,7 @@ use Rattle.wire.specs.Be.{be, bytes}
 use Rattle.wire.specs.Pick.{zeroFrom}
 use Rattle.wire.proofs.Zeros.{zeros-shown}
 use Rattle.wire.proofs.Picks.{and-both}
-use Rattle.block.specs.Block.{next}
+use Rattle.block.specs.Block.{Area, next}
 use Rattle.model.specs.Tree.{Name}
 use Rattle.model.specs.Render.{padded, Shows}
 use Rattle.model.specs.Volume.{All, GoodName}
@@ -64,7 +64,7 @@ rest-shown I p k h i q =
     let m : i < k = omega (arith, length-padded k [] (omega arith)) in
     zeros-shown I p k h i m ∙ sym (getD-replicate k i 0 0 m) ∙ ap (λ (l : List ℕ). getD l i 0) (sym (padded-none k))
 
--- What is found in block a from offset o on: the image shows it there, then zeros; its entries are good and end by 507.
+-- What is found in block a from offset o on: the image shows it there, then zeros; its entries are good and end by B - 5.
 pub record RawsFound (B : ℕ) (I : List ℕ) (a o : ℕ) (rs : List Raw) : Type 0 where
   pub shown : Shows I (placeAt B a o) (padded (B - 4 - o) (rawsBytes rs))
   pub good : All GoodRaw rs
@@ -76,14 +76,14 @@ unfolding onSlot
 each-slot P (slot.Entry e) f o h k = h e refl
 each-slot P slot.Stop f o h k = k
 
-module _ (B D n : ℕ) (I : List ℕ) (all-bytes : Bytes I) (a : ℕ) (whole : B * a + B ≤ length I) where
+module _ (A : Area) (I : List ℕ) (all-bytes : Bytes I) (a : ℕ) (whole : A .size * a + A .size ≤ length I) where
   abbrev rawAt : ℕ → DirEntry → Raw
-  rawAt o e = record { head = e; name = nameAt I (placeAt B a o) (e .len) }
+  rawAt o e = record { head = e; name = nameAt I (placeAt (A .size) a o) (e .len) }
 
-  raw-good : (o : ℕ) (e : DirEntry) → Stands B I a o e → isName (nameAt I (placeAt B a o) (e .len)) ≡ true → GoodRaw (rawAt o e)
+  raw-good : (o : ℕ) (e : DirEntry) → Stands (A .size) I a o e → isName (nameAt I (placeAt (A .size) a o) (e .len)) ≡ true → GoodRaw (rawAt o e)
   unfolding entryAt
   raw-good o e s h =
-      let p : ℕ = placeAt B a o in
+      let p : ℕ = placeAt (A .size) a o in
       let x : e ≡ entryAt I p = s .is in
       let q : p + 18 + e .len ≤ length I = omega (arith, s .offset, s .ends) in
       let l : length (nameAt I p (e .len)) ≡ e .len = part-long I (p + 18) (e .len) q in
@@ -98,59 +98,59 @@ module _ (B D n : ℕ) (I : List ℕ) (all-bytes : Bytes I) (a : ℕ) (whole : B
         time = subst (λ (j : ℕ). j < 2 ^ 64) (sym t) (be-fits 8 I (p + 9) all-bytes);
       }
 
-  raw-shown : (o : ℕ) (e : DirEntry) → Stands B I a o e → Shows I (placeAt B a o) (rawBytes (rawAt o e))
+  raw-shown : (o : ℕ) (e : DirEntry) → Stands (A .size) I a o e → Shows I (placeAt (A .size) a o) (rawBytes (rawAt o e))
   unfolding rawBytes
   raw-shown o e s =
-      let p : ℕ = placeAt B a o in
+      let p : ℕ = placeAt (A .size) a o in
       let q : p + 18 + e .len ≤ length I = omega (arith, s .offset, s .ends) in
       let x : Shows I p (headBytes e) = subst (λ (d : DirEntry). Shows I p (headBytes d)) (sym (s .is)) (head-shown I p all-bytes (s .kind)) in
       let j : p + 18 ≡ p + length (headBytes e) = omega (arith, length-head e) in
       let y : Shows I (p + length (headBytes e)) (nameAt I p (e .len)) = subst (λ (z : ℕ). Shows I z (nameAt I p (e .len))) j (part-shown I (p + 18) (e .len) q) in
       shows-both I p (headBytes e) (nameAt I p (e .len)) x y
 
-  raw-long : (o : ℕ) (e : DirEntry) → Stands B I a o e → length (rawBytes (rawAt o e)) ≡ 18 + e .len
+  raw-long : (o : ℕ) (e : DirEntry) → Stands (A .size) I a o e → length (rawBytes (rawAt o e)) ≡ 18 + e .len
   unfolding rawBytes
   raw-long o e s =
-      let p : ℕ = placeAt B a o in
+      let p : ℕ = placeAt (A .size) a o in
       let q : p + 18 + e .len ≤ length I = omega (arith, s .offset, s .ends) in
       length-append (headBytes e) (nameAt I p (e .len)) ∙ omega (arith, length-head e, part-long I (p + 18) (e .len) q)
 
-  raws-more : (o : ℕ) (e : DirEntry) (rs : List Raw) → Stands B I a o e → isName (nameAt I (placeAt B a o) (e .len)) ≡ true
-      → RawsFound B I a (o + header + e .len) rs → RawsFound B I a o (rawAt o e ∷ rs)
+  raws-more : (o : ℕ) (e : DirEntry) (rs : List Raw) → Stands (A .size) I a o e → isName (nameAt I (placeAt (A .size) a o) (e .len)) ≡ true
+      → RawsFound (A .size) I a (o + header + e .len) rs → RawsFound (A .size) I a o (rawAt o e ∷ rs)
   unfolding rawsBytes rawsUsed
   raws-more o e rs s h f =
-      let p : ℕ = placeAt B a o in
+      let p : ℕ = placeAt (A .size) a o in
       let r : Raw = rawAt o e in
       let g : GoodRaw r = raw-good o e s h in
       let k : length (rawBytes r) ≡ 18 + e .len = raw-long o e s in
-      let x : placeAt B a (o + header + e .len) ≡ p + length (rawBytes r) = omega arith in
-      let y : B - 4 - (o + header + e .len) ≡ B - 4 - o - length (rawBytes r) = omega arith in
-      let w : Shows I (p + length (rawBytes r)) (padded (B - 4 - o - length (rawBytes r)) (rawsBytes rs))
-      = subst (λ (j : ℕ). Shows I j (padded (B - 4 - o - length (rawBytes r)) (rawsBytes rs))) x
-      (subst (λ (j : ℕ). Shows I (placeAt B a (o + header + e .len)) (padded j (rawsBytes rs))) y (f .shown)) in
+      let x : placeAt (A .size) a (o + header + e .len) ≡ p + length (rawBytes r) = omega arith in
+      let y : A .size - 4 - (o + header + e .len) ≡ A .size - 4 - o - length (rawBytes r) = omega arith in
+      let w : Shows I (p + length (rawBytes r)) (padded (A .size - 4 - o - length (rawBytes r)) (rawsBytes rs))
+      = subst (λ (j : ℕ). Shows I j (padded (A .size - 4 - o - length (rawBytes r)) (rawsBytes rs))) x
+      (subst (λ (j : ℕ). Shows I (placeAt (A .size) a (o + header + e .len)) (padded j (rawsBytes rs))) y (f .shown)) in
       record {
-        shown = subst (Shows I p) (sym (padded-after (B - 4 - o) (rawBytes r) (rawsBytes rs)))
-            (shows-both I p (rawBytes r) (padded (B - 4 - o - length (rawBytes r)) (rawsBytes rs)) (raw-shown o e s) w);
+        shown = subst (Shows I p) (sym (padded-after (A .size - 4 - o) (rawBytes r) (rawsBytes rs)))
+            (shows-both I p (rawBytes r) (padded (A .size - 4 - o - length (rawBytes r)) (rawsBytes rs)) (raw-shown o e s) w);
         good = (g, f .good);
         ends = omega (arith, f .ends, g .len);
       }
 
   -- Whatever `rawsFrom` finds stands there so.
-  raws-found : (f o : ℕ) → o ≤ B - 5 → Each (RawsFound B I a o) (rawsFrom B I f a o)
+  raws-found : (f o : ℕ) → o ≤ A .size - 5 → Each (RawsFound (A .size) I a o) (rawsFrom (A .size) I f a o)
   unfolding rawsFrom
-  raws-found zero o l = each-none (RawsFound B I a o)
+  raws-found zero o l = each-none (RawsFound (A .size) I a o)
   raws-found (suc f) o l =
-      each-slot (RawsFound B I a o) (slotAt B I a o) _ _
+      each-slot (RawsFound (A .size) I a o) (slotAt (A .size) I a o) _ _
       (λ e q.
-      let s : Stands B I a o e = slot-stands B I a o e q in
-      each-test (RawsFound B I a o) (passes e (nameAt I (placeAt B a o) (e .len))) _
-      (λ t. each-then (RawsFound B I a o) (rawsFrom B I f a (o + header + e .len)) _
-      (λ rs g. each-some (RawsFound B I a o) _ (raws-more o e rs s (passes-bytes e _ t) (raws-found f (o + header + e .len) (omega (arith, s .ends)) .is rs g)))))
-      (each-test (RawsFound B I a o) (zeroFrom I (placeAt B a o) (B - 4 - o)) _
-      (λ t. each-some (RawsFound B I a o) [] (last o l t)))
+      let s : Stands (A .size) I a o e = slot-stands (A .size) I a o e q in
+      each-test (RawsFound (A .size) I a o) (passes e (nameAt I (placeAt (A .size) a o) (e .len))) _
+      (λ t. each-then (RawsFound (A .size) I a o) (rawsFrom (A .size) I f a (o + header + e .len)) _
+      (λ rs g. each-some (RawsFound (A .size) I a o) _ (raws-more o e rs s (passes-bytes e _ t) (raws-found f (o + header + e .len) (omega (arith, s .ends)) .is rs g)))))
+      (each-test (RawsFound (A .size) I a o) (zeroFrom I (placeAt (A .size) a o) (A .size - 4 - o)) _
+      (λ t. each-some (RawsFound (A .size) I a o) [] (last o l t)))
     where
-      last : (o : ℕ) → o ≤ B - 5 → zeroFrom I (placeAt B a o) (B - 4 - o) ≡ true → RawsFound B I a o []
-      last o l t = unfold rawsBytes in unfold rawsUsed in record { shown = rest-shown I (placeAt B a o) (B - 4 - o) t; good = tt; ends = omega arith }
+      last : (o : ℕ) → o ≤ A .size - 5 → zeroFrom I (placeAt (A .size) a o) (A .size - 4 - o) ≡ true → RawsFound (A .size) I a o []
+      last o l t = unfold rawsBytes in unfold rawsUsed in record { shown = rest-shown I (placeAt (A .size) a o) (A .size - 4 - o) t; good = tt; ends = omega arith }
 
 -- ---- a directory's blocks
 
@@ -183,40 +183,40 @@ RawPacked [] = ⊥
 RawPacked (b ∷ bs) = RawFilled bs
 
 -- What is found for a directory's blocks from a on.
-pub record RawFound (B D n : ℕ) (I : List ℕ) (a : ℕ) (seen : List ℕ) (c : Claimed (List RawBlock)) : Type 0 where
+pub record RawFound (A : Area) (I : List ℕ) (a : ℕ) (seen : List ℕ) (c : Claimed (List RawBlock)) : Type 0 where
   pub first : rawsAt (c .found) ≡ a
-  pub chain : ChainFound B I (c .found)
-  pub claims : Claims D n seen (c .seen) (rawAts (c .found))
+  pub chain : ChainFound (A .size) I (c .found)
+  pub claims : Claims A seen (c .seen) (rawAts (c .found))
 
-module _ (B D n : ℕ) (I : List ℕ) (large : 5 ≤ B) (all-bytes : Bytes I) (fits : n * B ≤ length I) where
-  raw-end : (a : ℕ) (seen : List ℕ) → a ≡ 0 → RawFound B D n I a seen (record { found = []; seen = seen })
+module _ (A : Area) (I : List ℕ) (large : 5 ≤ A .size) (all-bytes : Bytes I) (fits : A .end * A .size ≤ length I) where
+  raw-end : (a : ℕ) (seen : List ℕ) → a ≡ 0 → RawFound A I a seen (record { found = []; seen = seen })
   unfolding rawsAt rawAts
-  raw-end a seen z = record { first = sym z; chain = tt; claims = claims-none D n seen }
+  raw-end a seen z = record { first = sym z; chain = tt; claims = claims-none A seen }
 
-  raw-more : (a : ℕ) (seen now : List ℕ) (rs : List Raw) (c : Claimed (List RawBlock)) → claim B D n I a seen ≡ some now → rawsFrom B I B a 0 ≡ some rs
-      → RawFound B D n I (next B I a) now c → RawFound B D n I a seen (record { found = record { at = a; raws = rs } ∷ c .found; seen = c .seen })
+  raw-more : (a : ℕ) (seen now : List ℕ) (rs : List Raw) (c : Claimed (List RawBlock)) → claim A I a seen ≡ some now → rawsFrom (A .size) I (A .size) a 0 ≡ some rs
+      → RawFound A I (next (A .size) I a) now c → RawFound A I a seen (record { found = record { at = a; raws = rs } ∷ c .found; seen = c .seen })
   unfolding rawsAt rawAts next
   raw-more a seen now rs c e g f =
-      let k : Claim D n a seen now = each-claim D n B I a seen .is now e in
-      let w : B * a + B ≤ length I = row-inside B n (length I) a fits (k .high) in
+      let k : Claim A a seen now = each-claim A I a seen .is now e in
+      let w : A .size * a + A .size ≤ length I = row-inside (A .size) (A .end) (length I) a fits (k .high) in
       record {
         first = refl;
         chain = (
           record {
-            link = subst (λ (z : ℕ). Shows I (B * a) (bytes 4 z)) (sym (f .first)) (bytes-shown 4 I (B * a) all-bytes);
-            raws = raws-found B D n I all-bytes a w B 0 (omega arith) .is rs g;
+            link = subst (λ (z : ℕ). Shows I (A .size * a) (bytes 4 z)) (sym (f .first)) (bytes-shown 4 I (A .size * a) all-bytes);
+            raws = raws-found A I all-bytes a w (A .size) 0 (omega arith) .is rs g;
           },
           f .chain,
         );
-        claims = claims-both D n seen now (c .seen) (a ∷ []) (rawAts (c .found)) (k .claims) (f .claims);
+        claims = claims-both A seen now (c .seen) (a ∷ []) (rawAts (c .found)) (k .claims) (f .claims);
       }
 
   -- later blocks, each with an entry
   record LaterFound (a : ℕ) (seen : List ℕ) (c : Claimed (List RawBlock)) : Type 0 where
-    blocks : RawFound B D n I a seen c
+    blocks : RawFound A I a seen c
     filled : RawFilled (c .found)
 
-  later-found : (k a : ℕ) (seen : List ℕ) → Each (LaterFound a seen) (laterOf B D n I k a seen)
+  later-found : (k a : ℕ) (seen : List ℕ) → Each (LaterFound a seen) (laterOf A I k a seen)
   unfolding laterOf
   later-found zero a seen =
       each-test (LaterFound a seen) (eqb a 0) _
@@ -224,26 +224,26 @@ module _ (B D n : ℕ) (I : List ℕ) (large : 5 ≤ B) (all-bytes : Bytes I) (f
   later-found (suc k) a seen =
       each-pick (LaterFound a seen) (eqb a 0) _ _
       (λ t. each-some (LaterFound a seen) _ (record { blocks = raw-end a seen (eqb-true a 0 t); filled = tt }))
-      (λ _. each-then (LaterFound a seen) (claim B D n I a seen) _
-      (λ now e. each-then (LaterFound a seen) (rawsFrom B I B a 0) _
+      (λ _. each-then (LaterFound a seen) (claim A I a seen) _
+      (λ now e. each-then (LaterFound a seen) (rawsFrom (A .size) I (A .size) a 0) _
       (λ rs g. each-test (LaterFound a seen) (hasSome rs) _
-      (λ t. each-with (LaterFound a seen) _ (laterOf B D n I k (next B I a) now)
+      (λ t. each-with (LaterFound a seen) _ (laterOf A I k (next (A .size) I a) now)
       (λ c f.
-      let h : LaterFound (next B I a) now c = later-found k (next B I a) now .is c f in
+      let h : LaterFound (next (A .size) I a) now c = later-found k (next (A .size) I a) now .is c f in
       record { blocks = raw-more a seen now rs c e g (h .blocks); filled = (t, h .filled) })))))
 
   -- All blocks of a directory.
   pub record BlocksFound (a : ℕ) (seen : List ℕ) (c : Claimed (List RawBlock)) : Type 0 where
-    pub blocks : RawFound B D n I a seen c
+    pub blocks : RawFound A I a seen c
     pub packed : RawPacked (c .found)
 
   -- Whatever `blocksOf` finds is so.
-  pub blocks-found : (a : ℕ) (seen : List ℕ) → Each (BlocksFound a seen) (blocksOf B D n I a seen)
+  pub blocks-found : (a : ℕ) (seen : List ℕ) → Each (BlocksFound a seen) (blocksOf A I a seen)
   unfolding blocksOf
   blocks-found a seen =
-      each-then (BlocksFound a seen) (claim B D n I a seen) _
-      (λ now e. each-then (BlocksFound a seen) (rawsFrom B I B a 0) _
-      (λ rs g. each-with (BlocksFound a seen) _ (laterOf B D n I (n - D - 1) (next B I a) now)
+      each-then (BlocksFound a seen) (claim A I a seen) _
+      (λ now e. each-then (BlocksFound a seen) (rawsFrom (A .size) I (A .size) a 0) _
+      (λ rs g. each-with (BlocksFound a seen) _ (laterOf A I (A .end - A .first - 1) (next (A .size) I a) now)
       (λ c f.
-      let h : LaterFound (next B I a) now c = later-found (n - D - 1) (next B I a) now .is c f in
+      let h : LaterFound (next (A .size) I a) now c = later-found (A .end - A .first - 1) (next (A .size) I a) now .is c f in
       record { blocks = raw-more a seen now rs c e g (h .blocks); packed = h .filled })))

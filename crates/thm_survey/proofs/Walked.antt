@@ -10,7 +10,7 @@ use lib.ListN.{length}
 use borrow.Author.Tests.{not-true}
 use Rattle.wire.specs.Pick.{pick, zeroFrom}
 use Rattle.wire.proofs.Picks.{pick-true, pick-false, and-both}
-use Rattle.block.specs.Block.{next}
+use Rattle.block.specs.Block.{Area, next}
 use Rattle.model.specs.Tree.{Name}
 use Rattle.model.specs.Render.{count}
 use Rattle.model.specs.Volume.{All}
@@ -80,74 +80,74 @@ passes-address : (e : DirEntry) (x : Name) → passes e x ≡ true → eqb (e .a
 unfolding passes
 passes-address e x h = not-true (eqb (e .addr .0) 0) (and-both (not (eqb (e .addr .0) 0)) (isName x) h .0)
 
-module _ (B D n : ℕ) (I : List ℕ) where
+module _ (A : Area) (I : List ℕ) where
   -- the walk at an entry that passes, and where the entries stop
-  entry-walk : (f a o : ℕ) (e : DirEntry) (w : Walk) → slotAt B I a o ≡ slot.Entry e → eqb (e .addr .0) 0 ≡ false
-      → entriesFrom B D n I (suc f) a o w ≡ item e a o (nameAt I (placeAt B a o) (e .len)) (entriesFrom B D n I f a (o + header + e .len) w)
+  entry-walk : (f a o : ℕ) (e : DirEntry) (w : Walk) → slotAt (A .size) I a o ≡ slot.Entry e → eqb (e .addr .0) 0 ≡ false
+      → entriesFrom A I (suc f) a o w ≡ item e a o (nameAt I (placeAt (A .size) a o) (e .len)) (entriesFrom A I f a (o + header + e .len) w)
   unfolding entriesFrom walks.onSlot shown
   entry-walk f a o e w s z =
-      ap (λ (x : Slot). walks.onSlot x (λ e. shown B D n I e a o (entriesFrom B D n I f a (o + header + e .len) w)) w) s
+      ap (λ (x : Slot). walks.onSlot x (λ e. shown A I e a o (entriesFrom A I f a (o + header + e .len) w)) w) s
       ∙ pick-false _ _ z
 
-  stop-walk : (f a o : ℕ) (w : Walk) → slotAt B I a o ≡ slot.Stop → entriesFrom B D n I (suc f) a o w ≡ w
+  stop-walk : (f a o : ℕ) (w : Walk) → slotAt (A .size) I a o ≡ slot.Stop → entriesFrom A I (suc f) a o w ≡ w
   unfolding entriesFrom walks.onSlot
-  stop-walk f a o w s = ap (λ (x : Slot). walks.onSlot x (λ e. shown B D n I e a o (entriesFrom B D n I f a (o + header + e .len) w)) w) s
+  stop-walk f a o w s = ap (λ (x : Slot). walks.onSlot x (λ e. shown A I e a o (entriesFrom A I f a (o + header + e .len) w)) w) s
 
   abbrev Walks : ℕ → ℕ → ℕ → List Raw → Type 0
-  Walks f a o rs = (w : Walk) → entriesFrom B D n I f a o w ≡ rawsWalk a o rs w
+  Walks f a o rs = (w : Walk) → entriesFrom A I f a o w ≡ rawsWalk a o rs w
 
-  each-walk : (f a o : ℕ) → Each (Walks f a o) (rawsFrom B I f a o)
+  each-walk : (f a o : ℕ) → Each (Walks f a o) (rawsFrom (A .size) I f a o)
   unfolding rawsFrom rawsWalk
   each-walk zero a o = each-none (Walks zero a o)
   each-walk (suc f) a o =
-      each-at (Walks (suc f) a o) (slotAt B I a o) _ _
-      (λ e q. each-test (Walks (suc f) a o) (passes e (nameAt I (placeAt B a o) (e .len))) _
-      (λ t. each-then (Walks (suc f) a o) (rawsFrom B I f a (o + header + e .len)) _
+      each-at (Walks (suc f) a o) (slotAt (A .size) I a o) _ _
+      (λ e q. each-test (Walks (suc f) a o) (passes e (nameAt I (placeAt (A .size) a o) (e .len))) _
+      (λ t. each-then (Walks (suc f) a o) (rawsFrom (A .size) I f a (o + header + e .len)) _
       (λ rs g. each-some (Walks (suc f) a o) _
-      (λ w. entry-walk f a o e w q (passes-address e (nameAt I (placeAt B a o) (e .len)) t)
-      ∙ ap (item e a o (nameAt I (placeAt B a o) (e .len))) (each-walk f a (o + header + e .len) .is rs g w)))))
-      (λ q. each-test (Walks (suc f) a o) (zeroFrom I (placeAt B a o) (B - 4 - o)) _
+      (λ w. entry-walk f a o e w q (passes-address e (nameAt I (placeAt (A .size) a o) (e .len)) t)
+      ∙ ap (item e a o (nameAt I (placeAt (A .size) a o) (e .len))) (each-walk f a (o + header + e .len) .is rs g w)))))
+      (λ q. each-test (Walks (suc f) a o) (zeroFrom I (placeAt (A .size) a o) (A .size - 4 - o)) _
       (λ _. each-some (Walks (suc f) a o) [] (λ w. stop-walk f a o w q)))
 
   -- The entries that `rawsFrom` finds are those of the walk.
-  raws-walk : (f a o : ℕ) (rs : List Raw) → rawsFrom B I f a o ≡ some rs → (w : Walk) → entriesFrom B D n I f a o w ≡ rawsWalk a o rs w
+  raws-walk : (f a o : ℕ) (rs : List Raw) → rawsFrom (A .size) I f a o ≡ some rs → (w : Walk) → entriesFrom A I f a o w ≡ rawsWalk a o rs w
   raws-walk f a o rs g w = each-walk f a o .is rs g w
 
   -- Their names are as long as they say.
-  each-long : (a : ℕ) → B * a + B ≤ length I → (f o : ℕ) → Each (All LongName) (rawsFrom B I f a o)
+  each-long : (a : ℕ) → A .size * a + A .size ≤ length I → (f o : ℕ) → Each (All LongName) (rawsFrom (A .size) I f a o)
   unfolding rawsFrom
   each-long a whole zero o = each-none (All LongName)
   each-long a whole (suc f) o =
-      each-at (All LongName) (slotAt B I a o) _ _
+      each-at (All LongName) (slotAt (A .size) I a o) _ _
       (λ e q.
-      let s : Stands B I a o e = slot-stands B I a o e q in
-      let l : placeAt B a o + header + e .len ≤ length I = omega (arith, s .offset, s .ends) in
-      each-test (All LongName) (passes e (nameAt I (placeAt B a o) (e .len))) _
-      (λ t. each-then (All LongName) (rawsFrom B I f a (o + header + e .len)) _
-      (λ rs g. each-some (All LongName) _ (sym (part-long I (placeAt B a o + header) (e .len) l), each-long a whole f (o + header + e .len) .is rs g))))
-      (λ q. each-test (All LongName) (zeroFrom I (placeAt B a o) (B - 4 - o)) _ (λ _. each-some (All LongName) [] tt))
+      let s : Stands (A .size) I a o e = slot-stands (A .size) I a o e q in
+      let l : placeAt (A .size) a o + header + e .len ≤ length I = omega (arith, s .offset, s .ends) in
+      each-test (All LongName) (passes e (nameAt I (placeAt (A .size) a o) (e .len))) _
+      (λ t. each-then (All LongName) (rawsFrom (A .size) I f a (o + header + e .len)) _
+      (λ rs g. each-some (All LongName) _ (sym (part-long I (placeAt (A .size) a o + header) (e .len) l), each-long a whole f (o + header + e .len) .is rs g))))
+      (λ q. each-test (All LongName) (zeroFrom I (placeAt (A .size) a o) (A .size - 4 - o)) _ (λ _. each-some (All LongName) [] tt))
 
-  raws-long : (f a o : ℕ) (rs : List Raw) → B * a + B ≤ length I → rawsFrom B I f a o ≡ some rs → All LongName rs
+  raws-long : (f a o : ℕ) (rs : List Raw) → A .size * a + A .size ≤ length I → rawsFrom (A .size) I f a o ≡ some rs → All LongName rs
   raws-long f a o rs whole g = each-long a whole f o .is rs g
 
   -- ---- a directory's blocks
 
   -- a claimed block is in the area
-  claim-area : (a : ℕ) (seen now : List ℕ) → claim B D n I a seen ≡ some now → inArea B D n I a ≡ true
+  claim-area : (a : ℕ) (seen now : List ℕ) → claim A I a seen ≡ some now → inArea A I a ≡ true
   unfolding claim
   claim-area a seen now e =
-      each-test (λ _. inArea B D n I a ≡ true) (inArea B D n I a && eqb (count a seen) 0) (some (a ∷ seen))
-      (λ t. each-some (λ _. inArea B D n I a ≡ true) (a ∷ seen) (and-both (inArea B D n I a) (eqb (count a seen) 0) t .0)) .is now e
+      each-test (λ _. inArea A I a ≡ true) (inArea A I a && eqb (count a seen) 0) (some (a ∷ seen))
+      (λ t. each-some (λ _. inArea A I a ≡ true) (a ∷ seen) (and-both (inArea A I a) (eqb (count a seen) 0) t .0)) .is now e
 
   -- what is walked from address a on, where k blocks more may be read; a may be 0
   abbrev onward : ℕ → ℕ → Walk
-  onward k a = pick (eqb a 0) finished (chainFrom B D n I k a)
+  onward k a = pick (eqb a 0) finished (chainFrom A I k a)
 
-  block-more : (k a : ℕ) (seen now : List ℕ) (rs : List Raw) (bs : List RawBlock) → claim B D n I a seen ≡ some now → rawsFrom B I B a 0 ≡ some rs
-      → onward k (next B I a) ≡ blocksWalk bs → chainFrom B D n I (suc k) a ≡ blocksWalk (record { at = a; raws = rs } ∷ bs)
+  block-more : (k a : ℕ) (seen now : List ℕ) (rs : List Raw) (bs : List RawBlock) → claim A I a seen ≡ some now → rawsFrom (A .size) I (A .size) a 0 ≡ some rs
+      → onward k (next (A .size) I a) ≡ blocksWalk bs → chainFrom A I (suc k) a ≡ blocksWalk (record { at = a; raws = rs } ∷ bs)
   unfolding chainFrom blocksWalk
   block-more k a seen now rs bs e g h =
-      pick-true _ _ (claim-area a seen now e) ∙ ap (entriesFrom B D n I B a 0) h ∙ raws-walk B a 0 rs g (blocksWalk bs)
+      pick-true _ _ (claim-area a seen now e) ∙ ap (entriesFrom A I (A .size) a 0) h ∙ raws-walk (A .size) a 0 rs g (blocksWalk bs)
 
   abbrev Onward : ℕ → ℕ → Claimed (List RawBlock) → Type 0
   Onward k a c = onward k a ≡ blocksWalk (c .found)
@@ -156,69 +156,69 @@ module _ (B D n : ℕ) (I : List ℕ) where
   unfolding blocksWalk
   later-none k a t = pick-true _ _ t
 
-  later-walk : (k a : ℕ) (seen : List ℕ) → Each (Onward k a) (laterOf B D n I k a seen)
+  later-walk : (k a : ℕ) (seen : List ℕ) → Each (Onward k a) (laterOf A I k a seen)
   unfolding laterOf
   later-walk zero a seen = each-test (Onward zero a) (eqb a 0) _ (λ t. each-some (Onward zero a) _ (later-none zero a t))
   later-walk (suc k) a seen =
       each-pick (Onward (suc k) a) (eqb a 0) _ _
       (λ t. each-some (Onward (suc k) a) _ (later-none (suc k) a t))
-      (λ t. each-then (Onward (suc k) a) (claim B D n I a seen) _
-      (λ now e. each-then (Onward (suc k) a) (rawsFrom B I B a 0) _
+      (λ t. each-then (Onward (suc k) a) (claim A I a seen) _
+      (λ now e. each-then (Onward (suc k) a) (rawsFrom (A .size) I (A .size) a 0) _
       (λ rs g. each-test (Onward (suc k) a) (hasSome rs) _
-      (λ _. each-with (Onward (suc k) a) _ (laterOf B D n I k (next B I a) now)
-      (λ c f. pick-false _ _ t ∙ block-more k a seen now rs (c .found) e g (later-walk k (next B I a) now .is c f))))))
+      (λ _. each-with (Onward (suc k) a) _ (laterOf A I k (next (A .size) I a) now)
+      (λ c f. pick-false _ _ t ∙ block-more k a seen now rs (c .found) e g (later-walk k (next (A .size) I a) now .is c f))))))
 
   abbrev Whole : ℕ → Claimed (List RawBlock) → Type 0
-  Whole a c = walk B D n I a ≡ blocksWalk (c .found)
+  Whole a c = walk A I a ≡ blocksWalk (c .found)
 
-  each-blocks : (a : ℕ) (seen : List ℕ) → Each (Whole a) (blocksOf B D n I a seen)
+  each-blocks : (a : ℕ) (seen : List ℕ) → Each (Whole a) (blocksOf A I a seen)
   unfolding blocksOf
   each-blocks a seen =
-      each-then (Whole a) (claim B D n I a seen) _
-      (λ now e. each-then (Whole a) (rawsFrom B I B a 0) _
-      (λ rs g. each-with (Whole a) _ (laterOf B D n I (n - D - 1) (next B I a) now)
+      each-then (Whole a) (claim A I a seen) _
+      (λ now e. each-then (Whole a) (rawsFrom (A .size) I (A .size) a 0) _
+      (λ rs g. each-with (Whole a) _ (laterOf A I (A .end - A .first - 1) (next (A .size) I a) now)
       (λ c f.
-      let k : Claim D n a seen now = each-claim D n B I a seen .is now e in
-      let m : n - D ≡ suc (n - D - 1) = omega (arith, k .low, k .high) in
-      ap (λ (j : ℕ). chainFrom B D n I j a) m ∙ block-more (n - D - 1) a seen now rs (c .found) e g (later-walk (n - D - 1) (next B I a) now .is c f))))
+      let k : Claim A a seen now = each-claim A I a seen .is now e in
+      let m : A .end - A .first ≡ suc (A .end - A .first - 1) = omega (arith, k .low, k .high) in
+      ap (λ (j : ℕ). chainFrom A I j a) m ∙ block-more (A .end - A .first - 1) a seen now rs (c .found) e g (later-walk (A .end - A .first - 1) (next (A .size) I a) now .is c f))))
 
   -- The blocks that `blocksOf` finds are those of the walk.
-  pub blocks-walk : (a : ℕ) (seen : List ℕ) (c : Claimed (List RawBlock)) → blocksOf B D n I a seen ≡ some c → walk B D n I a ≡ blocksWalk (c .found)
+  pub blocks-walk : (a : ℕ) (seen : List ℕ) (c : Claimed (List RawBlock)) → blocksOf A I a seen ≡ some c → walk A I a ≡ blocksWalk (c .found)
   blocks-walk a seen c q = each-blocks a seen .is c q
 
   -- So the walk ends, and its names are distinct where those of the blocks are.
-  pub open-is : (a : ℕ) (seen : List ℕ) (c : Claimed (List RawBlock)) → blocksOf B D n I a seen ≡ some c
-      → (ends (walk B D n I a) && distinct (namesIn (walk B D n I a))) ≡ distinct (allNames (c .found))
+  pub open-is : (a : ℕ) (seen : List ℕ) (c : Claimed (List RawBlock)) → blocksOf A I a seen ≡ some c
+      → (ends (walk A I a) && distinct (namesIn (walk A I a))) ≡ distinct (allNames (c .found))
   open-is a seen c q = rw (blocks-walk a seen c q, walk-ends, walk-names)
 
   -- ---- where the volume's blocks are whole, the names are as long as their entries say
 
-  module _ (fits : n * B ≤ length I) where
-    claimed-long : (a : ℕ) (seen now : List ℕ) (rs : List Raw) → claim B D n I a seen ≡ some now → rawsFrom B I B a 0 ≡ some rs → All LongName rs
-    claimed-long a seen now rs e g = raws-long B a 0 rs (row-inside B n (length I) a fits (each-claim D n B I a seen .is now e .high)) g
+  module _ (fits : A .end * A .size ≤ length I) where
+    claimed-long : (a : ℕ) (seen now : List ℕ) (rs : List Raw) → claim A I a seen ≡ some now → rawsFrom (A .size) I (A .size) a 0 ≡ some rs → All LongName rs
+    claimed-long a seen now rs e g = raws-long (A .size) a 0 rs (row-inside (A .size) (A .end) (length I) a fits (each-claim A I a seen .is now e .high)) g
 
     abbrev Long : Claimed (List RawBlock) → Type 0
     Long c = LongNames (c .found)
 
-    later-long : (k a : ℕ) (seen : List ℕ) → Each Long (laterOf B D n I k a seen)
+    later-long : (k a : ℕ) (seen : List ℕ) → Each Long (laterOf A I k a seen)
     unfolding laterOf
     later-long zero a seen = each-test Long (eqb a 0) _ (λ _. each-some Long _ tt)
     later-long (suc k) a seen =
         each-pick Long (eqb a 0) _ _
         (λ _. each-some Long _ tt)
-        (λ _. each-then Long (claim B D n I a seen) _
-        (λ now e. each-then Long (rawsFrom B I B a 0) _
+        (λ _. each-then Long (claim A I a seen) _
+        (λ now e. each-then Long (rawsFrom (A .size) I (A .size) a 0) _
         (λ rs g. each-test Long (hasSome rs) _
-        (λ _. each-with Long _ (laterOf B D n I k (next B I a) now)
-        (λ c f. (claimed-long a seen now rs e g, later-long k (next B I a) now .is c f))))))
+        (λ _. each-with Long _ (laterOf A I k (next (A .size) I a) now)
+        (λ c f. (claimed-long a seen now rs e g, later-long k (next (A .size) I a) now .is c f))))))
 
-    all-long : (a : ℕ) (seen : List ℕ) → Each Long (blocksOf B D n I a seen)
+    all-long : (a : ℕ) (seen : List ℕ) → Each Long (blocksOf A I a seen)
     unfolding blocksOf
     all-long a seen =
-        each-then Long (claim B D n I a seen) _
-        (λ now e. each-then Long (rawsFrom B I B a 0) _
-        (λ rs g. each-with Long _ (laterOf B D n I (n - D - 1) (next B I a) now)
-        (λ c f. (claimed-long a seen now rs e g, later-long (n - D - 1) (next B I a) now .is c f))))
+        each-then Long (claim A I a seen) _
+        (λ now e. each-then Long (rawsFrom (A .size) I (A .size) a 0) _
+        (λ rs g. each-with Long _ (laterOf A I (A .end - A .first - 1) (next (A .size) I a) now)
+        (λ c f. (claimed-long a seen now rs e g, later-long (A .end - A .first - 1) (next (A .size) I a) now .is c f))))
 
-    pub blocks-long : (a : ℕ) (seen : List ℕ) (c : Claimed (List RawBlock)) → blocksOf B D n I a seen ≡ some c → LongNames (c .found)
+    pub blocks-long : (a : ℕ) (seen : List ℕ) (c : Claimed (List RawBlock)) → blocksOf A I a seen ≡ some c → LongNames (c .found)
     blocks-long a seen c q = all-long a seen .is c q

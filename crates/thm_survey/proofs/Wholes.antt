@@ -14,7 +14,7 @@ use Rattle.wire.proofs.Picks.{not-both, and-both}
 use Rattle.bits.specs.Bit.{bit}
 use Rattle.model.specs.Tree.{Tree, then}
 use Rattle.model.specs.Render.{count, blocks, Shows}
-use Rattle.model.specs.Geometry.{Mount, Geo, blockSize, mapAt, dataAt, mapBits, setBits, usedCount, geoAt, superBytes, Sound, openRefusal}
+use Rattle.model.specs.Geometry.{areaOf, Mount, Geo, blockSize, mapAt, dataAt, mapBits, setBits, usedCount, geoAt, superBytes, Sound, openRefusal}
 use Rattle.model.specs.Volume.{maxDepth, Volume, WellFormed}
 use Rattle.model.specs.Steps.{Bytes}
 use Rattle.model.proofs.Areas.{size-large}
@@ -47,7 +47,7 @@ bits-pass I from f (suc k) h = ap (λ (b : Bool). b && bitsAre I from f k) (eq-e
 -- ---- what was claimed
 
 abbrev pub claimsOf : Geo → List ℕ → Option (List ℕ)
-claimsOf g I = seenOf (survey (blockSize g) (dataAt g) (g .n) I maxDepth (dataAt g) [])
+claimsOf g I = seenOf (survey (areaOf g) I maxDepth (dataAt g) [])
 
 seen-found : {X : Type 0} (o : Option (Claimed X)) (s : List ℕ) → seenOf o ≡ some s → (c : Claimed X) × (o ≡ some c) × (c .seen ≡ s)
 unfolding seenOf then
@@ -56,21 +56,21 @@ seen-found (some c) s e = (c, refl, let q : c .seen ≡ s = cc in q)
 
 -- of a found tree's blocks each is claimed once, and nothing else
 found-once : (g : Geo) (I : List ℕ) → Sound g (length I) → Bytes I → (c : Claimed (Tree maxDepth))
-    → survey (blockSize g) (dataAt g) (g .n) I maxDepth (dataAt g) [] ≡ some c → (i : ℕ) → count i (c .seen) ≡ count i (blocks (blockSize g) maxDepth (c .found))
-found-once g I s b c e i = survey-once (blockSize g) (dataAt g) (g .n) I (omega (arith, size-large g)) b (s .inside-image) maxDepth (dataAt g) c e i .1
+    → survey (areaOf g) I maxDepth (dataAt g) [] ≡ some c → (i : ℕ) → count i (c .seen) ≡ count i (blocks (blockSize g) maxDepth (c .found))
+found-once g I s b c e i = survey-once (areaOf g) I (omega (arith, size-large g)) b (s .inside-image) maxDepth (dataAt g) c e i .1
 
 -- no block past the volume is claimed
 pub claimed-past : (g : Geo) (I : List ℕ) → Sound g (length I) → Bytes I → (seen : List ℕ) → claimsOf g I ≡ some seen → (i : ℕ) → g .n ≤ i → count i seen ≡ 0
 claimed-past g I s b seen e i l = go (seen-found _ seen e)
   where
-    none-there : (c : Claimed (Tree maxDepth)) → survey (blockSize g) (dataAt g) (g .n) I maxDepth (dataAt g) [] ≡ some c
+    none-there : (c : Claimed (Tree maxDepth)) → survey (areaOf g) I maxDepth (dataAt g) [] ≡ some c
         → Dec (count i (blocks (blockSize g) maxDepth (c .found)) ≡ 0) → count i (blocks (blockSize g) maxDepth (c .found)) ≡ 0
     none-there c h (yes z) = z
     none-there c h (no z) =
-        let f = survey-sound (blockSize g) (dataAt g) (g .n) I (omega (arith, size-large g)) b (s .inside-image) maxDepth (dataAt g) [] c h in
+        let f = survey-sound (areaOf g) I (omega (arith, size-large g)) b (s .inside-image) maxDepth (dataAt g) [] c h in
         absurd (omega (arith, f .range i (omega arith) .1))
 
-    go : ((c : Claimed (Tree maxDepth)) × (survey (blockSize g) (dataAt g) (g .n) I maxDepth (dataAt g) [] ≡ some c) × (c .seen ≡ seen)) → count i seen ≡ 0
+    go : ((c : Claimed (Tree maxDepth)) × (survey (areaOf g) I maxDepth (dataAt g) [] ≡ some c) × (c .seen ≡ seen)) → count i seen ≡ 0
     go c = ap (count i) (sym (c .2)) ∙ found-once g I s b (c .0) (c .1) i ∙ none-there (c .0) (c .1) (ℕ-discrete (count i (blocks (blockSize g) maxDepth (c .0 .found))) 0)
 
 -- ---- both directions

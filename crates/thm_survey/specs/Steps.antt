@@ -5,6 +5,7 @@ use mathlib.Core.List.{List}
 use Prim.Native.Nat.{ℕ, zero, suc}
 use lib.Dec.{eqb}
 use Rattle.wire.specs.Pick.{pick}
+use Rattle.block.specs.Block.{Area}
 use Rattle.model.specs.Tree.{Below, then, sum}
 use Rattle.dir_entry.specs.declared.DirEntry.{DirEntry}
 use Rattle.read_dir.specs.Walk.{Walk, item, finished, damaged, walk}
@@ -31,24 +32,24 @@ abbrev pub sumBelow : (d : ℕ) → Below d → ℕ
 sumBelow zero x = absurd x
 sumBelow (suc d) x = sum x
 
-module _ (B D n : ℕ) (I : List ℕ) where
+module _ (A : Area) (I : List ℕ) where
   -- A directory's blocks, with distinct names in them.
   unfoldable pub openDir : ℕ → List ℕ → Option (Claimed (List RawBlock))
-  openDir a seen = then (blocksOf B D n I a seen) (λ c. pick (distinct (allNames (c .found))) (some c) none)
+  openDir a seen = then (blocksOf A I a seen) (λ c. pick (distinct (allNames (c .found))) (some c) none)
 
   -- The check of a subdirectory where d levels may be below, and of an entry there.
   abbrev pub checkBelow : (d : ℕ) → ℕ → List ℕ → Option (Claimed (Below d))
   checkBelow zero a seen = none
-  checkBelow (suc d) a seen = survey B D n I d a seen
+  checkBelow (suc d) a seen = survey A I d a seen
 
   unfoldable pub entryCheck : ℕ → DirEntry → List ℕ → Option (List ℕ)
-  entryCheck d e seen = seenOf (nodeOf B D n I (checkBelow d) (sumBelow d) (e .kind) e seen)
+  entryCheck d e seen = seenOf (nodeOf A I (checkBelow d) (sumBelow d) (e .kind) e seen)
 
   -- A directory at a: its blocks and names, then its entries.
   unfoldable pub dirCheck : ℕ → ℕ → List ℕ → Option (List ℕ)
-  dirCheck d a seen = then (seenOf (openDir a seen)) (through (entryCheck d) (walk B D n I a))
+  dirCheck d a seen = then (seenOf (openDir a seen)) (through (entryCheck d) (walk A I a))
 
   -- The same, where an entry gives its size.
   unfoldable pub subCheck : ℕ → ℕ → ℕ → List ℕ → Option (List ℕ)
   subCheck d a size seen =
-      then (seenOf (openDir a seen)) (λ s. pick (isTotal size (sumFrom 0 (walk B D n I a))) (through (entryCheck d) (walk B D n I a) s) none)
+      then (seenOf (openDir a seen)) (λ s. pick (isTotal size (sumFrom 0 (walk A I a))) (through (entryCheck d) (walk A I a) s) none)

@@ -1,5 +1,5 @@
 -- The check of W2 to W4 as a function on the bytes of any image: the tree that stands at an address, or nothing. Definitions alone.
--- B is the block size, D the data area's first address and n the volume's blocks.
+-- A is the data area: the size of its blocks, its first address and the volume's end.
 use mathlib.Core.Bool.{Bool, true, false, not, _&&_}
 use mathlib.Core.Option.{Option, none, some}
 use mathlib.Core.List.{List, [], _∷_, _++_}
@@ -7,7 +7,7 @@ use Prim.Native.Nat.{ℕ, zero, suc, _+_, _-_, _*_}
 use lib.Dec.{leb, eqb}
 use lib.ListN.{take, drop}
 use Rattle.wire.specs.Pick.{pick, zeroFrom}
-use Rattle.block.specs.Block.{next}
+use Rattle.block.specs.Block.{Area, next}
 use Rattle.model.specs.Tree.{Name, Cell, Node, file, device, sub, Entry, Block, Below, Tree, then, sum}
 use Rattle.model.specs.Render.{count}
 use Rattle.model.specs.Volume.{fileLimit, blocksFor}
@@ -74,27 +74,27 @@ rawsFrom B I (suc f) a o =
     (then (rawsFrom B I f a (o + header + e .len)) (λ rs. some (record { head = e; name = nameAt I (placeAt B a o) (e .len) } ∷ rs))) none)
     (pick (zeroFrom I (placeAt B a o) (B - 4 - o)) (some []) none)
 
-module _ (B D n : ℕ) (I : List ℕ) where
+module _ (A : Area) (I : List ℕ) where
   -- W2: block a is claimed, if it is in the area and not claimed yet.
   unfoldable pub claim : ℕ → List ℕ → Option (List ℕ)
-  claim a seen = pick (inArea B D n I a && eqb (count a seen) 0) (some (a ∷ seen)) none
+  claim a seen = pick (inArea A I a && eqb (count a seen) 0) (some (a ∷ seen)) none
 
   -- a block's data bytes
   abbrev pub bodyAt : ℕ → List ℕ
-  bodyAt a = take (B - 4) (drop (B * a + 4) I)
+  bodyAt a = take (A .size - 4) (drop (A .size * a + 4) I)
 
   -- W4: of a file: a chain of exactly k blocks from a on, which then ends.
   unfoldable pub cellsOf : ℕ → ℕ → List ℕ → Option (Claimed (List Cell))
   cellsOf zero a seen = pick (eqb a 0) (some (record { found = []; seen = seen })) none
   cellsOf (suc k) a seen =
-      then (claim a seen) (λ s. withFound (λ cs. record { at = a; body = bodyAt a } ∷ cs) (cellsOf k (next B I a) s))
+      then (claim a seen) (λ s. withFound (λ cs. record { at = a; body = bodyAt a } ∷ cs) (cellsOf k (next (A .size) I a) s))
 
   -- W4: of a device: a chain of at least one block, and at most k.
   unfoldable pub chainOf : ℕ → ℕ → List ℕ → Option (Claimed (List Cell))
   chainOf zero a seen = none
   chainOf (suc k) a seen =
       then (claim a seen) (λ s. withFound (λ cs. record { at = a; body = bodyAt a } ∷ cs)
-      (pick (eqb (next B I a) 0) (some (record { found = []; seen = s })) (chainOf k (next B I a) s)))
+      (pick (eqb (next (A .size) I a) 0) (some (record { found = []; seen = s })) (chainOf k (next (A .size) I a) s)))
 
   -- W4: the blocks of a directory's chain, at most k, from a later one on, where each must have an entry; and
   -- from the first on, at most n-D.
@@ -102,11 +102,11 @@ module _ (B D n : ℕ) (I : List ℕ) where
   laterOf zero a seen = pick (eqb a 0) (some (record { found = []; seen = seen })) none
   laterOf (suc k) a seen =
       pick (eqb a 0) (some (record { found = []; seen = seen }))
-      (then (claim a seen) (λ s. then (rawsFrom B I B a 0) (λ rs. pick (hasSome rs) (withFound (λ bs. record { at = a; raws = rs } ∷ bs) (laterOf k (next B I a) s)) none)))
+      (then (claim a seen) (λ s. then (rawsFrom (A .size) I (A .size) a 0) (λ rs. pick (hasSome rs) (withFound (λ bs. record { at = a; raws = rs } ∷ bs) (laterOf k (next (A .size) I a) s)) none)))
 
   unfoldable pub blocksOf : ℕ → List ℕ → Option (Claimed (List RawBlock))
   blocksOf a seen =
-      then (claim a seen) (λ s. then (rawsFrom B I B a 0) (λ rs. withFound (λ bs. record { at = a; raws = rs } ∷ bs) (laterOf (n - D - 1) (next B I a) s)))
+      then (claim a seen) (λ s. then (rawsFrom (A .size) I (A .size) a 0) (λ rs. withFound (λ bs. record { at = a; raws = rs } ∷ bs) (laterOf (A .end - A .first - 1) (next (A .size) I a) s)))
 
   -- ---- what the entries stand for; `below` is the check of a subdirectory, and `size` its sum
 
@@ -117,8 +117,8 @@ module _ (B D n : ℕ) (I : List ℕ) where
 
     unfoldable pub nodeOf : Kind → DirEntry → List ℕ → Option (Claimed (Node X))
     nodeOf kind.Dir e seen = subOf e seen
-    nodeOf kind.File e seen = pick (leb (e .size) fileLimit) (withFound (file (e .size)) (cellsOf (blocksFor B (e .size)) (e .addr .0) seen)) none
-    nodeOf kind.Device e seen = withFound (device (e .size)) (chainOf (n - D) (e .addr .0) seen)
+    nodeOf kind.File e seen = pick (leb (e .size) fileLimit) (withFound (file (e .size)) (cellsOf (blocksFor (A .size) (e .size)) (e .addr .0) seen)) none
+    nodeOf kind.Device e seen = withFound (device (e .size)) (chainOf (A .end - A .first) (e .addr .0) seen)
 
     unfoldable pub entriesOf : List Raw → List ℕ → Option (Claimed (List (Entry X)))
     entriesOf [] seen = some (record { found = []; seen = seen })

@@ -7,7 +7,7 @@ use lib.Dec.{eqb}
 use Rattle.wire.specs.Pick.{zeroFrom}
 use Rattle.bits.specs.Bit.{bit}
 use Rattle.model.specs.Render.{count}
-use Rattle.model.specs.Geometry.{Geo, blockSize, mapAt, dataAt, mapBits, setBits, usedCount}
+use Rattle.model.specs.Geometry.{areaOf, Geo, blockSize, mapAt, dataAt, mapBits, setBits, usedCount}
 use Rattle.model.specs.Volume.{maxDepth}
 use Rattle.thm_survey.specs.Survey.{survey, seenOf}
 
@@ -25,4 +25,4 @@ bitsOf g I (some seen) = bitsAre I (blockSize g * mapAt g) (λ x. count (dataAt 
 unfoldable pub whole : Geo → List ℕ → Bool
 whole g I =
     zeroFrom I (blockSize g * g .K + 18) (blockSize g - 18)
-    && (bitsOf g I (seenOf (survey (blockSize g) (dataAt g) (g .n) I maxDepth (dataAt g) [])) && eqb (usedCount g I) (dataAt g + setBits I g))
+    && (bitsOf g I (seenOf (survey (areaOf g) I maxDepth (dataAt g) [])) && eqb (usedCount g I) (dataAt g + setBits I g))

@@ -1,8 +1,9 @@
 -- What an image holds of a part of the tree: its pieces, in blocks of the data area, and from there what entries and chains show.
-use mathlib.Core.Path.{_≡_, refl, ap, subst}
+use mathlib.Core.Path.{_≡_, refl, subst}
 use mathlib.Core.Option.{some}
 use mathlib.Core.List.{List, [], _∷_, _++_}
-use Prim.Native.Nat.{ℕ, zero, suc, _-_, _*_, _^_, _≤_, _<_}
+use Prim.Native.Nat.{ℕ, zero, suc, _-_, _^_, _≤_, _<_}
+use native.Mathlib.Nat.{mul-comm}
 use native.Mathlib.Omega.{arith}
 use lib.ListN.{length}
 use Rattle.block.specs.Block.{next}
@@ -21,6 +22,7 @@ use Rattle.model.proofs.Lists.{not-some}
 use Rattle.model.proofs.Sums.{row, sum-blocks}
 use Rattle.dir_entry.specs.Entry.{placeAt}
 use Rattle.dir_entry.proofs.Shown.{Legible, data-shown}
+use Rattle.read_dir.proofs.Sizes.{bytes-fit}
 
 -- ---- pieces
 
@@ -127,9 +129,12 @@ module _ (g : Geo) (I : List ℕ) (sound : Sound g (length I)) where
   sum-small : {X : Type 0} (S : X → Type 0) (v : View X) (bs : List (Block X)) → All (GoodBlock (blockSize g) S) bs → Stored g I (dirPieces (blockSize g) v bs) → sum bs < 2 ^ 32
   sum-small S v bs a s =
       let B : ℕ = blockSize g in
-      let e : B ≡ 512 = ap (λ (c : ℕ). 512 * 2 ^ c) (sound .known .1) in
-      let b : sum bs ≤ 507 * length (ats (dirPieces B v bs)) = subst (λ (z : ℕ). sum bs ≤ (z - 5) * length (ats (dirPieces B v bs))) e (sum-blocks B S v bs a) in
-      omega (arith, b, stored-few g I (dirPieces B v bs) s, few g (length I) sound)
+      let k : ℕ = length (ats (dirPieces B v bs)) in
+      omega (
+        arith,
+        sum-blocks B S v bs a,
+        bytes-fit B k (g .n) (omega (arith, stored-few g I (dirPieces B v bs) s)) (omega (arith, sound .inside-image, sound .limit, mul-comm (g .n) B)),
+      )
 
   sub-legible : (d : ℕ) (x : Below d) → GoodBelow (blockSize g) d x → Stored g I (view (blockSize g) d .pieces x)
       → (1 ≤ view (blockSize g) d .from x) × (view (blockSize g) d .from x < 2 ^ 32) × (view (blockSize g) d .size x < 2 ^ 32)

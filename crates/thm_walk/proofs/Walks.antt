@@ -12,9 +12,10 @@ use lib.ListN.{length}
 use borrow.Author.Tests.{le-leb, lt-ltb, eq-eqb, ne-eqb}
 use Rattle.wire.specs.Pick.{pick}
 use Rattle.wire.proofs.Picks.{pick-true, pick-false, either}
+use Rattle.block.specs.Block.{Area}
 use Rattle.model.specs.Tree.{Name, Entry, Block, Below, Tree, weight, used, Some, find, first, then, holds, lookup, sum}
 use Rattle.model.specs.Render.{View, blocksAt, padded, addressOf, entryBytes, entriesBytes, dirPieces, view, render, Shows, offset, placeOf}
-use Rattle.model.specs.Geometry.{Geo, blockSize, dataAt, Sound}
+use Rattle.model.specs.Geometry.{areaOf, Geo, blockSize, dataAt, Sound}
 use Rattle.model.specs.Volume.{All, GoodBlock, GoodBelow, Laid}
 use Rattle.model.proofs.Areas.{area, block-inside}
 use Rattle.model.proofs.Sums.{chain-long}
@@ -33,41 +34,41 @@ use Rattle.thm_walk.proofs.Parts.{Stored, Part, laid-part, part-find, s
 
 -- ---- one block
 
-module _ {X : Type 0} (B D n : ℕ) (I : List ℕ) (v : View X) (a : ℕ) (inside : B * a + B ≤ length I) where
+module _ {X : Type 0} (A : Area) (I : List ℕ) (v : View X) (a : ℕ) (inside : A .size * a + A .size ≤ length I) where
   -- one entry, then the others
-  shown-item : (o : ℕ) (e : Entry X) (w : Walk) → Legible v e → o + weight e ≤ B - 5 → Shows I (placeAt B a o) (entryBytes v e)
-      → shown B D n I (headOf v e) a o w ≡ item (headOf v e) a o (e .name) w
+  shown-item : (o : ℕ) (e : Entry X) (w : Walk) → Legible v e → o + weight e ≤ A .size - 5 → Shows I (placeAt (A .size) a o) (entryBytes v e)
+      → shown A I (headOf v e) a o w ≡ item (headOf v e) a o (e .name) w
   unfolding shown headOf
   shown-item o e w l h s =
       pick-false _ _ (ne-eqb (addressOf v (e .node)) 0 (λ z. omega (arith, l .some-address)))
-      ∙ ap (λ (x : List ℕ). item (headOf v e) a o x w) (name-is B I v a inside o e h s)
+      ∙ ap (λ (x : List ℕ). item (headOf v e) a o x w) (name-is (A .size) I v a inside o e h s)
 
   -- A block that shows entries from offset o on, and zeros after them: they are read, with any bound that the block's rest does not pass.
-  entries-walk : (es : List (Entry X)) (f o : ℕ) (w : Walk) → B - o ≤ f → o + used es ≤ B - 5 → All (Legible v) es
-      → Shows I (placeAt B a o) (padded (B - 4 - o) (entriesBytes v es)) → entriesFrom B D n I f a o w ≡ itemsOf v a o es w
+  entries-walk : (es : List (Entry X)) (f o : ℕ) (w : Walk) → A .size - o ≤ f → o + used es ≤ A .size - 5 → All (Legible v) es
+      → Shows I (placeAt (A .size) a o) (padded (A .size - 4 - o) (entriesBytes v es)) → entriesFrom A I f a o w ≡ itemsOf v a o es w
   unfolding entriesFrom itemsOf onSlot used entriesBytes
   entries-walk [] zero o w k h l s = refl
   entries-walk [] (suc f) o w k h l s =
-      ap (λ (z : Slot). onSlot z (λ d. shown B D n I d a o (entriesFrom B D n I f a (o + header + d .len) w)) w) (block-stops B I v a o (omega arith) s)
+      ap (λ (z : Slot). onSlot z (λ d. shown A I d a o (entriesFrom A I f a (o + header + d .len) w)) w) (block-stops (A .size) I v a o (omega arith) s)
   entries-walk (e ∷ es) zero o w k h l s = let y : 18 ≤ weight e = unfold weight in omega arith in absurd (omega arith)
   entries-walk (e ∷ es) (suc f) o w k h l s =
-      let q = first-shown B I v a o e es (unfold entriesBytes in s) in
+      let q = first-shown (A .size) I v a o e es (unfold entriesBytes in s) in
       let g : 18 ≤ weight e = unfold weight in omega arith in
-      let m : entriesFrom B D n I f a (o + weight e) w ≡ itemsOf v a (o + weight e) es w
-      = entries-walk es f (o + weight e) w (less-left B o f (weight e) k (omega arith)) (omega arith) (l .1) (q .1) in
-      ap (λ (z : Slot). onSlot z (λ d. shown B D n I d a o (entriesFrom B D n I f a (o + header + d .len) w)) w) (slot-is B I v a o e (l .0) (omega arith) (q .0))
-      ∙ shown-item o e (entriesFrom B D n I f a (o + header + headOf v e .len) w) (l .0) (omega arith) (q .0)
-      ∙ ap (item (headOf v e) a o (e .name)) (ap (λ (z : ℕ). entriesFrom B D n I f a z w) (head-weight v o e) ∙ m)
+      let m : entriesFrom A I f a (o + weight e) w ≡ itemsOf v a (o + weight e) es w
+      = entries-walk es f (o + weight e) w (less-left (A .size) o f (weight e) k (omega arith)) (omega arith) (l .1) (q .1) in
+      ap (λ (z : Slot). onSlot z (λ d. shown A I d a o (entriesFrom A I f a (o + header + d .len) w)) w) (slot-is (A .size) I v a o e (l .0) (omega arith) (q .0))
+      ∙ shown-item o e (entriesFrom A I f a (o + header + headOf v e .len) w) (l .0) (omega arith) (q .0)
+      ∙ ap (item (headOf v e) a o (e .name)) (ap (λ (z : ℕ). entriesFrom A I f a z w) (head-weight v o e) ∙ m)
 
 -- ---- a chain
 
 -- an address of the data area
-pub in-area : (B D n : ℕ) (I : List ℕ) (a : ℕ) → (D ≤ a) × (a < n) → inArea B D n I a ≡ true
-in-area B D n I a h = rw (le-leb D a (h .0), lt-ltb a n (h .1))
+pub in-area : (A : Area) (I : List ℕ) (a : ℕ) → (A .first ≤ a) × (a < A .end) → inArea A I a ≡ true
+in-area A I a h = rw (le-leb (A .first) a (h .0), lt-ltb a (A .end) (h .1))
 
 -- what is read after a block, where the next address is z
-after-block : ℕ → ℕ → ℕ → List ℕ → ℕ → ℕ → Walk
-after-block B D n I k z = pick (eqb z 0) finished (chainFrom B D n I k z)
+after-block : Area → List ℕ → ℕ → ℕ → Walk
+after-block A I k z = pick (eqb z 0) finished (chainFrom A I k z)
 
 module _ (g : Geo) (I : List ℕ) (sound : Sound g (length I)) (d : ℕ) where
   abbrev shows : View (Below d)
@@ -75,31 +76,30 @@ module _ (g : Geo) (I : List ℕ) (sound : Sound g (length I)) (d : ℕ) where
 
   -- one block, then what follows it
   block-walk : (b : Block (Below d)) (bs : Tree d) (k : ℕ) → GoodBlock (blockSize g) (GoodBelow (blockSize g) d) b → Stored g I (dirPieces (blockSize g) shows (b ∷ bs))
-      → chainFrom (blockSize g) (dataAt g) (g .n) I (suc k) (b .at)
-      ≡ itemsOf shows (b .at) 0 (b .entries) (after-block (blockSize g) (dataAt g) (g .n) I k (blocksAt bs))
+      → chainFrom (areaOf g) I (suc k) (b .at)
+      ≡ itemsOf shows (b .at) 0 (b .entries) (after-block (areaOf g) I k (blocksAt bs))
   unfolding chainFrom after-block
   block-walk b bs k a s =
-      let B : ℕ = blockSize g in
-      let D : ℕ = dataAt g in
-      let N : ℕ = g .n in
+      let A : Area = areaOf g in
       let r = block-data g I shows b bs s in
       let e : All (Legible shows) (b .entries) = entries-legible g I sound d (b .entries) (a .each) (below-stored g I shows b bs s) in
-      pick-true _ _ (in-area B D N I (b .at) r)
-      ∙ ap (λ (x : ℕ). entriesFrom B D N I B (b .at) 0 (after-block B D N I k x)) (block-next g I shows sound b bs s)
-      ∙ entries-walk B D N I shows (b .at) (block-inside g (length I) sound (b .at) (r .1)) (b .entries) B 0 (after-block B D N I k (blocksAt bs)) (omega arith) (omega (arith, a .fits)) e (block-shown g I shows b bs s)
+      pick-true _ _ (in-area A I (b .at) r)
+      ∙ ap (λ (x : ℕ). entriesFrom A I (A .size) (b .at) 0 (after-block A I k x)) (block-next g I shows sound b bs s)
+      ∙ entries-walk A I shows (b .at) (block-inside g (length I) sound (b .at) (r .1)) (b .entries) (A .size) 0 (after-block A I k (blocksAt bs)) (omega arith) (omega (arith, a .fits)) e
+      (block-shown g I shows b bs s)
 
-  ends : (k : ℕ) → after-block (blockSize g) (dataAt g) (g .n) I k (blocksAt {X = Below d} []) ≡ finished
+  ends : (k : ℕ) → after-block (areaOf g) I k (blocksAt {X = Below d} []) ≡ finished
   unfolding after-block blocksAt
   ends k = pick-true _ _ (eq-eqb 0 0 refl)
 
   goes-on : (c : Block (Below d)) (bs : Tree d) (k : ℕ) → Stored g I (dirPieces (blockSize g) shows (c ∷ bs))
-      → after-block (blockSize g) (dataAt g) (g .n) I k (blocksAt (c ∷ bs)) ≡ chainFrom (blockSize g) (dataAt g) (g .n) I k (c .at)
+      → after-block (areaOf g) I k (blocksAt (c ∷ bs)) ≡ chainFrom (areaOf g) I k (c .at)
   unfolding after-block blocksAt dirPieces
   goes-on c bs k s = pick-false _ _ (ne-eqb (c .at) 0 (λ z. omega (arith, stored-in g I _ _ s .0, area g (length I) sound .maps)))
 
   -- The blocks of a directory from b on.
   chain-walk : (b : Block (Below d)) (bs : Tree d) (k : ℕ) → length bs ≤ k → All (GoodBlock (blockSize g) (GoodBelow (blockSize g) d)) (b ∷ bs)
-      → Stored g I (dirPieces (blockSize g) shows (b ∷ bs)) → chainFrom (blockSize g) (dataAt g) (g .n) I (suc k) (b .at) ≡ walkOf shows (b ∷ bs)
+      → Stored g I (dirPieces (blockSize g) shows (b ∷ bs)) → chainFrom (areaOf g) I (suc k) (b .at) ≡ walkOf shows (b ∷ bs)
   unfolding walkOf
   chain-walk b [] k h a s = block-walk b [] k (a .0) s ∙ ap (itemsOf shows (b .at) 0 (b .entries)) (ends k)
   chain-walk b (c ∷ bs) zero h a s = absurd (omega arith)
@@ -108,18 +108,18 @@ module _ (g : Geo) (I : List ℕ) (sound : Sound g (length I)) (d : ℕ) where
       ∙ ap (itemsOf shows (b .at) 0 (b .entries)) (goes-on c bs (suc k) (chain-after g I shows b (c ∷ bs) s) ∙ chain-walk c bs k (omega arith) (a .1) (chain-after g I shows b (c ∷ bs) s))
 
 -- The walk of a directory that the image holds.
-pub part-walk : (g : Geo) (I : List ℕ) (d : ℕ) (t : Tree d) → Part g I d t → walk (blockSize g) (dataAt g) (g .n) I (blocksAt t) ≡ walkOf (view (blockSize g) d) t
+pub part-walk : (g : Geo) (I : List ℕ) (d : ℕ) (t : Tree d) → Part g I d t → walk (areaOf g) I (blocksAt t) ≡ walkOf (view (blockSize g) d) t
 unfolding blocksAt render
 part-walk g I d [] p = absurd (p .good .packed)
 part-walk g I d (b ∷ bs) p =
     let h : length (b ∷ bs) ≤ g .n - dataAt g = omega (arith, chain-long (blockSize g) (view (blockSize g) d) (b ∷ bs), stored-few g I _ (p .stored)) in
     let e : g .n - dataAt g ≡ suc (g .n - dataAt g - 1) = omega arith in
-    ap (λ (k : ℕ). chainFrom (blockSize g) (dataAt g) (g .n) I k (b .at)) e
+    ap (λ (k : ℕ). chainFrom (areaOf g) I k (b .at)) e
     ∙ chain-walk g I (p .sound) d b bs (g .n - dataAt g - 1) (omega arith) (p .good .all) (p .stored)
 
 -- A directory of a volume, at whatever path, is walked as the tree has it: every entry in order, each at its place, and no damage.
 pub walk-is : (g : Geo) (I : List ℕ) (d : ℕ) (t : Tree d) (u : ℕ) (p : List Name) (s : Some) → Laid g I d t u → find d p t ≡ some s
-    → walk (blockSize g) (dataAt g) (g .n) I (blocksAt (s .1)) ≡ walkOf (view (blockSize g) (s .0)) (s .1)
+    → walk (areaOf g) I (blocksAt (s .1)) ≡ walkOf (view (blockSize g) (s .0)) (s .1)
 walk-is g I d t u p s l f = part-walk g I (s .0) (s .1) (part-find g I d p t s (laid-part g I d t u l) f)
 
 -- ---- the sum of the walk, and the place of an entry
@@ -138,7 +138,7 @@ module _ {X : Type 0} (v : View X) where
   walk-sum (b ∷ bs) s = items-sum (b .at) (b .entries) 0 s (walkOf v bs) ∙ walk-sum bs (s + used (b .entries)) ∙ ap summed.Total (add-assoc s (used (b .entries)) (sum bs))
 
 -- The sum of a directory that the image holds is the tree's.
-pub part-sum : (g : Geo) (I : List ℕ) (d : ℕ) (t : Tree d) → Part g I d t → sumFrom 0 (walk (blockSize g) (dataAt g) (g .n) I (blocksAt t)) ≡ summed.Total (sum t)
+pub part-sum : (g : Geo) (I : List ℕ) (d : ℕ) (t : Tree d) → Part g I d t → sumFrom 0 (walk (areaOf g) I (blocksAt t)) ≡ summed.Total (sum t)
 part-sum g I d t p = ap (sumFrom 0) (part-walk g I d t p) ∙ walk-sum (view (blockSize g) d) t 0 ∙ ap summed.Total (zero-add (sum t))
 
 -- The byte of the image where the entry of a name begins.

@@ -8,11 +8,13 @@ use lib.Dec.{ltb}
 use lib.ListN.{length}
 use borrow.Author.Tests.{lt-ltb, le-ltb, ltb-false, eq-eqb, ne-eqb}
 use Rattle.model.specs.Answers.{Reply, accepted, refused}
-use Rattle.model.specs.Geometry.{Geo, blockSize, dataAt}
+use Rattle.block.specs.Block.{Area}
+use Rattle.model.specs.Geometry.{Geo, blockSize, areaOf}
 use Rattle.model.specs.Volume.{fileLimit, blocksFor, maxDepth}
 use Rattle.model.proofs.Replies.{given-yes, given-no}
 use Rattle.super_block.specs.declared.SuperBlock.{SuperBlock}
-use Rattle.super_block.specs.Super.{geoOf, Fit}
+use Rattle.super_block.specs.Super.{areaIn, geoOf, Fit}
+use Rattle.super_block.proofs.Fits.{area-is}
 use Rattle.bitmap_block.specs.Bitmap.{clears}
 use Rattle.dir_entry.specs.declared.DirEntry.{DirEntry}
 use Rattle.read_dir.specs.declared.Found.{Found}
@@ -39,21 +41,24 @@ module _ (h : Handle) (len : ℕ) where
   pub len-fits : (b : Bool) → b ≡ tooLong h len → b ≡ false → len < 4294967296
   len-fits b e q = omega (arith, long-fits b e q)
 
-  module _ (s : SuperBlock) (I : List ℕ) (old new : ℕ) (eo : old ≡ blocksFor 512 (h .size)) (en : new ≡ blocksFor 512 (h .position + len)) where
-    pub room-kept : new ≤ old → false ≡ noRoom (geoOf s) I h len
-    unfolding noRoom blocksToAdd
-    room-kept p = sym (le-ltb (length (clears (geoOf s) I)) (blocksFor 512 (h .position + len) - blocksFor 512 (h .size)) (omega arith))
+  module _ (s : SuperBlock) (I : List ℕ) (f : Fit s I) (old new : ℕ) (eo : old ≡ blocksFor (s .size) (h .size))
+      (en : new ≡ blocksFor (s .size) (h .position + len)) where
+    added : new - old ≡ blocksFor (blockSize (geoOf s)) (h .position + len) - blocksFor (blockSize (geoOf s)) (h .size)
+    added = (λ i. en i - eo i) ∙ ap (λ (B : ℕ). blocksFor B (h .position + len) - blocksFor B (h .size)) (f .size)
 
     pub room-asked : (b : Bool) → b ≡ ltb (length (clears (geoOf s) I)) (new - old) → b ≡ noRoom (geoOf s) I h len
     unfolding noRoom blocksToAdd
-    room-asked b e = e ∙ (λ i. ltb (length (clears (geoOf s) I)) (en i - eo i))
+    room-asked b e = e ∙ ap (ltb (length (clears (geoOf s) I))) added
+
+    pub room-kept : new ≤ old → false ≡ noRoom (geoOf s) I h len
+    room-kept p = room-asked false (sym (le-ltb (length (clears (geoOf s) I)) (new - old) (omega arith)))
 
 -- ---- the directory
 
-pub reach-told : (s : SuperBlock) (I : List ℕ) (h : Handle) (b : Bool) → Fit s I → b ≡ reaches 512 (s .area .0) (s .blocks) I (h .dir .0) maxDepth (s .area .0)
+pub reach-told : (s : SuperBlock) (I : List ℕ) (h : Handle) (b : Bool) → Fit s I → b ≡ reaches (areaIn s) I (h .dir .0) maxDepth (s .area .0)
     → not b ≡ unreached (geoOf s) I h
 unfolding unreached
-reach-told s I h b f e = ap not (e ∙ ap (λ (D : ℕ). reaches 512 D (s .blocks) I (h .dir .0) maxDepth D) (f .area))
+reach-told s I h b f e = ap not (e ∙ λ i. reaches (area-is f i) I (h .dir .0) maxDepth (f .area i))
 
 -- ---- 10, 9
 
@@ -86,7 +91,7 @@ module _ (g : Geo) (I : List ℕ) (h : Handle) (len : ℕ) where
       aim-unreached t = sym (given-no 13 _ (ne-eqb len 0 z) ∙ given-no 11 _ (sym ea ∙ na) ∙ given-yes 11 _ (omega arith) (sym eb ∙ t))
 
       -- what follows from what the directory holds
-      pub aim-entry : (x : Found) → b ≡ false → x ≡ currentIn h (walk (blockSize g) (dataAt g) (g .n) I (h .dir .0)) → onCurrent x (λ e p. fitsAt g I h len e p) ≡ targetOf g I h len
+      pub aim-entry : (x : Found) → b ≡ false → x ≡ currentIn h (walk (areaOf g) I (h .dir .0)) → onCurrent x (λ e p. fitsAt g I h len e p) ≡ targetOf g I h len
       unfolding targetOf
       aim-entry x nb q =
           ap (λ (y : Found). onCurrent y (λ e p. fitsAt g I h len e p)) q
@@ -94,10 +99,11 @@ module _ (g : Geo) (I : List ℕ) (h : Handle) (len : ℕ) where
 
 -- the same with the struct's own numbers
 module _ (s : SuperBlock) (I : List ℕ) (h : Handle) (len : ℕ) (z : len ≡ 0 → ⊥) (a : Bool) (ea : a ≡ staleFields h) (na : a ≡ false) (b : Bool) (eb : b ≡ unreached (geoOf s) I h) (nb : b ≡ false)
-    (f : Fit s I) (m : Found) (em : m ≡ currentIn h (walk 512 (s .area .0) (s .blocks) I (h .dir .0))) where
+    (f : Fit s I) (m : Found) (em : m ≡ currentIn h (walk (areaIn s) I (h .dir .0))) where
   by-entry : (x : Found) → m ≡ x → onCurrent x (λ e p. fitsAt (geoOf s) I h len e p) ≡ targetOf (geoOf s) I h len
   by-entry x q =
-      aim-entry (geoOf s) I h len z a ea na b eb x nb (sym q ∙ em ∙ ap (λ (D : ℕ). currentIn h (walk 512 D (s .blocks) I (h .dir .0))) (f .area))
+      aim-entry (geoOf s) I h len z a ea na b eb x nb
+      (sym q ∙ em ∙ ap (λ (A : Area). currentIn h (walk A I (h .dir .0))) (area-is f))
 
   pub aim-at : (e : DirEntry) (p : Place) (r : Reply Target) → m ≡ found.At e p → r ≡ fitsAt (geoOf s) I h len e p → r ≡ targetOf (geoOf s) I h len
   aim-at e p r q k = k ∙ by-entry (found.At e p) q

@@ -10,7 +10,7 @@ use borrow.Author.Tests.{le-ltb, ne-eqb}
 use Rattle.model.specs.Tree.{Name, Cell, Node, file, device, sub, Entry, Below, Tree, lookup, change, Some, find}
 use Rattle.model.specs.Render.{cellsAt, blocksAt}
 use Rattle.model.specs.Answers.{accepted}
-use Rattle.model.specs.Geometry.{Geo, blockSize, dataAt}
+use Rattle.model.specs.Geometry.{areaOf, Geo, blockSize}
 use Rattle.model.specs.Volume.{fileLimit, blocksFor, GoodFile, Volume, maxDepth}
 use Rattle.model.specs.Calls.{DirAt, freeBlocks, fileEntry, places, rewrite, refiled, rewritten, TreeWrites}
 use Rattle.model.proofs.Alike.{change-at}
@@ -162,5 +162,5 @@ module _ (g : Geo) (I : List ℕ) (t : Tree maxDepth) (v : Volume g I maxDepth t
       (_, r .2 .makes .volume, renewed-on g I (writtenImage g I h buf now) t v h now buf (r .0) (r .1) (r .2) (a .on-file))
 
   -- and its entry is found in the new image.
-  pub still-current : (x : DirEntry) × (p : Place) × (currentIn (grownHandle h (length buf)) (walk (blockSize g) (dataAt g) (g .n) (writtenImage g I h buf now) (h .dir .0)) ≡ found.At x p)
+  pub still-current : (x : DirEntry) × (p : Place) × (currentIn (grownHandle h (length buf)) (walk (areaOf g) (writtenImage g I h buf now) (h .dir .0)) ≡ found.At x p)
   still-current = let r = still-on in found-there g (writtenImage g I h buf now) (r .0) (r .1) (grownHandle h (length buf)) (r .2)

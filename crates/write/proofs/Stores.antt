@@ -10,7 +10,7 @@ use Rattle.limits.specs.declared.Refusal.{Refusal}
 use Rattle.model.specs.Geometry.{countAt}
 use Rattle.model.specs.Volume.{WellFormed}
 use Rattle.super_block.specs.declared.SuperBlock.{SuperBlock}
-use Rattle.super_block.specs.Super.{mountOf, geoOf}
+use Rattle.super_block.specs.Super.{mountOf, geoOf, Fit}
 use Rattle.super_block.proofs.Fits.{well-volume}
 use Rattle.dir_entry.specs.declared.DirEntry.{DirEntry}
 use Rattle.read_dir.specs.declared.Place.{Place}
@@ -26,9 +26,11 @@ use Rattle.write.proofs.Targets.{accepted-can}
 module _ (s : SuperBlock) (I : List ℕ) (h : Handle) (buf : List ℕ) (r : Targeted) (er : targetedSays r ≡ targetOf (geoOf s) I h (length buf)) where
   -- ---- before the stores
 
-  module _ (w : WellFormed (mountOf s) I) (b : s .blocks ≡ countAt (mountOf s) I) (e : DirEntry) (p : Place) (q : r ≡ targeted.At e p) where
+  module _ (f : Fit s I) (w : WellFormed (mountOf s) I) (b : s .blocks ≡ countAt (mountOf s) I) (e : DirEntry) (p : Place)
+      (q : r ≡ targeted.At e p) where
     pub store-can : CanWrite (geoOf s) I e p (h .position) (length buf)
-    store-can = accepted-can (geoOf s) I (w .tree) (well-volume s I w b) h buf (record { entry = e; place = p }) (sym er ∙ ap targetedSays q)
+    store-can =
+        accepted-can (geoOf s) I (w .tree) (well-volume s I f w b) h buf (record { entry = e; place = p }) (sym er ∙ ap targetedSays q)
 
     pub store-end : h .position + length buf ≤ 2147483647
     store-end = store-can .limit

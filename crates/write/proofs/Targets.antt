@@ -14,7 +14,7 @@ use Rattle.wire.proofs.Picks.{either, not-both}
 use Rattle.model.specs.Tree.{Name, Entry, Below, Tree, lookup}
 use Rattle.model.specs.Render.{View, view}
 use Rattle.model.specs.Answers.{Reply, accepted, refused}
-use Rattle.model.specs.Geometry.{Geo, blockSize, dataAt}
+use Rattle.model.specs.Geometry.{areaOf, Geo, blockSize}
 use Rattle.model.specs.Volume.{fileLimit, blocksFor, Volume, maxDepth}
 use Rattle.model.specs.Calls.{DirAt, pathTo, freeBlocks, fileEntry, TreeWrites}
 use Rattle.model.proofs.Full.{good-find}
@@ -52,11 +52,11 @@ module _ (g : Geo) (I : List ℕ) (t : Tree maxDepth) (v : Volume g I maxDepth t
   -- ---- the directory
 
   abbrev here : Found
-  here = currentIn h (walk (blockSize g) (dataAt g) (g .n) I (h .dir .0))
+  here = currentIn h (walk (areaOf g) I (h .dir .0))
 
   here-is : (p : List Name) (s : DirAt maxDepth (h .dir .0) p t) → here ≡ currentIn h (walkOf (view (blockSize g) (s .dir .0)) (s .dir .1))
   here-is p s =
-      ap (λ (a : ℕ). currentIn h (walk (blockSize g) (dataAt g) (g .n) I a)) (sym (s .starts))
+      ap (λ (a : ℕ). currentIn h (walk (areaOf g) I a)) (sym (s .starts))
       ∙ ap (currentIn h) (walk-is g I maxDepth t _ p (s .dir) (v .laid) (s .there))
 
   -- The directory has the handle's file, or the walk ends without.
@@ -218,7 +218,7 @@ module _ (g : Geo) (I : List ℕ) (t : Tree maxDepth) (v : Volume g I maxDepth t
   )
 
   -- The entry of a handle on a file is found in the image.
-  pub found-there : OnFile maxDepth t h → (e : DirEntry) × (p : Place) × (currentIn h (walk (blockSize g) (dataAt g) (g .n) I (h .dir .0)) ≡ found.At e p)
+  pub found-there : OnFile maxDepth t h → (e : DirEntry) × (p : Place) × (currentIn h (walk (areaOf g) I (h .dir .0)) ≡ found.At e p)
   found-there q = (aimed q .entry, aimed q .place, here-at q)
 
   -- What `write` requires holds where a write is accepted.

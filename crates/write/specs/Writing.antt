@@ -6,7 +6,7 @@ use Prim.Native.Nat.{ℕ, _+_, _-_}
 use lib.Dec.{ltb, eqb}
 use lib.ListN.{length}
 use Rattle.model.specs.Answers.{Reply, accepted, refused, andThen, when, given}
-use Rattle.model.specs.Geometry.{Geo, blockSize, dataAt}
+use Rattle.model.specs.Geometry.{areaOf, Geo, blockSize, dataAt}
 use Rattle.model.specs.Volume.{fileLimit, blocksFor, maxDepth}
 use Rattle.bitmap_block.specs.Bitmap.{clears}
 use Rattle.dir_entry.specs.declared.DirEntry.{DirEntry}
@@ -41,7 +41,7 @@ blocksToAdd B h len = blocksFor B (h .position + len) - blocksFor B (h .size)
 module _ (g : Geo) (I : List ℕ) where
   -- H4: the handle's directory is none that is reached from the root
   unfoldable pub unreached : Handle → Bool
-  unreached h = not (reaches (blockSize g) (dataAt g) (g .n) I (h .dir .0) maxDepth (dataAt g))
+  unreached h = not (reaches (areaOf g) I (h .dir .0) maxDepth (dataAt g))
 
   -- R9
   unfoldable pub noRoom : Handle → ℕ → Bool
@@ -53,7 +53,7 @@ module _ (g : Geo) (I : List ℕ) where
       given (when 13 (eqb len 0))
       (given (when 11 (staleFields h))
       (given (when 11 (unreached h))
-      (onCurrent (currentIn h (walk (blockSize g) (dataAt g) (g .n) I (h .dir .0)))
+      (onCurrent (currentIn h (walk (areaOf g) I (h .dir .0)))
       (λ e p. given (when 10 (tooLong h len)) (given (when 9 (noRoom h len)) (accepted (record { entry = e; place = p })))))))
 
   -- The image afterwards: the file is rewritten, or all is as it was.

@@ -52,8 +52,8 @@ fn no_room(h: Handle, img: &[u8], s: SuperBlock, len: u32) -> bool
     requires { ⌜ h .position + len ≤ 2147483647 ⌝ }
     ensures { λ r. ⌜ r ≡ noRoom (geoOf s) (now (img .entry)) h len ⌝ }
 {
-    let old = limits::blocks_for(h.size);
-    let new = limits::blocks_for(h.position + len);
+    let old = limits::blocks_for(s.size, h.size);
+    let new = limits::blocks_for(s.size, h.position + len);
     if new <= old {
         return false;
     }

@@ -11,26 +11,23 @@ ghost use Prim.Native.Nat.{_+_, _-_, _*_, _/_, _≤_, _<_, min};
 ghost use lib.ListN.{length, take, drop};
 ghost use Rattle.wire.specs.Be.{splice};
 ghost use Rattle.bits.specs.Bit.{AllSet};
-ghost use Rattle.block.specs.Block.{blockBytes, next};
+ghost use Rattle.block.specs.Block.{BlockSize, next};
 ghost use Rattle.model.specs.Geometry.{blockSize, mapAt, dataAt, usedCount};
 ghost use Rattle.super_block.specs.Super.{geoOf, Fit};
 ghost use Rattle.dir_entry.specs.Entry.{placeAt};
 ghost use Rattle.bitmap_block.specs.Bitmap.{fresh, Room};
 ghost use Rattle.write_store.specs.Write.{hop, Along, grown, extended, dropped, cutAfter, resized, poured, spread, wrote, Resizable, CanWrite};
 
-// A block's data bytes, as positions are counted.
-const CAPACITY: u32 = LinkedBlock::CAPACITY as u32;
-
 // The address k links after a.
 fn follow(img: &[u8], s: SuperBlock, a: Addr, k: u32) -> Addr
     requires { ⌜ Fit s (now img) ⌝ }
     requires { ⌜ Along (geoOf s) (now img) (a .0) k ⌝ }
-    ensures { λ r. ⌜ r .0 ≡ hop blockBytes (now (img .entry)) k (a .0) ⌝ }
+    ensures { λ r. ⌜ r .0 ≡ hop (s .size) (now (img .entry)) k (a .0) ⌝ }
 {
     let mut b = a;
     let mut left = k;
     while 0 < left {
-        b = LinkedBlock::new(b).next_addr(img);
+        b = LinkedBlock::new(s.size, b).next_addr(img);
         left -= 1;
     }
     b
@@ -46,7 +43,7 @@ fn grow(img: &mut [u8], s: SuperBlock, last: Addr, from: Index) -> Index
 {
     let d = s.area;
     let x = bitmap_block::alloc(img, s, from);
-    LinkedBlock::new(last).set_next_addr(img, x.addr(d));
+    LinkedBlock::new(s.size, last).set_next_addr(img, x.addr(d));
     x
 }
 
@@ -80,7 +77,7 @@ fn free_chain(img: &mut [u8], s: SuperBlock, a: Addr, k: u32)
     let mut b = a;
     let mut left = k;
     while 0 < left {
-        let then = LinkedBlock::new(b).next_addr(img);
+        let then = LinkedBlock::new(s.size, b).next_addr(img);
         bitmap_block::free(img, s, b.index(d));
         b = then;
         left -= 1;
@@ -91,13 +88,13 @@ fn free_chain(img: &mut [u8], s: SuperBlock, a: Addr, k: u32)
 fn cut(img: &mut [u8], s: SuperBlock, last: Addr, k: u32)
     requires { ⌜ Fit s (now img) ⌝ }
     requires { ⌜ last .0 < s .blocks ⌝ }
-    requires { ⌜ Along (geoOf s) (now img) (next blockBytes (now img) (last .0)) k ⌝ }
+    requires { ⌜ Along (geoOf s) (now img) (next (s .size) (now img) (last .0)) k ⌝ }
     requires { ⌜ (k ≤ usedCount (geoOf s) (now img)) × (usedCount (geoOf s) (now img) ≤ s .blocks) ⌝ }
     ensures { λ _. ⌜ now (img .exit) ≡ cutAfter (geoOf s) (now (img .entry)) (last .0) k ⌝ }
 {
-    let a = LinkedBlock::new(last).next_addr(img);
+    let a = LinkedBlock::new(s.size, last).next_addr(img);
     free_chain(img, s, a, k);
-    LinkedBlock::new(last).set_next_addr(img, Addr(0));
+    LinkedBlock::new(s.size, last).set_next_addr(img, Addr(0));
 }
 
 // The chain from a on gets `new` blocks for its `old`.
@@ -116,31 +113,34 @@ fn resize(img: &mut [u8], s: SuperBlock, a: Addr, old: u32, new: u32)
 }
 
 // As many bytes of the buffer from i on as block b has room for from data byte `at` on; answers how many.
-fn put_run(img: &mut [u8], b: Addr, at: usize, buf: &[u8], i: usize) -> usize
-    requires { ⌜ at < 508 ⌝ }
+fn put_run(img: &mut [u8], size: u32, b: Addr, at: usize, buf: &[u8], i: usize) -> usize
+    requires { ⌜ BlockSize size ⌝ }
+    requires { ⌜ at < size - 4 ⌝ }
     requires { ⌜ i ≤ length (now buf) ⌝ }
-    requires { ⌜ blockBytes * b .0 + blockBytes ≤ length (now img) ⌝ }
-    ensures { λ r. ⌜ (now (img .exit) ≡ splice (now (img .entry)) (placeAt blockBytes (b .0) at) (take (508 - at) (drop i (now (buf .entry))))) × (r ≡ min (length (now (buf .entry)) - i) (508 - at)) ⌝ }
+    requires { ⌜ size * b .0 + size ≤ length (now img) ⌝ }
+    ensures { λ r. ⌜ (now (img .exit) ≡ splice (now (img .entry)) (placeAt size (b .0) at) (take (size - 4 - at) (drop i (now (buf .entry)))))
+        × (r ≡ min (length (now (buf .entry)) - i) (size - 4 - at)) ⌝ }
 {
-    let run = limits::run_of(at, buf.len() - i);
-    wire::copy(img, dir_entry::place(b, at), buf, i, run);
+    let capacity = (size - LinkedBlock::LINK) as usize;
+    let run = limits::run_of(capacity, at, buf.len() - i);
+    wire::copy(img, dir_entry::place(size, b, at), buf, i, run);
     run
 }
 
 // The buffer into k blocks of the chain from a on, from data byte o of the first on: a run of each block at a time.
 fn pour(img: &mut [u8], s: SuperBlock, a: Addr, o: usize, buf: &[u8], k: u32)
     requires { ⌜ Fit s (now img) ⌝ }
-    requires { ⌜ o < 508 ⌝ }
+    requires { ⌜ o < s .size - 4 ⌝ }
     requires { ⌜ Along (geoOf s) (now img) (a .0) k ⌝ }
-    ensures { λ _. ⌜ now (img .exit) ≡ poured blockBytes (now (img .entry)) (a .0) o (now (buf .entry)) k ⌝ }
+    ensures { λ _. ⌜ now (img .exit) ≡ poured (s .size) (now (img .entry)) (a .0) o (now (buf .entry)) k ⌝ }
 {
     let mut b = a;
     let mut at = o;
     let mut i: usize = 0;
     let mut left = k;
     while 0 < left {
-        let then = LinkedBlock::new(b).next_addr(img);
-        i += put_run(img, b, at, buf, i);
+        let then = LinkedBlock::new(s.size, b).next_addr(img);
+        i += put_run(img, s.size, b, at, buf, i);
         b = then;
         at = 0;
         left -= 1;
@@ -150,13 +150,14 @@ fn pour(img: &mut [u8], s: SuperBlock, a: Addr, o: usize, buf: &[u8], k: u32)
 // The buffer from byte c on of the chain of m blocks from a on.
 fn put_bytes(img: &mut [u8], s: SuperBlock, a: Addr, c: u32, buf: &[u8], m: u32)
     requires { ⌜ Fit s (now img) ⌝ }
-    requires { ⌜ c / 508 ≤ m ⌝ }
+    requires { ⌜ c / (s .size - 4) ≤ m ⌝ }
     requires { ⌜ Along (geoOf s) (now img) (a .0) m ⌝ }
-    ensures { λ _. ⌜ now (img .exit) ≡ spread blockBytes (now (img .entry)) (a .0) c (now (buf .entry)) m ⌝ }
+    ensures { λ _. ⌜ now (img .exit) ≡ spread (s .size) (now (img .entry)) (a .0) c (now (buf .entry)) m ⌝ }
 {
-    let first = c / CAPACITY;
+    let capacity = s.size - LinkedBlock::LINK;
+    let first = c / capacity;
     let b = follow(img, s, a, first);
-    pour(img, s, b, (c % CAPACITY) as usize, buf, m - first);
+    pour(img, s, b, (c % capacity) as usize, buf, m - first);
 }
 
 // C12: the buffer is written at position c of the file of entry e, which stands at `place`.
@@ -175,9 +176,9 @@ pub fn write(
 {
     let a = e.addr;
     let size = c + (buf.len() as u32);
-    let old = limits::blocks_for(e.size);
-    let new = limits::blocks_for(size);
+    let old = limits::blocks_for(s.size, e.size);
+    let new = limits::blocks_for(s.size, size);
     resize(img, s, a, old, new);
     put_bytes(img, s, a, c, buf, new);
-    own_entry::renew_at(img, place, size, time);
+    own_entry::renew_at(img, s.size, place, size, time);
 }

@@ -2,7 +2,8 @@
 //! fits, the name that just fits.
 use crate::call::{Call, Place, Seek};
 use crate::original::{original, Original};
-use crate::sides::{Sides, Verdict};
+use crate::party::LIBRARY;
+use crate::sides::Verdict;
 use crate::tally::Tally;
 use crate::trial::{Found, Start};
 use volumes::{Geometry, Rng, Style, Tree, CAPACITY, HEADER, ROOT};
@@ -36,7 +37,7 @@ struct Judge<'a> {
 
 impl Judge<'_> {
     fn compare(&mut self, start: &Start, calls: Vec<Call>) -> Result<(), Box<Found>> {
-        let mut sides = Sides::new(self.original, start.image.clone(), start.k);
+        let mut sides = start.sides(self.original);
         for (number, call) in calls.iter().enumerate() {
             let verdict = sides.step(call);
             self.tally.count(call, &verdict);
@@ -233,7 +234,7 @@ fn laid(tree: Tree, free: Option<u32>, what: &str) -> Start {
     let style = Style { free, stale: true, ..Style::PLAIN };
     let image = tree.lay(geometry, style, &mut Rng::new(1)).expect("the tree fits").image;
     let free = free.map_or(String::new(), |free| format!(", {free} blocks free in reach"));
-    Start { k: K, image, what: format!("{what}{free}"), raw: false }
+    Start { by: LIBRARY, k: K, image, what: format!("{what}{free}"), raw: false }
 }
 
 fn at(path: &[u8]) -> Place {

@@ -1,7 +1,8 @@
 //! Format, for many block counts.
 use crate::call::{Call, Place};
 use crate::original::{original, KS};
-use crate::sides::{Sides, Verdict};
+use crate::party::LIBRARY;
+use crate::sides::Verdict;
 use crate::tally::Tally;
 use crate::trial::{Found, Start};
 use volumes::{Geometry, Rng, BLOCK_SIZE};
@@ -15,8 +16,8 @@ pub fn compare_formats(seed: u64, tally: &mut Tally) -> Result<(), Box<Found>> {
             let mut image = vec![0; blocks as usize * BLOCK_SIZE];
             rng.fill(&mut image);
             let what = format!("{blocks} blocks of random bytes, K = {k}");
-            let start = Start { k, image, what, raw: true };
-            let mut sides = Sides::new(original.as_mut(), start.image.clone(), k);
+            let start = Start { by: LIBRARY, k, image, what, raw: true };
+            let mut sides = start.sides(original.as_mut());
             let calls = calls();
             for (number, call) in calls.iter().enumerate() {
                 let verdict = sides.step(call);

@@ -4,20 +4,23 @@ use compare::formats::compare_formats;
 use compare::original::{ABSENT, PRESENT};
 use compare::paths::compare_paths;
 use compare::record::record;
-use compare::sequences::compare_sequences;
+use compare::sequences::{compare_old_cards, compare_sequences};
 use compare::tally::Tally;
 use compare::trial::Found;
 use compare::watch;
+use model::Known;
 use std::io::{stdout, BufWriter, Write};
 use std::process::ExitCode;
 use std::time::Instant;
 
-const USAGE: &str = "usage: compare [--calls N] [--seed S], or compare --record > FILE";
+const USAGE: &str = "usage: compare [--old-cards] [--calls N] [--seed S], or compare --record > FILE";
 
 struct Arguments {
     calls: u64,
     seed: u64,
     record: bool,
+    /// Cards of version 1 and nothing else.
+    old_cards: bool,
 }
 
 fn main() -> ExitCode {
@@ -70,6 +73,9 @@ fn run(arguments: &Arguments) -> ExitCode {
 }
 
 fn compare_all(arguments: &Arguments, tally: &mut Tally) -> Result<u64, Box<Found>> {
+    if arguments.old_cards {
+        return compare_old_cards(arguments.seed, arguments.calls, tally);
+    }
     compare_formats(arguments.seed, tally)?;
     let formats = tally.compared();
     println!("format: {formats} calls compared");
@@ -81,17 +87,23 @@ fn compare_all(arguments: &Arguments, tally: &mut Tally) -> Result<u64, Box<Foun
     println!("edges: {} calls compared", edges - paths);
     let sequences = compare_sequences(arguments.seed, arguments.calls, tally)?;
     println!("{sequences} sequences: {} calls compared", tally.compared() - edges);
+    if Known::TODAY.version_1 {
+        let before = tally.compared();
+        compare_old_cards(arguments.seed, arguments.calls / 5, tally)?;
+        println!("cards of version 1: {} calls compared", tally.compared() - before);
+    }
     Ok(sequences)
 }
 
 fn read_arguments() -> Option<Arguments> {
-    let mut arguments = Arguments { calls: 50_000, seed: 1, record: false };
+    let mut arguments = Arguments { calls: 50_000, seed: 1, record: false, old_cards: false };
     let mut given = std::env::args().skip(1);
     while let Some(name) = given.next() {
         match name.as_str() {
             "--calls" => arguments.calls = given.next()?.parse().ok()?,
             "--seed" => arguments.seed = given.next()?.parse().ok()?,
             "--record" => arguments.record = true,
+            "--old-cards" => arguments.old_cards = true,
             _ => return None,
         }
     }

@@ -1,9 +1,11 @@
-//! The proved library's side.
+//! Our side: the proved library, or the model in its place.
 use crate::call::{written_bytes, Answer, Call, FileState, Place, Seek, SLOTS, UNTOUCHED};
+use crate::party::Party;
 use mfs::{Handle, Refusal};
 
 /// An image with its open files, and the directory of each listing that was begun.
 pub struct Ours {
+    pub by: &'static dyn Party,
     pub image: Vec<u8>,
     k: u32,
     work: Vec<u8>,
@@ -12,14 +14,14 @@ pub struct Ours {
 }
 
 impl Ours {
-    pub fn new(image: Vec<u8>, k: u32) -> Ours {
+    pub fn new(by: &'static dyn Party, image: Vec<u8>, k: u32) -> Ours {
         let work = vec![0; mfs::work_len(image.len())];
-        Ours { image, k, work, files: [const { None }; SLOTS], pages: [const { None }; SLOTS] }
+        Ours { by, image, k, work, files: [const { None }; SLOTS], pages: [const { None }; SLOTS] }
     }
 
     /// The whole check.
     pub fn check(&mut self) -> Result<(), Refusal> {
-        mfs::check(&self.image, self.k, &mut self.work)
+        self.by.check(&self.image, self.k, &mut self.work)
     }
 
     /// The handle of a slot.
@@ -44,16 +46,16 @@ impl Ours {
 
     /// Makes a call, whose slot or page must be in use if the call wants it so.
     pub fn make(&mut self, call: &Call) -> Result<Answer, Refusal> {
-        let Ours { image, k, work, files, .. } = self;
+        let Ours { by, image, k, work, files, .. } = self;
         match call {
-            Call::Format => mfs::format(image, *k).map(|()| Answer::Done),
-            Call::Usage => mfs::usage(image, *k).map(|u| Answer::Usage([u.size, u.used, u.free])),
+            Call::Format => by.format(image, *k).map(|()| Answer::Done),
+            Call::Usage => by.usage(image, *k).map(|u| Answer::Usage([u.size, u.used, u.free])),
             Call::Open { slot, place } => {
-                let handle = mfs::open(image, *k, &place.cwd, &place.path)?;
+                let handle = by.open(image, *k, &place.cwd, &place.path)?;
                 Ok(keep(&mut files[*slot], handle))
             }
             Call::Info { place } => {
-                let info = mfs::info(image, *k, &place.cwd, &place.path)?;
+                let info = by.info(image, *k, &place.cwd, &place.path)?;
                 Ok(Answer::Info { kind: kind_number(info.kind), size: info.size, time: info.time, name: info.name })
             }
             Call::List { page, place, from, len } => self.list(*page, place.clone(), *from, *len),
@@ -64,25 +66,25 @@ impl Ours {
             Call::Read { slot, len } => {
                 let handle = opened(files, *slot);
                 let mut buf = vec![UNTOUCHED; *len];
-                let count = mfs::read(image, *k, handle, &mut buf)?;
+                let count = by.read(image, *k, handle, &mut buf)?;
                 Ok(Answer::Read { count, file: state_of(handle), buf })
             }
             Call::Seek { slot, to } => {
                 let handle = opened(files, *slot);
-                mfs::seek(handle, seek_from(*to))?;
+                by.seek(handle, seek_from(*to))?;
                 Ok(Answer::Sought(state_of(handle)))
             }
             Call::CreateFile { slot, place, time } => {
-                let handle = mfs::create_file(image, *k, &place.cwd, &place.path, *time, work)?;
+                let handle = by.create_file(image, *k, &place.cwd, &place.path, *time, work)?;
                 Ok(keep(&mut files[*slot], handle))
             }
             Call::CreateDir { place, time } => {
-                mfs::create_dir(image, *k, &place.cwd, &place.path, *time, work).map(|()| Answer::Done)
+                by.create_dir(image, *k, &place.cwd, &place.path, *time, work).map(|()| Answer::Done)
             }
-            Call::Delete { place, time } => mfs::delete(image, *k, &place.cwd, &place.path, *time, work).map(|()| Answer::Done),
+            Call::Delete { place, time } => by.delete(image, *k, &place.cwd, &place.path, *time, work).map(|()| Answer::Done),
             Call::Write { slot, len, seed, time } => {
                 let handle = opened(files, *slot);
-                let count = mfs::write(image, *k, handle, &written_bytes(*len, *seed), *time, work)?;
+                let count = by.write(image, *k, handle, &written_bytes(*len, *seed), *time, work)?;
                 Ok(Answer::Written { count, file: state_of(handle) })
             }
         }
@@ -90,7 +92,7 @@ impl Ours {
 
     fn list(&mut self, page: usize, place: Place, from: u32, len: usize) -> Result<Answer, Refusal> {
         let mut buf = vec![UNTOUCHED; len];
-        let listed = mfs::list(&self.image, self.k, &place.cwd, &place.path, from, &mut buf)?;
+        let listed = self.by.list(&self.image, self.k, &place.cwd, &place.path, from, &mut buf)?;
         self.pages[page] = Some((place, listed.next));
         Ok(Answer::Listed { bytes: listed.bytes, next: listed.next, buf })
     }

@@ -1,7 +1,8 @@
 //! All short paths over a few letters, from several working directories.
 use crate::call::{Call, Place};
 use crate::original::original;
-use crate::sides::{Sides, Verdict};
+use crate::party::LIBRARY;
+use crate::sides::Verdict;
 use crate::tally::Tally;
 use crate::trial::{Found, Start};
 use volumes::{Geometry, Rng, Style, Tree, Volume, ROOT};
@@ -24,8 +25,9 @@ fn compare_each(
     tally: &mut Tally,
 ) -> Result<(), Box<Found>> {
     let mut original = original(K);
-    let start = Start { k: K, image: volume.image, what: "the volume of short names".to_string(), raw: false };
-    let mut sides = Sides::new(original.as_mut(), start.image.clone(), K);
+    let what = "the volume of short names".to_string();
+    let start = Start { by: LIBRARY, k: K, image: volume.image, what, raw: false };
+    let mut sides = start.sides(original.as_mut());
     let mut changed = Vec::new();
     for cwd in DIRS {
         for path in paths {

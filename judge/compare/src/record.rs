@@ -4,6 +4,7 @@ use crate::call::{Answer, Call, Place, Seek};
 use crate::domain::outside;
 use crate::draw::Drawer;
 use crate::original::original;
+use crate::party::LIBRARY;
 use crate::sides::{Sides, Verdict};
 use std::fmt::Write as _;
 use std::io::{self, Write};
@@ -85,7 +86,7 @@ impl<W: Write> List<'_, W> {
         let mut original = original(k);
         let image = vec![0; blocks * BLOCK_SIZE];
         self.image(&image, k)?;
-        let mut sides = Sides::new(original.as_mut(), image, k);
+        let mut sides = Sides::new(LIBRARY, original.as_mut(), image, k);
         self.call(&mut sides, &Call::Format)?;
         self.random_calls(&mut sides, seed, count)
     }
@@ -95,7 +96,7 @@ impl<W: Write> List<'_, W> {
         let mut original = original(k);
         let image = made_image(k);
         self.image(&image, k)?;
-        let mut sides = Sides::new(original.as_mut(), image, k);
+        let mut sides = Sides::new(LIBRARY, original.as_mut(), image, k);
         self.image_digest(&sides)?;
         self.random_calls(&mut sides, 13, 480)
     }
@@ -105,7 +106,7 @@ impl<W: Write> List<'_, W> {
         let mut original = original(k);
         let image = vec![0; blocks * BLOCK_SIZE];
         self.image(&image, k)?;
-        let mut sides = Sides::new(original.as_mut(), image, k);
+        let mut sides = Sides::new(LIBRARY, original.as_mut(), image, k);
         self.call(&mut sides, &Call::Format)?;
         self.call(&mut sides, &Call::CreateDir { place: at("/old"), time: 1_700_000_000 })?;
         self.call(&mut sides, &Call::CreateFile { slot: 0, place: at("/old/log"), time: 1_700_000_001 })?;

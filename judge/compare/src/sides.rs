@@ -3,6 +3,7 @@ use crate::call::{Answer, Call, Place, SLOTS};
 use crate::domain::{full_path, outside, Before, Reason};
 use crate::original::Original;
 use crate::ours::Ours;
+use crate::party::Party;
 use crate::watch;
 use mfs::{Handle, Refusal};
 use std::cell::OnceCell;
@@ -35,6 +36,8 @@ pub enum Verdict {
 /// How the sides differ.
 #[derive(Debug, PartialEq, Eq)]
 pub struct Difference {
+    /// Who made the call on our side.
+    pub by: &'static str,
     pub ours: String,
     pub original: String,
     /// The first block in which the images differ.
@@ -43,7 +46,7 @@ pub struct Difference {
 
 impl fmt::Display for Difference {
     fn fmt(&self, f: &mut fmt::Formatter<'_>) -> fmt::Result {
-        writeln!(f, "  the library:  {}", self.ours)?;
+        writeln!(f, "  {:<13} {}", format!("the {}:", self.by), self.ours)?;
         writeln!(f, "  the original: {}", self.original)?;
         match self.block {
             Some(block) => write!(f, "  the images differ, first in block {block}"),
@@ -54,9 +57,9 @@ impl fmt::Display for Difference {
 
 impl<'a> Sides<'a> {
     /// Both sides with the same image, whose superblock is in block `k`.
-    pub fn new(original: &'a mut dyn Original, image: Vec<u8>, k: u32) -> Sides<'a> {
+    pub fn new(by: &'static dyn Party, original: &'a mut dyn Original, image: Vec<u8>, k: u32) -> Sides<'a> {
         original.load(&image);
-        Sides { ours: Ours::new(image, k), original, k, entries: OnceCell::new(), perhaps_cut: [false; SLOTS] }
+        Sides { ours: Ours::new(by, image, k), original, k, entries: OnceCell::new(), perhaps_cut: [false; SLOTS] }
     }
 
     /// The volume as it is now, before a call with a handle.
@@ -110,7 +113,7 @@ impl<'a> Sides<'a> {
         let whole = call.slot().is_some_and(|slot| !self.perhaps_cut[slot]);
         if reason == Reason::ResumesElsewhere && whole {
             let original = "its handle resumes elsewhere, though nothing cut the file".to_string();
-            return Verdict::Differs(Difference { ours: "accepted".to_string(), original, block: None });
+            return Verdict::Differs(self.difference("accepted".to_string(), original, None));
         }
         Verdict::LeftOut(reason)
     }
@@ -190,7 +193,7 @@ impl<'a> Sides<'a> {
             return Verdict::LeftOut(Reason::Refusal(number));
         }
         let fault = if block.is_some() { "and changed the image" } else { "without cause" };
-        Verdict::Differs(Difference { ours: format!("refused {number}, {fault}"), original: "not asked".to_string(), block })
+        Verdict::Differs(self.difference(format!("refused {number}, {fault}"), "not asked".to_string(), block))
     }
 
     fn compare(&mut self, call: &Call, ours: Result<Answer, Refusal>) -> Verdict {
@@ -208,11 +211,12 @@ impl<'a> Sides<'a> {
         }
         let (our_state, original_state) = states.unwrap_or((None, None));
         let refusal = number.map_or(String::new(), |number| format!(" {number}"));
-        Verdict::Differs(Difference {
-            ours: format!("{ours:?}{refusal}; then {our_state:?}"),
-            original: format!("{original:?}; then {original_state:?}"),
-            block,
-        })
+        let ours = format!("{ours:?}{refusal}; then {our_state:?}");
+        Verdict::Differs(self.difference(ours, format!("{original:?}; then {original_state:?}"), block))
+    }
+
+    fn difference(&self, ours: String, original: String, block: Option<usize>) -> Difference {
+        Difference { by: self.ours.by.name(), ours, original, block }
     }
 
     /// The original's answer; inside the domain a panic is a difference.

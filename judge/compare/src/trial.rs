@@ -1,11 +1,14 @@
 //! An image and the calls on it: what to report where the sides differ, and the search for the shortest sequence that still does.
 use crate::call::Call;
 use crate::original::Original;
+use crate::party::Party;
 use crate::sides::{Difference, Sides, Verdict};
 use std::fmt;
 
 /// The image that calls begin with.
 pub struct Start {
+    /// Who makes the calls on our side.
+    pub by: &'static dyn Party,
     pub k: u32,
     pub image: Vec<u8>,
     /// What the image is.
@@ -34,6 +37,11 @@ impl fmt::Display for Found {
 }
 
 impl Start {
+    /// Both sides at the beginning.
+    pub fn sides<'a>(&self, original: &'a mut dyn Original) -> Sides<'a> {
+        Sides::new(self.by, original, self.image.clone(), self.k)
+    }
+
     /// Leaves out calls as long as the last one still differs.
     pub fn shorten(&self, made: Vec<Call>, difference: Difference, original: &mut dyn Original) -> Found {
         let mut found = Found { start: self.what.clone(), number: made.len(), calls: made, difference };
@@ -60,7 +68,7 @@ impl Start {
         if self.raw && calls.first() != Some(&Call::Format) {
             return None;
         }
-        let mut sides = Sides::new(original, self.image.clone(), self.k);
+        let mut sides = self.sides(original);
         let (last, before) = calls.split_last()?;
         for call in before {
             if matches!(sides.step(call), Verdict::Differs(_)) {

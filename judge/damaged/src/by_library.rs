@@ -47,6 +47,7 @@ impl Library {
 
     /// Makes the call of a case on the image and the buffer that stand already.
     pub fn run_on_standing(&mut self, case: &Case, guarded: Guarded) -> Answer {
+        assert_eq!(case.code, 0, "the exports take no size code");
         self.cwd.place(&case.cwd, guarded);
         self.path.place(&case.path, guarded);
         self.work.place(&case.work, guarded);

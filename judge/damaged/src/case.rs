@@ -1,5 +1,5 @@
 //! A call with everything it is given, and what it answers.
-use model::{Handle, Listed, Room, SeekFrom, Usage, NAME_LEN};
+use model::{Handle, Known, Listed, Room, SeekFrom, Usage, NAME_LEN};
 use std::fmt;
 
 #[derive(Clone, Copy, Debug, PartialEq, Eq)]
@@ -26,6 +26,8 @@ pub struct Case {
     pub call: Call,
     pub image: Vec<u8>,
     pub k: u32,
+    /// The size code that stands beside K.
+    pub code: u32,
     pub cwd: Vec<u8>,
     pub path: Vec<u8>,
     /// The entry number that a listing starts from.
@@ -77,7 +79,7 @@ pub fn show(answer: &Answer) -> String {
 impl Call {
     /// All calls, by name, and the numbers of the refusals that the rules give each.
     pub const TABLE: [(&'static str, &'static [u32]); 13] = [
-        ("format", &[1, 3]),
+        ("format", if Known::TODAY.code_1 { &[1, 2, 3] } else { &[1, 3] }),
         ("usage", &[1, 2, 3, 17]),
         ("check", &[1, 2, 3, 16, 17]),
         ("open", &[1, 2, 3, 4, 5, 6, 10, 17]),
@@ -142,7 +144,7 @@ impl fmt::Display for Case {
         if let Call::Seek(from) = self.call {
             writeln!(f, "  seek    {from:?}")?;
         } else {
-            writeln!(f, "  K       {}", self.k)?;
+            writeln!(f, "  K       {}, size code {}", self.k, self.code)?;
             write!(f, "  image   {} bytes", self.image.len())?;
             write_runs(f, &self.image)?;
         }

@@ -1,6 +1,6 @@
 //! Edits aimed at the structure of a volume. Most make it a damaged one; some keep all rules but one, and some keep all.
 use crate::paths::{ODD_BYTES, SEQUENCES};
-use volumes::{chain, Geometry, Kind, Rng, Volume, BLOCK_SIZE, CAPACITY, HEADER};
+use volumes::{chain, Form, Geometry, Kind, Rng, Volume, HEADER};
 
 /// Where the parts of a volume stand before the first edit.
 struct Parts {
@@ -44,7 +44,7 @@ impl Parts {
         let mut parts = Parts { geometry: *geometry, dirs, others, free, entries: Vec::new(), ends: Vec::new() };
         for (blocks, _) in &parts.dirs {
             let mut entries = Vec::new();
-            parts.ends.extend(blocks.iter().map(|&addr| push_entries(image, data_of(addr), &mut entries)));
+            parts.ends.extend(blocks.iter().map(|&addr| push_entries(image, *geometry, addr, &mut entries)));
             parts.entries.push(entries);
         }
         parts.entries.retain(|entries| !entries.is_empty());
@@ -53,18 +53,14 @@ impl Parts {
 }
 
 /// Finds the entries of one directory block, and where they end.
-fn push_entries(image: &[u8], data: usize, entries: &mut Vec<usize>) -> usize {
+fn push_entries(image: &[u8], geometry: Geometry, addr: u32, entries: &mut Vec<usize>) -> usize {
+    let data = geometry.place(addr) + 4;
     let mut at = data;
-    while at < data + CAPACITY - HEADER && image[at + 17] != 0 {
+    while at < data + geometry.form().capacity() - HEADER && image[at + 17] != 0 {
         entries.push(at);
         at += HEADER + image[at + 17] as usize;
     }
     at
-}
-
-/// The place of a block's data.
-fn data_of(addr: u32) -> usize {
-    addr as usize * BLOCK_SIZE + 4
 }
 
 impl Editor<'_> {
@@ -82,8 +78,17 @@ impl Editor<'_> {
         }
     }
 
+    fn form(&self) -> Form {
+        self.parts.geometry.form()
+    }
+
+    /// Where a block stands.
+    fn place(&self, addr: u32) -> usize {
+        self.parts.geometry.place(addr)
+    }
+
     fn superblock(&self) -> usize {
-        self.parts.geometry.k() as usize * BLOCK_SIZE
+        self.place(self.parts.geometry.k())
     }
 
     fn number(&self, place: usize) -> u32 {
@@ -93,7 +98,8 @@ impl Editor<'_> {
     fn put(&mut self, place: usize, bytes: &[u8]) -> String {
         self.image[place..place + bytes.len()].copy_from_slice(bytes);
         let hex: String = bytes.iter().map(|byte| format!(" {byte:02x}")).collect();
-        format!("block {} byte {}:{hex}", place / BLOCK_SIZE, place % BLOCK_SIZE)
+        let size = self.form().block_size();
+        format!("block {} byte {}:{hex}", place / size, place % size)
     }
 
     fn put_number(&mut self, place: usize, number: u32) -> String {
@@ -108,10 +114,11 @@ impl Editor<'_> {
                 self.put(place + byte, b"x")
             }
             1 => {
-                let version = *self.rng.pick(&[0, 1, 3, 255]);
+                let other = 3 - self.form().version();
+                let version = *self.rng.pick(&[0, other, 3, 255]);
                 self.put(place + 8, &[version])
             }
-            2 => self.put(place + 9, &[1]),
+            2 => self.put(place + 9, &[1 - self.form().code()]),
             3 | 4 => {
                 let count = self.draw_block_count();
                 self.put_number(place + 10, count)
@@ -131,7 +138,7 @@ impl Editor<'_> {
     /// Counts at the edges of what a volume can have here.
     fn draw_block_count(&mut self) -> u32 {
         let (bitmap, n) = (self.parts.geometry.bitmap(), self.parts.geometry.blocks());
-        let image = (self.image.len() / BLOCK_SIZE) as u32;
+        let image = (self.image.len() / self.form().block_size()) as u32;
         let any = self.rng.below(2 * u64::from(n)) as u32;
         *self.rng.pick(&[0, 1, bitmap, bitmap + 1, bitmap + 2, n - 1, n + 1, image, image + 1, bitmap + 4098, u32::MAX, any])
     }
@@ -145,12 +152,12 @@ impl Editor<'_> {
     /// Changes a bit of the bitmap; half the time the used count follows.
     fn flip_bit(&mut self) -> String {
         let geometry = self.parts.geometry;
-        let bits = (geometry.data() - geometry.bitmap()) as u64 * 4096;
+        let bits = u64::from((geometry.data() - geometry.bitmap()) * self.form().bits());
         let index = match self.rng.below(4) {
             0 => self.draw_block() - geometry.data(),
             1 => geometry.data_blocks().min(bits as u32 - 1),
             2 => self.rng.below(bits) as u32,
-            _ => self.rng.below(u64::from(geometry.data_blocks())) as u32,
+            _ => self.rng.below(u64::from(geometry.with_bit())) as u32,
         };
         let (place, mask) = geometry.bit(geometry.data() + index);
         let byte = self.image[place] ^ mask;
@@ -197,7 +204,7 @@ impl Editor<'_> {
     fn edit_next(&mut self) -> String {
         let addr = self.draw_block();
         let next = if self.rng.one_in(4) { addr } else { self.draw_address() };
-        self.put_number(addr as usize * BLOCK_SIZE, next)
+        self.put_number(self.place(addr), next)
     }
 
     fn edit_entry(&mut self) -> String {
@@ -238,25 +245,27 @@ impl Editor<'_> {
 
     /// The length of an entry's name, as far as it lies in its block.
     fn name_length(&self, at: usize) -> usize {
-        let room = BLOCK_SIZE - at % BLOCK_SIZE - HEADER;
+        let size = self.form().block_size();
+        let room = size - at % size - HEADER;
         room.min(self.image[at + 17] as usize)
     }
 
     fn draw_size(&mut self, at: usize) -> u32 {
-        let size = self.number(at + 5);
-        let near = [size.wrapping_sub(1), size.wrapping_add(1), size.wrapping_sub(508), size.wrapping_add(508)];
+        let (size, block) = (self.number(at + 5), self.form().capacity() as u32);
+        let near = [size.wrapping_sub(1), size.wrapping_add(1), size.wrapping_sub(block), size.wrapping_add(block)];
         match self.rng.below(4) {
             0 => *self.rng.pick(&near),
-            1 => *self.rng.pick(&[0, 1, 508, 509]),
+            1 => *self.rng.pick(&[0, 1, block, block + 1]),
             2 => self.rng.below(20_000) as u32,
             _ => *self.rng.pick(&[i32::MAX as u32, 0x8000_0000, 0x8000_0001, u32::MAX]),
         }
     }
 
-    /// Lengths near the old one, and those with which the entry ends at 507 and at 508.
+    /// Lengths near the old one, and those with which the entry ends at the last place where it may, and right after it.
     fn draw_name_length(&mut self, at: usize) -> u8 {
         let len = self.image[at + 17];
-        let room = 507 - (at % BLOCK_SIZE - 4) as i64 - HEADER as i64;
+        let data = at % self.form().block_size() - 4;
+        let room = self.form().capacity() as i64 - 1 - data as i64 - HEADER as i64;
         let to_end = room.clamp(0, 255) as u8;
         *self.rng.pick(&[0, 1, len.wrapping_sub(1), len.wrapping_add(1), to_end, to_end.saturating_add(1), 255])
     }
@@ -274,7 +283,8 @@ impl Editor<'_> {
     /// A byte between the last entry of a directory block and the block's end.
     fn edit_after_last_entry(&mut self) -> String {
         let end = *self.rng.pick(&self.parts.ends);
-        let last = end / BLOCK_SIZE * BLOCK_SIZE + BLOCK_SIZE - 1;
+        let size = self.form().block_size();
+        let last = end / size * size + size - 1;
         let place = *self.rng.pick(&[end, end + 1, end + 17, end + 18, last]);
         let byte = *self.rng.pick(&[1, 2, 3, 255]);
         self.put(place.min(last), &[byte])
@@ -289,25 +299,31 @@ impl Editor<'_> {
         let own = self.parts.entries.iter().flatten().copied().find(|&at| self.number(at + 1) == chain[0]);
         match own {
             Some(at) if self.image[at] == 1 && self.rng.one_in(2) => {
-                self.put_number(at + 5, (chain.len() * CAPACITY + 1) as u32);
+                self.put_number(at + 5, (chain.len() * self.form().capacity() + 1) as u32);
             }
             _ => {}
         }
-        self.put_number(chain[chain.len() - 1] as usize * BLOCK_SIZE, new)
+        self.put_number(self.place(chain[chain.len() - 1]), new)
     }
 
+    /// A free block; in version 1 often the last one, which may have no bit.
     fn draw_free(&mut self) -> Option<u32> {
         let free = &self.parts.free;
+        if self.form() == Form::V1 && self.rng.one_in(3) {
+            return free.last().copied();
+        }
         (!free.is_empty()).then(|| *self.rng.pick(free))
     }
 
     /// Marks and counts a free block; its old bytes, but not its old next address, often stay.
     fn take(&mut self, addr: u32) {
-        let (place, mask) = self.parts.geometry.bit(addr);
-        self.image[place] |= mask;
-        self.add_to_used(1);
-        let start = addr as usize * BLOCK_SIZE;
-        let zeros = if self.rng.one_in(3) { 4 } else { BLOCK_SIZE };
+        if self.parts.geometry.has_bit(addr) {
+            let (place, mask) = self.parts.geometry.bit(addr);
+            self.image[place] |= mask;
+            self.add_to_used(1);
+        }
+        let start = self.place(addr);
+        let zeros = if self.rng.one_in(3) { 4 } else { self.form().block_size() };
         self.image[start..start + zeros].fill(0);
     }
 
@@ -320,7 +336,7 @@ impl Editor<'_> {
         let (place, mask) = self.parts.geometry.bit(last);
         self.image[place] &= !mask;
         self.add_to_used(-1);
-        self.put_number(before as usize * BLOCK_SIZE, 0)
+        self.put_number(self.place(before), 0)
     }
 
     /// Adds an empty directory, in all but the depth by the rules, most often to the deepest directory.
@@ -328,8 +344,8 @@ impl Editor<'_> {
         let parts = self.parts;
         let deepest = parts.dirs.iter().max_by_key(|(_, depth)| depth).expect("there is a root");
         let (holder, _) = if self.rng.one_in(3) { self.rng.pick(&parts.dirs) } else { deepest };
-        let end = push_entries(self.image, data_of(holder[0]), &mut Vec::new());
-        let has_room = end + HEADER + 1 - data_of(holder[0]) < CAPACITY;
+        let end = push_entries(self.image, parts.geometry, holder[0], &mut Vec::new());
+        let has_room = end + HEADER + 1 - (self.place(holder[0]) + 4) < self.form().capacity();
         let (true, Some(new)) = (has_room, self.draw_free()) else {
             return self.edit_next();
         };

@@ -4,7 +4,7 @@ use crate::handles::draw_handle;
 use crate::paths::draw_path;
 use crate::scene::Scene;
 use model::{Handle, SeekFrom};
-use volumes::{Rng, BLOCK_SIZE};
+use volumes::{Form, Rng};
 
 /// A call on the scene's image, which it takes.
 pub fn draw_case(scene: &mut Scene, rng: &mut Rng) -> Case {
@@ -15,17 +15,18 @@ pub fn draw_case(scene: &mut Scene, rng: &mut Rng) -> Case {
 /// The check, with what it needs: it looks at more than any other call.
 pub fn draw_check(scene: &mut Scene, rng: &mut Rng) -> Case {
     let case = draw_inputs(scene, Call::Check, rng);
-    Case { k: scene.k, work: vec![0xff; case.image.len() / 4096 + 1], ..case }
+    Case { k: scene.k, code: scene.code(), work: vec![0xff; case.image.len() / 4096 + 1], ..case }
 }
 
 fn draw_inputs(scene: &mut Scene, call: Call, rng: &mut Rng) -> Case {
     let (cwd, path) = draw_path(scene, call, rng);
     let handle = draw_handle(scene, rng);
-    let buf = draw_buffer(call, &handle, rng);
+    let buf = draw_buffer(scene.form, call, &handle, rng);
     let work = draw_work(scene, rng);
     let k = draw_k(scene, rng);
+    let code = draw_code(scene, rng);
     let image = std::mem::take(&mut scene.image);
-    Case { call, image, k, cwd, path, from: draw_from(rng), time: draw_time(rng), handle, buf, work }
+    Case { call, image, k, code, cwd, path, from: draw_from(rng), time: draw_time(rng), handle, buf, work }
 }
 
 fn draw_call(scene: &Scene, rng: &mut Rng) -> Call {
@@ -50,7 +51,7 @@ fn draw_call(scene: &Scene, rng: &mut Rng) -> Call {
 
 /// None, one, as many as are free and one more, and any number.
 fn draw_count(scene: &Scene, rng: &mut Rng) -> u32 {
-    let whole = |geometry: &volumes::Geometry| geometry.data() as usize * BLOCK_SIZE <= scene.image.len();
+    let whole = |geometry: &volumes::Geometry| geometry.place(geometry.data()) <= scene.image.len();
     let all = scene.geometry().filter(whole).map_or(0, |geometry| geometry.free_in_reach(&scene.image).count() as u32);
     match rng.below(4) {
         0 => *rng.pick(&[0, 1, u32::MAX]),
@@ -79,7 +80,7 @@ fn draw_k(scene: &Scene, rng: &mut Rng) -> u32 {
     if !rng.one_in(30) {
         return scene.k;
     }
-    let blocks = (scene.image.len() / BLOCK_SIZE) as u32;
+    let blocks = (scene.image.len() / scene.form.block_size()) as u32;
     let any = rng.next_u64() as u32;
     let odd = [
         0,
@@ -93,6 +94,14 @@ fn draw_k(scene: &Scene, rng: &mut Rng) -> u32 {
         any,
     ];
     *rng.pick(&odd)
+}
+
+/// Mostly the card's own.
+fn draw_code(scene: &Scene, rng: &mut Rng) -> u32 {
+    if scene.known.code_1 && rng.one_in(40) {
+        return *rng.pick(&[0, 1, 2, 3, 256, u32::MAX]);
+    }
+    scene.code()
 }
 
 fn draw_from(rng: &mut Rng) -> u32 {
@@ -126,11 +135,12 @@ fn draw_work(scene: &Scene, rng: &mut Rng) -> Vec<u8> {
 }
 
 /// Lengths at the edges of blocks and records, and for a read at the file's end.
-fn draw_buffer(call: Call, handle: &Handle, rng: &mut Rng) -> Vec<u8> {
+fn draw_buffer(form: Form, call: Call, handle: &Handle, rng: &mut Rng) -> Vec<u8> {
     let left = u64::from(handle.size.saturating_sub(handle.position)).min(20_000);
     let len = match rng.below(4) {
         0 if call == Call::Write && !rng.one_in(8) => rng.between(1, 60),
         0 => *rng.pick(&[0, 0, 1, 2, 14, 15, 16, 17, 31, 269, 270, 271]),
+        1 if form == Form::Large => *rng.pick(&[1019, 1020, 1021, 2039, 2040, 2041, 3060, 3061, 4080, 5100]),
         1 => *rng.pick(&[507, 508, 509, 1015, 1016, 1017, 1524, 1525, 2032, 5080]),
         2 => rng.below(3000),
         _ => (left + rng.below(3)).saturating_sub(1),

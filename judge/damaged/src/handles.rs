@@ -3,7 +3,7 @@ use crate::case::Call;
 use crate::paths::{draw_entry, draw_letters};
 use crate::scene::Scene;
 use model::{Handle, NAME_LEN};
-use volumes::{Entry, Rng, CAPACITY};
+use volumes::{Entry, Rng};
 
 /// A handle that calls have answered, that fits an entry, or an odd one.
 pub fn draw_handle(scene: &Scene, rng: &mut Rng) -> Handle {
@@ -36,7 +36,7 @@ fn draw_opened(scene: &Scene, rng: &mut Rng) -> Handle {
             Some(entry) => entry.path.clone(),
             None => draw_letters(rng),
         };
-        if let Ok(handle) = model::open(&scene.image, scene.k, b"/", &path) {
+        if let Ok(handle) = model::open(&scene.image, scene.mount(), b"/", &path) {
             return handle;
         }
     }
@@ -45,10 +45,11 @@ fn draw_opened(scene: &Scene, rng: &mut Rng) -> Handle {
 
 /// Places at the edges of blocks, of the file, and of the longest chain that a walk goes along.
 fn draw_position(scene: &Scene, size: u32, rng: &mut Rng) -> u32 {
-    let longest = scene.geometry().map_or(0, |geometry| geometry.data_blocks()) * CAPACITY as u32;
+    let block = scene.form.capacity() as u32;
+    let longest = scene.geometry().map_or(0, |geometry| geometry.data_blocks()) * block;
     match rng.below(5) {
         0 => size,
-        1 => size.min(*rng.pick(&[0, 1, 507, 508, 509, 1016])),
+        1 => size.min(*rng.pick(&[0, 1, block - 1, block, block + 1, 2 * block])),
         2 => size.min((longest + rng.below(3) as u32).saturating_sub(1)),
         _ => rng.below(u64::from(size) + 1) as u32,
     }

@@ -3,11 +3,11 @@ use crate::by_library::{number_bytes, Library};
 use crate::by_model::{self, Outcome};
 use crate::case::{show, Answer, Call, Case, Values};
 use crate::guard::Guarded;
-use model::BLOCK_SIZE;
+use model::{Known, SIZES};
 
 /// The outcome that both sides agree on, or what is wrong.
 pub fn judge(case: &Case, guarded: Guarded, library: &mut Library) -> Result<Outcome, String> {
-    let expected = by_model::run(case);
+    let expected = by_model::run(case, Known::TODAY);
     let answer = library.run(case, guarded);
     compare(&expected, &answer, case, library)?;
     look_from_outside(&answer, case, library)?;
@@ -59,7 +59,7 @@ fn look_from_outside(answer: &Answer, case: &Case, library: &Library) -> Result<
 
 /// Room reads no byte after the bytes of the bitmap that it names: a guard page stands there.
 fn read_no_further(case: &Case, count: u32, bytes: u32, answer: &Answer, library: &mut Library) -> Result<(), String> {
-    let end = BLOCK_SIZE * (case.k as usize + 2) + bytes as usize;
+    let end = SIZES[case.code as usize].block * (case.k as usize + 2) + bytes as usize;
     let again = library.room_before(case, count, end);
     if again != *answer {
         return Err(format!("the library answers {}, and without the bytes behind {}", show(answer), show(&again)));

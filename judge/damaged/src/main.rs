@@ -5,6 +5,7 @@ mod by_model;
 mod case;
 mod damage;
 mod draw;
+mod forms;
 mod guard;
 mod handles;
 mod judge;
@@ -18,6 +19,7 @@ mod vast;
 use by_library::Library;
 use case::Case;
 use guard::{fail, Guarded};
+use model::Known;
 use std::time::Instant;
 use tally::Tally;
 use volumes::Rng;
@@ -82,7 +84,7 @@ fn options() -> Options {
 /// Draws an image and makes some calls on it, one after the other. Seed and number of a round determine it.
 fn play(options: &Options, round: u64, library: &mut Library, tally: &mut Tally) {
     let mut rng = Rng::new(Rng::new(options.seed).next_u64() ^ Rng::new(round).next_u64());
-    let mut scene = scene::draw(&mut rng);
+    let mut scene = scene::draw(Known::TODAY, &mut rng);
     for number in 0..scene.calls() {
         let case = if number == 0 { draw::draw_check(&mut scene, &mut rng) } else { draw::draw_case(&mut scene, &mut rng) };
         let guarded = if rng.one_in(2) { Guarded::Start } else { Guarded::End };

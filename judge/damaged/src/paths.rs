@@ -93,7 +93,8 @@ fn draw_fitting_path(scene: &Scene, rng: &mut Rng) -> Vec<u8> {
         _ => vec![0],
     };
     let taken = *rng.pick(&fills) + HEADER;
-    let len = rng.pick(&[506, 507, 508usize]).saturating_sub(taken).clamp(1, 255);
+    let end = scene.form.capacity();
+    let len = rng.pick(&[end - 2, end - 1, end]).saturating_sub(taken).clamp(1, 255);
     below(&dir, &vec![rng.between(u64::from(b'a'), u64::from(b'z')) as u8; len])
 }
 
@@ -115,10 +116,10 @@ pub fn draw_entry<'a>(scene: &'a Scene, call: Call, rng: &mut Rng) -> Option<&'a
 
 /// Whether what stands at an entry's path is no longer found, or has another kind, size or, for a file, address.
 fn is_changed(scene: &Scene, entry: &Entry) -> bool {
-    let Ok(info) = model::info(&scene.image, scene.k, b"/", &entry.path) else {
+    let Ok(info) = model::info(&scene.image, scene.mount(), b"/", &entry.path) else {
         return true;
     };
-    let moved = model::open(&scene.image, scene.k, b"/", &entry.path).is_ok_and(|handle| handle.addr != entry.chain[0]);
+    let moved = model::open(&scene.image, scene.mount(), b"/", &entry.path).is_ok_and(|handle| handle.addr != entry.chain[0]);
     info.kind as u8 != entry.kind as u8 || info.size != entry.size || moved
 }
 

@@ -3,8 +3,8 @@ use crate::by_library::Library;
 use crate::case::Case;
 use crate::guard::Guarded;
 use crate::judge::judge;
+use model::SIZES;
 use std::time::{Duration, Instant};
-use volumes::BLOCK_SIZE;
 
 const PATIENCE: Duration = Duration::from_secs(20);
 
@@ -112,10 +112,11 @@ impl Shrinker<'_> {
 
     /// Removes blocks from the end, many at first.
     fn cut_image(&mut self) {
+        let block = SIZES.get(self.smallest.code as usize).map_or(512, |size| size.block);
         let mut run = self.smallest.image.len();
         while run > 0 {
             while self.smallest.image.len() >= run && self.attempt(|changed| changed.image.truncate(changed.image.len() - run)) {}
-            run = run / 2 / BLOCK_SIZE * BLOCK_SIZE;
+            run = run / 2 / block * block;
         }
     }
 }

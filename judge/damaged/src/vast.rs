@@ -2,11 +2,12 @@
 use crate::by_library::{number_bytes, Library};
 use crate::by_model::{change, look};
 use crate::case::{show, Call, Case, Values};
+use crate::forms::forms;
 use crate::guard::{fail, Area, Guarded};
 use crate::judge::same;
 use crate::tally::Tally;
-use model::{Handle, BLOCK_SIZE, MAX_BLOCKS, NAME_LEN};
-use volumes::{Geometry, Rng, Style, Tree, ROOT};
+use model::{Handle, Known, NAME_LEN, SIZES};
+use volumes::{Form, Geometry, Rng, Style, Tree, ROOT};
 
 const K: u32 = 8;
 /// As far as images and buffers are compared: bitmap, root and the first files of the largest volume lie before it.
@@ -15,12 +16,16 @@ const MAX_FILE: usize = i32::MAX as usize;
 
 /// The largest image and one that is a block longer; buffers whose lengths do not fit 31 or 32 bits.
 pub fn compare(library: &mut Library, tally: &mut Tally) {
-    largest_images(library, tally);
+    for &form in forms(Known::TODAY).iter().filter(|&&form| form != Form::V1) {
+        largest_images(form, library, tally);
+    }
     longest_buffers(library, tally);
 }
 
-fn largest_images(library: &mut Library, tally: &mut Tally) {
-    let mut case = Case { path: b"/m1".to_vec(), work: vec![0xff; MAX_BLOCKS / 8], ..empty_case(Call::Usage) };
+fn largest_images(form: Form, library: &mut Library, tally: &mut Tally) {
+    let size = SIZES[usize::from(form.code())];
+    let work = vec![0xff; size.max_blocks / 8];
+    let mut case = Case { path: b"/m1".to_vec(), code: u32::from(form.code()), work, ..empty_case(Call::Usage) };
     let calls = [
         Call::Usage,
         Call::Format,
@@ -34,8 +39,8 @@ fn largest_images(library: &mut Library, tally: &mut Tally) {
         Call::Delete,
         Call::Usage,
     ];
-    for blocks in [MAX_BLOCKS + 1, MAX_BLOCKS] {
-        let mut pair = Pair::new(library, blocks * BLOCK_SIZE, 509);
+    for blocks in [size.max_blocks + 1, size.max_blocks] {
+        let mut pair = Pair::new(library, blocks * size.block, size.capacity + 1);
         for call in calls {
             case.call = call;
             pair.compare(&mut case, tally);
@@ -71,7 +76,7 @@ fn longest_buffers(library: &mut Library, tally: &mut Tally) {
 pub fn empty_case(call: Call) -> Case {
     let handle = Handle { dir: 0, addr: 0, size: 0, position: 0, name: [0; NAME_LEN], len: 0 };
     let none = Vec::new;
-    Case { call, image: none(), k: K, cwd: none(), path: none(), from: 0, time: 1, handle, buf: none(), work: none() }
+    Case { call, image: none(), k: K, code: 0, cwd: none(), path: none(), from: 0, time: 1, handle, buf: none(), work: none() }
 }
 
 /// Image and buffer of both sides.
@@ -98,9 +103,9 @@ impl Pair<'_> {
     fn compare(&mut self, case: &mut Case, tally: &mut Tally) {
         let (mut handle, mut work) = (case.handle.clone(), case.work.clone());
         let expected = if case.call.changes_the_image() {
-            change(case, self.image.bytes_mut(), &mut handle, self.buf.bytes(), &mut work)
+            change(case, Known::TODAY, self.image.bytes_mut(), &mut handle, self.buf.bytes(), &mut work)
         } else {
-            look(case, self.image.bytes(), &mut handle, self.buf.bytes_mut(), &mut work)
+            look(case, Known::TODAY, self.image.bytes(), &mut handle, self.buf.bytes_mut(), &mut work)
         };
         let answer = self.library.run_on_standing(case, Guarded::End);
         if answer != expected {

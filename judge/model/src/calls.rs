@@ -1,8 +1,9 @@
 //! The calls (C1 to C12 and C18), each with its refusals in order (O1 to O12).
-use crate::check::{file_blocks, well_formed, MAX_DEPTH, MAX_FILE};
-use crate::directory::{self, Entry, Kind, Opened, HEADER, LAST_END};
+use crate::check::{well_formed, MAX_DEPTH, MAX_FILE};
+use crate::directory::{self, Entry, Kind, Opened, HEADER};
+use crate::geometry::{Geometry, Mount, WRITTEN};
 use crate::path::{full_path, pieces, split};
-use crate::volume::{self, Geometry, BLOCK_SIZE, CAPACITY};
+use crate::volume;
 use crate::{Answer, Refusal};
 
 /// F13: the longest name.
@@ -90,34 +91,35 @@ fn name_array(name: &[u8]) -> [u8; NAME_LEN] {
     array
 }
 
-/// C1, O2: a superblock, an empty bitmap, and block D taken;
+/// C1, O2: a superblock of version 2, an empty bitmap, and block D taken;
 /// that one whatever the reach (reading 10).
-pub fn format(image: &mut [u8], k: u32) -> Answer<()> {
-    let blocks = volume::image_blocks(image, k)?;
-    let geo = volume::geometry(k, blocks, blocks)?;
+pub fn format(image: &mut [u8], mount: impl Into<Mount>) -> Answer<()> {
+    let mount = mount.into();
+    let blocks = mount.image_blocks(image)?;
+    let geo = Geometry { k: mount.k as usize, version: WRITTEN, code: mount.code as u8, n: blocks }.in_image(blocks)?;
     volume::write_superblock(image, geo, geo.d());
     for address in geo.a()..=geo.d() {
-        volume::block_mut(image, address).fill(0);
+        volume::block_mut(image, geo, address).fill(0);
     }
     volume::take(image, geo, geo.d());
     Ok(())
 }
 
 /// C2, O3. R17: more is used than there is.
-pub fn usage(image: &[u8], k: u32) -> Answer<Usage> {
-    let geo = volume::volume(image, k)?;
+pub fn usage(image: &[u8], mount: impl Into<Mount>) -> Answer<Usage> {
+    let geo = volume::volume(image, mount.into())?;
     let used = volume::used(image, geo);
     if used > geo.n {
         return Err(Refusal::Damaged);
     }
-    let bytes = |blocks: usize| (blocks * BLOCK_SIZE) as u64;
+    let bytes = |blocks: usize| (blocks * geo.size().block) as u64;
     Ok(Usage { size: bytes(geo.n), used: bytes(used), free: bytes(geo.n - used) })
 }
 
 /// C18: the bytes that hold bits in reach, in order, up to the one in which the last clear bit asked for is found. Bits outside
 /// the reach don't count.
-pub fn room(image: &[u8], k: u32, count: u32) -> Answer<Room> {
-    let geo = volume::volume(image, k)?;
+pub fn room(image: &[u8], mount: impl Into<Mount>, count: u32) -> Answer<Room> {
+    let geo = volume::volume(image, mount.into())?;
     let (mut found, mut bytes) = (0, 0);
     while found < count as usize && 8 * bytes < geo.reach() {
         found += (8 * bytes..geo.reach().min(8 * bytes + 8)).filter(|&x| !volume::is_set(image, geo, x)).count();
@@ -127,15 +129,15 @@ pub fn room(image: &[u8], k: u32, count: u32) -> Answer<Room> {
 }
 
 /// C3, O4.
-pub fn check(image: &[u8], k: u32, work: &mut [u8]) -> Answer<()> {
-    checked(image, k, work).map(|_| ())
+pub fn check(image: &[u8], mount: impl Into<Mount>, work: &mut [u8]) -> Answer<()> {
+    checked(image, mount.into(), work).map(|_| ())
 }
 
 /// C3, R16: a bit for each block of the data area. These bytes are zero once the check was reached; all others, and
 /// these too after an earlier refusal, stay.
-fn checked(image: &[u8], k: u32, work: &mut [u8]) -> Answer<Geometry> {
-    let geo = volume::volume(image, k)?;
-    let needed = geo.data_blocks().div_ceil(8);
+fn checked(image: &[u8], mount: Mount, work: &mut [u8]) -> Answer<Geometry> {
+    let geo = volume::volume(image, mount)?;
+    let needed = geo.work_len();
     if work.len() < needed {
         return Err(Refusal::ShortWork);
     }
@@ -158,8 +160,8 @@ fn find(image: &[u8], geo: Geometry, full: &[u8]) -> Answer<(Opened, Entry)> {
 }
 
 /// C4, O5, R6.
-pub fn open(image: &[u8], k: u32, cwd: &[u8], path: &[u8]) -> Answer<Handle> {
-    let geo = volume::volume(image, k)?;
+pub fn open(image: &[u8], mount: impl Into<Mount>, cwd: &[u8], path: &[u8]) -> Answer<Handle> {
+    let geo = volume::volume(image, mount.into())?;
     let full = full_path(cwd, path)?;
     let (holder, entry) = find(image, geo, &full)?;
     if entry.kind != Kind::File {
@@ -172,8 +174,8 @@ pub fn open(image: &[u8], k: u32, cwd: &[u8], path: &[u8]) -> Answer<Handle> {
 }
 
 /// C5, P6.
-pub fn info(image: &[u8], k: u32, cwd: &[u8], path: &[u8]) -> Answer<Info> {
-    let geo = volume::volume(image, k)?;
+pub fn info(image: &[u8], mount: impl Into<Mount>, cwd: &[u8], path: &[u8]) -> Answer<Info> {
+    let geo = volume::volume(image, mount.into())?;
     if path == b"/" {
         let sum = directory::walk(image, geo, geo.d()).sum()?;
         return Ok(Info { kind: Kind::Dir, size: sum as u32, time: 0, name: name_array(b""), len: 0 });
@@ -197,8 +199,8 @@ fn record(entry: &Entry) -> Vec<u8> {
 /// C6: records from entry number i on, while they are together strictly shorter than the
 /// buffer; their bytes, and the next number. P5: the whole path leads to
 /// the directory. O12: the walk ends at the record that does not fit, also where no record could (reading 6).
-pub fn list(image: &[u8], k: u32, cwd: &[u8], path: &[u8], from: u32, buf: &mut [u8]) -> Answer<Listed> {
-    let geo = volume::volume(image, k)?;
+pub fn list(image: &[u8], mount: impl Into<Mount>, cwd: &[u8], path: &[u8], from: u32, buf: &mut [u8]) -> Answer<Listed> {
+    let geo = volume::volume(image, mount.into())?;
     let full = full_path(cwd, path)?;
     let listed = directory::open_directory(image, geo, &pieces(&full))?;
     let walk = directory::walk(image, geo, listed.first);
@@ -223,8 +225,8 @@ pub fn list(image: &[u8], k: u32, cwd: &[u8], path: &[u8], from: u32, buf: &mut 
 /// C7: as many bytes as there are and as fit. O6: the handle's own
 /// fields, its directory, the file's chain; O12: no further than the block of the last byte. R17: the chain
 /// ends too early.
-pub fn read(image: &[u8], k: u32, handle: &mut Handle, buf: &mut [u8]) -> Answer<usize> {
-    let geo = volume::volume(image, k)?;
+pub fn read(image: &[u8], mount: impl Into<Mount>, handle: &mut Handle, buf: &mut [u8]) -> Answer<usize> {
+    let geo = volume::volume(image, mount.into())?;
     handle.own_fields()?;
     handle.entry(image, geo)?;
     let count = buf.len().min((handle.size - handle.position) as usize);
@@ -232,13 +234,14 @@ pub fn read(image: &[u8], k: u32, handle: &mut Handle, buf: &mut [u8]) -> Answer
         return Ok(0);
     }
     let start = handle.position as usize;
-    let last_block = (start + count - 1) / CAPACITY;
+    let capacity = geo.size().capacity;
+    let last_block = (start + count - 1) / capacity;
     let blocks = volume::chain(image, geo, handle.addr as usize).blocks;
     if last_block >= blocks.len() {
         return Err(Refusal::Damaged);
     }
     for (place, byte) in (start..start + count).zip(buf) {
-        *byte = volume::data(image, blocks[place / CAPACITY])[place % CAPACITY];
+        *byte = volume::data(image, geo, blocks[place / capacity])[place % capacity];
     }
     handle.position += count as u32;
     Ok(count)
@@ -261,20 +264,27 @@ pub fn seek(handle: &mut Handle, from: SeekFrom) -> Answer<()> {
 }
 
 /// H5: at position 0.
-pub fn create_file(image: &mut [u8], k: u32, cwd: &[u8], path: &[u8], time: u64, work: &mut [u8]) -> Answer<Handle> {
-    create(image, k, cwd, path, time, work, Kind::File)
+pub fn create_file(
+    image: &mut [u8],
+    mount: impl Into<Mount>,
+    cwd: &[u8],
+    path: &[u8],
+    time: u64,
+    work: &mut [u8],
+) -> Answer<Handle> {
+    create(image, mount.into(), cwd, path, time, work, Kind::File)
 }
 
 /// C10: plain success
-pub fn create_dir(image: &mut [u8], k: u32, cwd: &[u8], path: &[u8], time: u64, work: &mut [u8]) -> Answer<()> {
-    create(image, k, cwd, path, time, work, Kind::Dir).map(|_| ())
+pub fn create_dir(image: &mut [u8], mount: impl Into<Mount>, cwd: &[u8], path: &[u8], time: u64, work: &mut [u8]) -> Answer<()> {
+    create(image, mount.into(), cwd, path, time, work, Kind::Dir).map(|_| ())
 }
 
 /// O8, O9. C9: the entry goes behind those of the
-/// first block where it ends at 507 or before, else into a new block behind the last one; then one block is taken for
-/// what it stands for.
-fn create(image: &mut [u8], k: u32, cwd: &[u8], path: &[u8], time: u64, work: &mut [u8], kind: Kind) -> Answer<Handle> {
-    let geo = checked(image, k, work)?;
+/// first block where it ends by the last place where an entry may end, else into a new block behind the last one; then one
+/// block is taken for what it stands for.
+fn create(image: &mut [u8], mount: Mount, cwd: &[u8], path: &[u8], time: u64, work: &mut [u8], kind: Kind) -> Answer<Handle> {
+    let geo = checked(image, mount, work)?;
     let full = full_path(cwd, path)?;
     let (directory, name) = split(&full);
     if name.is_empty() || name.len() > NAME_LEN {
@@ -288,13 +298,13 @@ fn create(image: &mut [u8], k: u32, cwd: &[u8], path: &[u8], time: u64, work: &m
         return Err(Refusal::Exists);
     }
     let blocks = volume::chain(image, geo, holder.first).blocks;
-    let has_room = |block: &usize| directory::used_of_block(image, *block) + HEADER + name.len() <= LAST_END;
+    let has_room = |block: &usize| directory::used_of_block(image, geo, *block) + HEADER + name.len() <= geo.size().last_end;
     let roomy = blocks.iter().copied().find(has_room);
     volume::room_for(image, geo, if roomy.is_some() { 1 } else { 2 })?;
 
     let block = roomy.unwrap_or_else(|| link_new_block(image, geo, &blocks));
     let address = volume::allocate(image, geo);
-    append_entry(image, block, kind, address, time, name);
+    append_entry(image, geo, block, kind, address, time, name);
     renew_own_entry(image, geo, &holder, time);
     Ok(Handle::opened(&holder, name, address, 0))
 }
@@ -302,14 +312,14 @@ fn create(image: &mut [u8], k: u32, cwd: &[u8], path: &[u8], time: u64, work: &m
 /// C9: a new block behind the last one
 fn link_new_block(image: &mut [u8], geo: Geometry, blocks: &[usize]) -> usize {
     let new = volume::allocate(image, geo);
-    volume::set_next(image, blocks[blocks.len() - 1], new);
+    volume::set_next(image, geo, blocks[blocks.len() - 1], new);
     new
 }
 
 /// F9: the bytes of a new entry, of size 0
-fn append_entry(image: &mut [u8], block: usize, kind: Kind, address: usize, time: u64, name: &[u8]) {
-    let offset = directory::used_of_block(image, block);
-    let bytes = &mut volume::data_mut(image, block)[offset..];
+fn append_entry(image: &mut [u8], geo: Geometry, block: usize, kind: Kind, address: usize, time: u64, name: &[u8]) {
+    let offset = directory::used_of_block(image, geo, block);
+    let bytes = &mut volume::data_mut(image, geo, block)[offset..];
     bytes[0] = kind as u8;
     volume::put_number(&mut bytes[1..5], address as u32);
     volume::put_number(&mut bytes[5..9], 0);
@@ -322,28 +332,28 @@ fn append_entry(image: &mut [u8], block: usize, kind: Kind, address: usize, time
 fn renew_own_entry(image: &mut [u8], geo: Geometry, holder: &Opened, time: u64) {
     if let Some(own) = &holder.own {
         let sum = directory::walk(image, geo, holder.first).entries.iter().map(Entry::len).sum();
-        renew(image, own, sum, time);
+        renew(image, geo, own, sum, time);
     }
 }
 
 /// New size and time in an entry that stays where it is.
-fn renew(image: &mut [u8], entry: &Entry, size: usize, time: u64) {
-    let bytes = &mut volume::data_mut(image, entry.block)[entry.offset..];
+fn renew(image: &mut [u8], geo: Geometry, entry: &Entry, size: usize, time: u64) {
+    let bytes = &mut volume::data_mut(image, geo, entry.block)[entry.offset..];
     volume::put_number(&mut bytes[5..9], size as u32);
     bytes[9..17].copy_from_slice(&time.to_be_bytes());
 }
 
 /// O8, O10. C11: the entry's bytes go; a block without entries that is not the first
 /// is given back, and then the entry's chain. C13.
-pub fn delete(image: &mut [u8], k: u32, cwd: &[u8], path: &[u8], time: u64, work: &mut [u8]) -> Answer<()> {
-    let geo = checked(image, k, work)?;
+pub fn delete(image: &mut [u8], mount: impl Into<Mount>, cwd: &[u8], path: &[u8], time: u64, work: &mut [u8]) -> Answer<()> {
+    let geo = checked(image, mount.into(), work)?;
     let full = full_path(cwd, path)?;
     let (holder, entry) = find(image, geo, &full)?;
     if entry.kind == Kind::Dir && !directory::walk(image, geo, entry.address).entries.is_empty() {
         return Err(Refusal::NotEmpty);
     }
 
-    remove_entry(image, &entry);
+    remove_entry(image, geo, &entry);
     unlink_if_empty(image, geo, holder.first, entry.block);
     for block in volume::chain(image, geo, entry.address).blocks {
         volume::free(image, geo, block);
@@ -353,29 +363,36 @@ pub fn delete(image: &mut [u8], k: u32, cwd: &[u8], path: &[u8], time: u64, work
 }
 
 /// C11: what is behind moves down, and zeros come in at the end
-fn remove_entry(image: &mut [u8], entry: &Entry) {
-    let bytes = volume::data_mut(image, entry.block);
+fn remove_entry(image: &mut [u8], geo: Geometry, entry: &Entry) {
+    let bytes = volume::data_mut(image, geo, entry.block);
     bytes.copy_within(entry.end().., entry.offset);
-    bytes[CAPACITY - entry.len()..].fill(0);
+    bytes[geo.size().capacity - entry.len()..].fill(0);
 }
 
 /// C11: a block without entries, not the first, is linked past and given back
 fn unlink_if_empty(image: &mut [u8], geo: Geometry, first: usize, block: usize) {
-    if block == first || directory::used_of_block(image, block) > 0 {
+    if block == first || directory::used_of_block(image, geo, block) > 0 {
         return;
     }
     let blocks = volume::chain(image, geo, first).blocks;
     let before = blocks.iter().position(|&address| address == block).expect("the entry was found in this chain") - 1;
-    let after = volume::next(image, block);
-    volume::set_next(image, blocks[before], after);
+    let after = volume::next(image, geo, block);
+    volume::set_next(image, geo, blocks[before], after);
     volume::free(image, geo, block);
 }
 
 /// O8, O11. C12: the file is its first c bytes and then the buffer; in a kept
 /// block what is behind the end stays.
 /// H4: its directory is one reached from the root (by its first address, reading 9).
-pub fn write(image: &mut [u8], k: u32, handle: &mut Handle, buf: &[u8], time: u64, work: &mut [u8]) -> Answer<usize> {
-    let geo = checked(image, k, work)?;
+pub fn write(
+    image: &mut [u8],
+    mount: impl Into<Mount>,
+    handle: &mut Handle,
+    buf: &[u8],
+    time: u64,
+    work: &mut [u8],
+) -> Answer<usize> {
+    let geo = checked(image, mount.into(), work)?;
     if buf.is_empty() {
         return Err(Refusal::EmptyWrite);
     }
@@ -389,13 +406,14 @@ pub fn write(image: &mut [u8], k: u32, handle: &mut Handle, buf: &[u8], time: u6
         return Err(Refusal::TooLarge);
     }
     let blocks = volume::chain(image, geo, entry.address).blocks;
-    volume::room_for(image, geo, file_blocks(end).saturating_sub(blocks.len()))?;
+    volume::room_for(image, geo, geo.file_blocks(end).saturating_sub(blocks.len()))?;
 
-    let blocks = fit_chain(image, geo, blocks, file_blocks(end));
+    let blocks = fit_chain(image, geo, blocks, geo.file_blocks(end));
+    let capacity = geo.size().capacity;
     for (place, byte) in (start..end).zip(buf) {
-        volume::data_mut(image, blocks[place / CAPACITY])[place % CAPACITY] = *byte;
+        volume::data_mut(image, geo, blocks[place / capacity])[place % capacity] = *byte;
     }
-    renew(image, &entry, end, time);
+    renew(image, geo, &entry, end, time);
     handle.size = end as u32;
     handle.position = end as u32;
     Ok(buf.len())
@@ -410,6 +428,6 @@ fn fit_chain(image: &mut [u8], geo: Geometry, mut blocks: Vec<usize>, wanted: us
     for past in blocks.split_off(wanted) {
         volume::free(image, geo, past);
     }
-    volume::set_next(image, blocks[wanted - 1], 0);
+    volume::set_next(image, geo, blocks[wanted - 1], 0);
     blocks
 }

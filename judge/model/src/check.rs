@@ -2,8 +2,9 @@
 use std::collections::HashSet;
 
 use crate::directory::{entries_of_block, used_of_block, Entry, Kind};
+use crate::geometry::Geometry;
 use crate::path::is_text;
-use crate::volume::{self, Geometry, CAPACITY};
+use crate::volume;
 
 /// F13: the longest file, the deepest directory.
 pub const MAX_FILE: usize = 2_147_483_647;
@@ -21,16 +22,18 @@ pub fn well_formed(image: &[u8], geo: Geometry) -> bool {
 }
 
 /// W5: the bits are those of the blocks in some chain, and clear past the data; the used count is D plus the
-/// number of set bits.
+/// number of set bits. Every block that is reached has a bit.
 fn bits_are_true(image: &[u8], geo: Geometry, reached: &Reached) -> bool {
     let set = |x: &usize| volume::is_set(image, geo, *x);
-    let data_bits_are_true = (0..geo.data_blocks()).all(|x| set(&x) == reached[x]);
+    let is_true = |x: usize| if geo.has_bit(x) { set(&x) == reached[x] } else { !reached[x] };
+    let data_bits_are_true = (0..geo.data_blocks()).all(is_true);
     let other_bits_are_clear = (geo.data_blocks()..geo.bitmap_bits()).all(|x| !set(&x));
     let set_bits = (0..geo.bitmap_bits()).filter(set).count();
     data_bits_are_true && other_bits_are_clear && volume::used(image, geo) == geo.d() + set_bits
 }
 
-/// W2: the chain lies in the data area and ends, and none of its blocks is in another. Answers the chain's blocks.
+/// W2: the chain lies in the data area and ends, and none of its blocks is in another. Answers the chain's blocks. That each of
+/// them has a bit, which W2 asks too, is seen where the bits are.
 fn claim(image: &[u8], geo: Geometry, first: usize, reached: &mut Reached) -> Option<Vec<usize>> {
     let chain = volume::chain(image, geo, first);
     for &block in &chain.blocks {
@@ -48,13 +51,13 @@ fn directory_sum(image: &[u8], geo: Geometry, first: usize, depth: usize, reache
         return None;
     }
     let blocks = claim(image, geo, first, reached)?;
-    if !blocks.iter().all(|&block| rest_is_zero(image, block)) {
+    if !blocks.iter().all(|&block| rest_is_zero(image, geo, block)) {
         return None;
     }
-    if blocks[1..].iter().any(|&block| entries_of_block(image, block).is_empty()) {
+    if blocks[1..].iter().any(|&block| entries_of_block(image, geo, block).is_empty()) {
         return None;
     }
-    let entries: Vec<Entry> = blocks.iter().flat_map(|&block| entries_of_block(image, block)).collect();
+    let entries: Vec<Entry> = blocks.iter().flat_map(|&block| entries_of_block(image, geo, block)).collect();
     if !names_are_good(&entries) {
         return None;
     }
@@ -70,20 +73,15 @@ fn directory_sum(image: &[u8], geo: Geometry, first: usize, depth: usize, reache
 fn walk_entry(image: &[u8], geo: Geometry, entry: &Entry, depth: usize, reached: &mut Reached) -> Option<()> {
     let is_good = match entry.kind {
         Kind::Dir => directory_sum(image, geo, entry.address, depth + 1, reached)? == entry.size,
-        Kind::File => claim(image, geo, entry.address, reached)?.len() == file_blocks(entry.size) && entry.size <= MAX_FILE,
+        Kind::File => claim(image, geo, entry.address, reached)?.len() == geo.file_blocks(entry.size) && entry.size <= MAX_FILE,
         Kind::Device => claim(image, geo, entry.address, reached).is_some(),
     };
     is_good.then_some(())
 }
 
-/// F12: how many blocks a file has.
-pub fn file_blocks(size: usize) -> usize {
-    size.div_ceil(CAPACITY).max(1)
-}
-
 /// W3: zeros behind a block's last entry.
-fn rest_is_zero(image: &[u8], block: usize) -> bool {
-    volume::data(image, block)[used_of_block(image, block)..].iter().all(|&byte| byte == 0)
+fn rest_is_zero(image: &[u8], geo: Geometry, block: usize) -> bool {
+    volume::data(image, geo, block)[used_of_block(image, geo, block)..].iter().all(|&byte| byte == 0)
 }
 
 /// W3: a name is 1 to 255 bytes of well-formed UTF-8, without `/` and without bytes below 0x20 or 0x7F; names are distinct in a

@@ -1,11 +1,10 @@
 //! Directories: the entries of a block, and walks along a directory's chain.
-use crate::volume::{self, Geometry, CAPACITY};
+use crate::geometry::Geometry;
+use crate::volume;
 use crate::{Answer, Refusal};
 
 /// F9: the bytes of an entry before its name
 pub const HEADER: usize = 18;
-/// F10: an entry ends here at the latest.
-pub const LAST_END: usize = 507;
 
 #[derive(Clone, Copy, Debug, PartialEq, Eq)]
 pub enum Kind {
@@ -24,7 +23,7 @@ pub struct Entry {
     pub name: Vec<u8>,
     /// The directory block that holds it.
     pub block: usize,
-    /// Its offset in the block's 508 bytes.
+    /// Its offset in the block's data bytes.
     pub offset: usize,
 }
 
@@ -40,11 +39,11 @@ impl Entry {
 
 /// F10: the four reasons for which a block's entries
 /// stop.
-fn entry_at(image: &[u8], block: usize, offset: usize) -> Option<Entry> {
-    if offset >= CAPACITY - HEADER {
+fn entry_at(image: &[u8], geo: Geometry, block: usize, offset: usize) -> Option<Entry> {
+    if offset >= geo.size().stop {
         return None;
     }
-    let bytes = &volume::data(image, block)[offset..];
+    let bytes = &volume::data(image, geo, block)[offset..];
     let kind = match bytes[0] {
         0 => Kind::Dir,
         1 => Kind::File,
@@ -52,7 +51,7 @@ fn entry_at(image: &[u8], block: usize, offset: usize) -> Option<Entry> {
         _ => return None,
     };
     let length = bytes[17] as usize;
-    if length == 0 || offset + HEADER + length > LAST_END {
+    if length == 0 || offset + HEADER + length > geo.size().last_end {
         return None;
     }
     Some(Entry {
@@ -67,17 +66,17 @@ fn entry_at(image: &[u8], block: usize, offset: usize) -> Option<Entry> {
 }
 
 /// All entries of a block, those with address 0 among them.
-pub fn entries_of_block(image: &[u8], block: usize) -> Vec<Entry> {
+pub fn entries_of_block(image: &[u8], geo: Geometry, block: usize) -> Vec<Entry> {
     let mut found: Vec<Entry> = Vec::new();
-    while let Some(entry) = entry_at(image, block, found.last().map_or(0, Entry::end)) {
+    while let Some(entry) = entry_at(image, geo, block, found.last().map_or(0, Entry::end)) {
         found.push(entry);
     }
     found
 }
 
 /// The bytes of a block that its entries take.
-pub fn used_of_block(image: &[u8], block: usize) -> usize {
-    entries_of_block(image, block).last().map_or(0, Entry::end)
+pub fn used_of_block(image: &[u8], geo: Geometry, block: usize) -> usize {
+    entries_of_block(image, geo, block).last().map_or(0, Entry::end)
 }
 
 /// The entries that a walk along a directory meets.
@@ -90,7 +89,7 @@ pub struct Walk {
 /// F11: all entries of the chain but those with address 0.
 pub fn walk(image: &[u8], geo: Geometry, first: usize) -> Walk {
     let chain = volume::chain(image, geo, first);
-    let all = chain.blocks.iter().flat_map(|&block| entries_of_block(image, block));
+    let all = chain.blocks.iter().flat_map(|&block| entries_of_block(image, geo, block));
     Walk { entries: all.filter(|entry| entry.address != 0).collect(), whole: chain.whole }
 }
 

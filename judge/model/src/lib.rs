@@ -5,6 +5,7 @@
 mod calls;
 mod check;
 mod directory;
+mod geometry;
 mod path;
 #[cfg(test)]
 mod tests;
@@ -13,7 +14,7 @@ mod volume;
 pub use calls::{check, create_dir, create_file, delete, format, info, list, open, read, room, seek, usage, write};
 pub use calls::{Handle, Info, Listed, Room, SeekFrom, Usage, NAME_LEN};
 pub use directory::Kind;
-pub use volume::{Geometry, BLOCK_SIZE, MAX_BLOCKS};
+pub use geometry::{Geometry, Known, Mount, Size, SIZES};
 
 /// R1 to R17.
 #[derive(Clone, Copy, Debug, PartialEq, Eq, Hash, PartialOrd, Ord)]
@@ -64,3 +65,8 @@ impl Refusal {
 
 /// What a call answers: its values, or the refusal.
 pub type Answer<T> = Result<T, Refusal>;
+
+/// R1 to R3, and what the superblock says of the volume's places.
+pub fn geometry(image: &[u8], mount: impl Into<Mount>) -> Answer<Geometry> {
+    volume::volume(image, mount.into())
+}

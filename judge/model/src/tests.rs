@@ -1,9 +1,9 @@
 //! The examples E1 to E12, the volume of `lsmfs`'s stored case, each clause of W1 to W5, and the life of a file.
-use crate::check::file_blocks;
 use crate::path::{is_text, pieces, split};
 use crate::*;
 
 const K: u32 = 8;
+const BLOCK_SIZE: usize = 512;
 
 fn formatted(blocks: usize) -> Vec<u8> {
     let mut image = vec![0; blocks * BLOCK_SIZE];
@@ -43,7 +43,7 @@ fn handle(size: u32, position: u32) -> Handle {
 fn geometry_of(blocks: usize) -> Answer<(usize, usize)> {
     let mut image = vec![0; blocks * BLOCK_SIZE];
     format(&mut image, K)?;
-    let geo = volume::volume(&image, K)?;
+    let geo = geometry(&image, K)?;
     Ok((geo.d(), geo.reach()))
 }
 
@@ -58,13 +58,14 @@ fn examples_1_to_5_the_data_area_and_the_reach() {
 
 #[test]
 fn example_6_the_bit_of_an_address() {
-    let geo = Geometry { k: 8, n: 128 };
+    let geo = Geometry { k: 8, version: 2, code: 0, n: 128 };
     assert_eq!(geo.bit(geo.index(24)), (10 * 512 + 1, 0x20));
 }
 
 #[test]
 fn example_7_the_blocks_of_a_file() {
-    assert_eq!([0, 508, 509, 1016].map(file_blocks), [1, 1, 2, 2]);
+    let geo = Geometry { k: 8, version: 2, code: 0, n: 128 };
+    assert_eq!([0, 508, 509, 1016].map(|size| geo.file_blocks(size)), [1, 1, 2, 2]);
 }
 
 #[test]
@@ -100,9 +101,9 @@ fn example_12_where_an_entry_goes() {
         let mut image = formatted(4107);
         create_file(&mut image, K, b"/", &[b'a'; 236], 1, &mut work()).unwrap();
         create_file(&mut image, K, b"/", &vec![b'b'; second], 2, &mut work()).unwrap();
-        let geo = volume::volume(&image, K).unwrap();
+        let geo = geometry(&image, K).unwrap();
         let blocks = volume::chain(&image, geo, geo.d()).blocks;
-        (directory::used_of_block(&image, blocks[0]), blocks.len())
+        (directory::used_of_block(&image, geo, blocks[0]), blocks.len())
     };
     assert_eq!(root_blocks(235), (507, 1));
     assert_eq!(root_blocks(236), (254, 2));
@@ -228,7 +229,7 @@ fn a_file_is_written_read_cut_and_deleted() {
     assert_eq!(info(&image, K, b"/", b"/d").map(|dir| (dir.size, dir.time)), Ok((19, 2)));
 
     assert_eq!(delete(&mut image, K, b"/d/", b"f", 1, &mut work()), Ok(()));
-    let data = Geometry { k: 8, n: 4107 }.d() * BLOCK_SIZE;
+    let data = Geometry { k: 8, version: 2, code: 0, n: 4107 }.d() * BLOCK_SIZE;
     assert_eq!(image[..data + 2 * BLOCK_SIZE], before[..data + 2 * BLOCK_SIZE]);
     assert_eq!(check(&image, K, &mut work()), Ok(()));
 }
@@ -263,7 +264,7 @@ fn room_is_the_full_count_by_the_fewest_bytes() {
     for blocks in [128, 4096, 4107, 8192] {
         let mut image = vec![0; blocks * 512];
         format(&mut image, K).unwrap();
-        let geo = volume::volume(&image, K).unwrap();
+        let geo = geometry(&image, K).unwrap();
         let bitmap = 512 * geo.a()..512 * geo.d();
         for byte in &mut image[bitmap] {
             seed = seed.wrapping_mul(1_664_525).wrapping_add(1_013_904_223);

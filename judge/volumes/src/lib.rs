@@ -3,6 +3,7 @@
 //! [`random`] makes a volume from a [`Wish`] and a seeded [`Rng`]: a tree of directories, files and devices with names, sizes and
 //! chains at random. [`Tree`] and its `lay` make one with the entries that the caller wants. Both give a [`Volume`]: the image, where
 //! its parts lie, and the list of its entries, so that calls can be aimed at them. [`entries`] reads that list off any well-formed image.
+//! They have version 2 and 512-byte blocks where no [`Form`] is given; [`blank`] and `move_block` make cards that break a rule.
 //!
 //! ```
 //! use volumes::{entries, random, Geometry, Rng, Size, Style, Tree, Wish, ROOT};
@@ -18,14 +19,16 @@
 //! let small = tree.lay(Geometry::new(8, 128).unwrap(), Style::PLAIN, &mut Rng::new(1)).unwrap();
 //! assert_eq!(small.entries[1].path, b"/old/m1");
 //! ```
+mod cards;
 mod geometry;
 mod random;
 mod rng;
 mod tree;
 mod walk;
 
-pub use geometry::{Geometry, BLOCK_SIZE, CAPACITY};
-pub use random::{draw_accented, draw_name, random, Size, Wish};
+pub use cards::blank;
+pub use geometry::{Form, Geometry, BLOCK_SIZE, CAPACITY};
+pub use random::{draw_accented, draw_name, random, random_of, Size, Wish};
 pub use rng::Rng;
 pub use tree::{NodeId, Order, Style, Tree, Volume, ROOT};
-pub use walk::{chain, entries, fill_of, names_by_block, Entry, Kind, HEADER};
+pub use walk::{chain, entries, entries_of, fill_of, names_by_block, Entry, Kind, HEADER};

@@ -1,5 +1,5 @@
 //! Volumes at random.
-use crate::geometry::Geometry;
+use crate::geometry::{Form, Geometry};
 use crate::rng::Rng;
 use crate::tree::{NodeId, Order, Style, Tree, Volume, ROOT};
 
@@ -27,8 +27,10 @@ pub struct Wish {
     pub free: Option<u32>,
 }
 
-/// Sizes at the edges of a block, and some others.
+/// Sizes at the edges of a block of 512 bytes, and some others.
 const SIZES: [u32; 18] = [0, 1, 2, 490, 507, 508, 509, 600, 1000, 1015, 1016, 1017, 1523, 1524, 1525, 2032, 3000, 9000];
+/// The same for a block of 1,024 bytes.
+const LARGE_SIZES: [u32; 14] = [0, 1, 2, 508, 1002, 1019, 1020, 1021, 2039, 2040, 2041, 3060, 3061, 9000];
 /// Lengths of long names: two of 235 and 236 bytes fill a block to its end, and to one byte too many.
 const LONG: [usize; 9] = [60, 100, 144, 145, 200, 235, 236, 237, 255];
 /// Letters, and the characters at the edges of the table of UTF-8; U+0080 to U+009F are allowed.
@@ -56,9 +58,14 @@ const CHARACTERS: [char; 20] = [
 ];
 const SHORT: [&str; 14] = ["a", "b", ".", "..", "ab", "ba", "a.", "..b", "aa", "bb", "a b", "~", " ", "m1"];
 
-/// Makes a volume; what a wish asks is left out where it doesn't fit.
+/// Makes a volume of version 2 and size code 0; what a wish asks is left out where it doesn't fit.
 pub fn random(wish: Wish, rng: &mut Rng) -> Volume {
-    let geometry = draw_geometry(wish.k, wish.size, rng);
+    random_of(Form::V2, wish, rng)
+}
+
+/// Makes a volume of that form.
+pub fn random_of(form: Form, wish: Wish, rng: &mut Rng) -> Volume {
+    let geometry = draw_geometry(form, wish.k, wish.size, rng);
     let mut entries = u64::from(wish.entries);
     let mut free = wish.free.filter(|&free| free < geometry.reach());
     let mut depth = wish.depth;
@@ -70,7 +77,7 @@ pub fn random(wish: Wish, rng: &mut Rng) -> Volume {
             tail: if rng.one_in(3) { rng.between(1, 9) as u32 } else { 0 },
             free,
         };
-        let tree = grow(entries, depth, rng);
+        let tree = grow(form, entries, depth, rng);
         if let Some(volume) = tree.lay(geometry, style, rng) {
             return volume;
         }
@@ -82,12 +89,45 @@ pub fn random(wish: Wish, rng: &mut Rng) -> Volume {
     }
 }
 
-fn draw_geometry(k: u32, size: Size, rng: &mut Rng) -> Geometry {
+fn draw_geometry(form: Form, k: u32, size: Size, rng: &mut Rng) -> Geometry {
     loop {
-        if let Some(geometry) = Geometry::new(k, draw_blocks(k, size, rng)) {
+        let blocks = match form {
+            Form::V1 => draw_old_blocks(k, size, rng),
+            Form::V2 => draw_blocks(k, size, rng),
+            Form::Large => draw_large_blocks(k, size, rng),
+        };
+        if let Some(geometry) = Geometry::of_form(form, k, blocks) {
             return geometry;
         }
     }
+}
+
+/// A bitmap block whose bits just do for the data area, or leave a block of it without one, a few, or nearly as many as they are.
+fn draw_old_blocks(k: u32, size: Size, rng: &mut Rng) -> u32 {
+    let bitmap_blocks = match size {
+        Size::Small | Size::Usual => 1,
+        Size::Large => rng.between(2, 5),
+    };
+    let after = match rng.below(4) {
+        0 => rng.below(3),
+        1 => rng.between(4094, 4096),
+        _ if size == Size::Small => rng.below(40),
+        _ => rng.below(4097),
+    };
+    k + 2 + (4097 * bitmap_blocks + after) as u32
+}
+
+/// As for blocks of 512 bytes, at the edges of the larger bitmap block.
+fn draw_large_blocks(k: u32, size: Size, rng: &mut Rng) -> u32 {
+    let first_bitmap = u64::from(k) + 2;
+    let blocks = match size {
+        Size::Small if rng.one_in(3) => first_bitmap + rng.between(2, 6),
+        Size::Small => first_bitmap + rng.between(2, 600),
+        Size::Usual if rng.one_in(4) => first_bitmap + rng.between(8192, 8196),
+        Size::Usual => rng.between(8192, 8400).max(first_bitmap + 2),
+        Size::Large => rng.between(2, 3) * 8192 + rng.below(24) - 12,
+    };
+    blocks as u32
 }
 
 fn draw_blocks(k: u32, size: Size, rng: &mut Rng) -> u32 {
@@ -106,7 +146,7 @@ fn draw_blocks(k: u32, size: Size, rng: &mut Rng) -> u32 {
     blocks as u32
 }
 
-fn grow(entries: u64, depth: u32, rng: &mut Rng) -> Tree {
+fn grow(form: Form, entries: u64, depth: u32, rng: &mut Rng) -> Tree {
     let mut tree = Tree::new();
     let mut dirs = vec![ROOT];
     for _ in 0..depth.min(16) {
@@ -115,7 +155,7 @@ fn grow(entries: u64, depth: u32, rng: &mut Rng) -> Tree {
         dirs.push(tree.dir(deepest, shortened(&name), rng.next_u64()));
     }
     for _ in 0..entries {
-        add_entry(&mut tree, &mut dirs, rng);
+        add_entry(form, &mut tree, &mut dirs, rng);
     }
     tree
 }
@@ -129,7 +169,7 @@ fn shortened(name: &[u8]) -> &[u8] {
     &name[..end]
 }
 
-fn add_entry(tree: &mut Tree, dirs: &mut Vec<NodeId>, rng: &mut Rng) {
+fn add_entry(form: Form, tree: &mut Tree, dirs: &mut Vec<NodeId>, rng: &mut Rng) {
     // The root and the first directories get the most, so that some have several blocks.
     let last = rng.below(dirs.len() as u64);
     let parent = dirs[rng.below(last + 1) as usize];
@@ -143,7 +183,8 @@ fn add_entry(tree: &mut Tree, dirs: &mut Vec<NodeId>, rng: &mut Rng) {
             tree.device(parent, &name, time, size, blocks);
         }
         _ => {
-            let size = if rng.one_in(4) { rng.below(2600) as u32 } else { *rng.pick(&SIZES) };
+            let edges = if form == Form::Large { &LARGE_SIZES[..] } else { &SIZES };
+            let size = if rng.one_in(4) { rng.below(2600) as u32 } else { *rng.pick(edges) };
             tree.file(parent, &name, time, size);
         }
     }

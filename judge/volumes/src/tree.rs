@@ -1,5 +1,5 @@
 //! A tree of directories, files and devices, and how it is laid into a volume.
-use crate::geometry::{Geometry, BLOCK_SIZE, CAPACITY};
+use crate::geometry::Geometry;
 use crate::rng::Rng;
 use crate::walk::{Entry, Kind, HEADER};
 use std::collections::HashSet;
@@ -20,7 +20,7 @@ struct Node {
     kind: Kind,
     size: u32,
     time: u64,
-    /// Blocks of a file or device; a directory's follow from its entries.
+    /// Blocks of a device, and of a file once it is laid; a directory's follow from its entries.
     blocks: u32,
     children: Vec<NodeId>,
     depth: u32,
@@ -101,7 +101,7 @@ impl Tree {
 
     /// Adds a file.
     pub fn file(&mut self, parent: NodeId, name: &[u8], time: u64, size: u32) -> NodeId {
-        self.add(parent, name, Kind::File, size, time, file_blocks(size))
+        self.add(parent, name, Kind::File, size, time, 0)
     }
 
     /// Adds a device, whose size says nothing of its chain.
@@ -127,12 +127,15 @@ impl Tree {
     /// Lays the tree into a new image; none where it doesn't fit.
     pub fn lay(mut self, geometry: Geometry, style: Style, rng: &mut Rng) -> Option<Volume> {
         let rest = style.free.map(|_| self.add_rest(rng));
-        let packed: Vec<Vec<Vec<NodeId>>> = self.nodes.iter().map(|node| self.pack(node, style.loose, rng)).collect();
+        for node in self.nodes.iter_mut().filter(|node| node.kind == Kind::File) {
+            node.blocks = file_blocks(node.size, geometry);
+        }
+        let packed: Vec<Vec<Vec<NodeId>>> = self.nodes.iter().map(|node| self.pack(node, geometry, style.loose, rng)).collect();
         let mut chains = self.take_blocks(geometry, style.order, &packed, rng)?;
         if let (Some(rest), Some(free)) = (rest, style.free) {
             self.grow_rest(geometry, rest, free, &mut chains, rng)?;
         }
-        let mut image = vec![0; (geometry.blocks() + style.tail) as usize * BLOCK_SIZE];
+        let mut image = vec![0; geometry.place(geometry.blocks() + style.tail)];
         if style.stale {
             rng.fill(&mut image);
         }
@@ -168,15 +171,16 @@ impl Tree {
         let node = &mut self.nodes[rest.0];
         node.blocks = chain.len() as u32;
         if node.kind == Kind::File {
-            let before_last = (node.blocks as u64 - 1) * CAPACITY as u64;
-            let size = before_last + rng.between(1, CAPACITY as u64);
+            let capacity = geometry.form().capacity() as u64;
+            let before_last = (node.blocks as u64 - 1) * capacity;
+            let size = before_last + rng.between(1, capacity);
             node.size = u32::try_from(size).ok().filter(|&size| size <= FILE_LIMIT)?;
         }
         Some(())
     }
 
     /// The entries of a directory, block by block.
-    fn pack(&self, node: &Node, loose: bool, rng: &mut Rng) -> Vec<Vec<NodeId>> {
+    fn pack(&self, node: &Node, geometry: Geometry, loose: bool, rng: &mut Rng) -> Vec<Vec<NodeId>> {
         if node.kind != Kind::Dir {
             return Vec::new();
         }
@@ -188,7 +192,7 @@ impl Tree {
         for &child in &node.children {
             let len = HEADER + self.nodes[child.0].name.len();
             let ends_early = loose && used > 0 && rng.one_in(8);
-            if used + len >= CAPACITY || ends_early {
+            if used + len >= geometry.form().capacity() || ends_early {
                 blocks.push(Vec::new());
                 used = 0;
             }
@@ -199,7 +203,7 @@ impl Tree {
     }
 
     fn take_blocks(&self, geometry: Geometry, order: Order, packed: &[Vec<Vec<NodeId>>], rng: &mut Rng) -> Option<Vec<Vec<u32>>> {
-        let mut free: Vec<u32> = (geometry.data() + 1..geometry.blocks()).collect();
+        let mut free: Vec<u32> = (geometry.data() + 1..geometry.data() + geometry.with_bit()).collect();
         if order == Order::Scattered {
             rng.shuffle(&mut free);
         }
@@ -243,8 +247,8 @@ impl Tree {
 }
 
 /// Blocks of a file of that size.
-fn file_blocks(size: u32) -> u32 {
-    size.div_ceil(CAPACITY as u32).max(1)
+fn file_blocks(size: u32, geometry: Geometry) -> u32 {
+    size.div_ceil(geometry.form().capacity() as u32).max(1)
 }
 
 /// Writes a tree whose blocks are known.
@@ -276,7 +280,8 @@ impl Writer<'_> {
         let super_block = self.block(geometry.k());
         super_block.fill(0);
         super_block[..8].copy_from_slice(b"MOROS FS");
-        super_block[8] = 2;
+        super_block[8] = geometry.form().version();
+        super_block[9] = geometry.form().code();
         super_block[10..14].copy_from_slice(&geometry.blocks().to_be_bytes());
         super_block[14..18].copy_from_slice(&(used as u32).to_be_bytes());
         for addr in geometry.bitmap()..geometry.data() {
@@ -305,8 +310,8 @@ impl Writer<'_> {
     }
 
     /// The bytes of a directory's block after the next address.
-    fn dir_data(&self, dir: NodeId, block: usize) -> [u8; CAPACITY] {
-        let mut data = [0; CAPACITY];
+    fn dir_data(&self, dir: NodeId, block: usize) -> Vec<u8> {
+        let mut data = vec![0; self.geometry.form().capacity()];
         let mut at = 0;
         for &id in &self.packed[dir.0][block] {
             let node = &self.tree.nodes[id.0];
@@ -325,14 +330,15 @@ impl Writer<'_> {
     /// The bytes of a file or device: random, or the entries of the directory that holds it, as if it were that directory.
     fn write_contents(&mut self, id: NodeId, stale: bool, rng: &mut Rng) {
         let node = &self.tree.nodes[id.0];
+        let capacity = self.geometry.form().capacity();
         let looks_like = rng.one_in(3).then(|| self.dir_data(node.parent, 0));
         let mut left = match node.kind {
             Kind::File => node.size as usize,
-            _ => node.blocks as usize * CAPACITY,
+            _ => node.blocks as usize * capacity,
         };
         for &addr in &self.chains[id.0] {
-            let (contents, after) = self.block(addr)[4..].split_at_mut(left.min(CAPACITY));
-            match looks_like {
+            let (contents, after) = self.block(addr)[4..].split_at_mut(left.min(capacity));
+            match &looks_like {
                 Some(data) => contents.copy_from_slice(&data[..contents.len()]),
                 None => rng.fill(contents),
             }
@@ -344,7 +350,7 @@ impl Writer<'_> {
     }
 
     fn block(&mut self, addr: u32) -> &mut [u8] {
-        let start = addr as usize * BLOCK_SIZE;
-        &mut self.image[start..start + BLOCK_SIZE]
+        let start = self.geometry.place(addr);
+        &mut self.image[start..start + self.geometry.form().block_size()]
     }
 }

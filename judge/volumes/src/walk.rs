@@ -1,5 +1,5 @@
 //! A plain reader of well-formed volumes.
-use crate::geometry::{be32, Geometry, BLOCK_SIZE, CAPACITY};
+use crate::geometry::{be32, Geometry};
 
 /// Bytes of a directory entry before its name.
 pub const HEADER: usize = 18;
@@ -50,10 +50,14 @@ impl Entry {
     }
 }
 
-/// All entries of a well-formed volume: a directory's own entry stands before those in it. Of a volume that is not well formed some
-/// reading is given.
+/// All entries of a well-formed volume of 512-byte blocks: a directory's own entry stands before those in it. Of a volume that
+/// is not well formed some reading is given.
 pub fn entries(image: &[u8], k: u32) -> Vec<Entry> {
-    let geometry = Geometry::of(image, k).expect("the superblock is not that of a volume");
+    entries_of(image, Geometry::of(image, k).expect("the superblock is not that of a volume"))
+}
+
+/// The same of a volume whose places are known.
+pub fn entries_of(image: &[u8], geometry: Geometry) -> Vec<Entry> {
     let mut found = Vec::new();
     read_dir(image, geometry, geometry.data(), b"", 1, &mut found);
     found
@@ -66,14 +70,14 @@ pub fn chain(image: &[u8], geometry: Geometry, first: u32) -> Vec<u32> {
     let mut addr = first;
     while area.contains(&addr) && blocks.len() < area.len() {
         blocks.push(addr);
-        addr = be32(block(image, addr));
+        addr = be32(block(image, geometry, addr));
     }
     blocks
 }
 
 /// The names in a directory, block by block.
 pub fn names_by_block(image: &[u8], geometry: Geometry, dir: u32) -> Vec<Vec<&[u8]>> {
-    let names = |addr| slots(&block(image, addr)[4..]).iter().map(|slot| slot.name).collect();
+    let names = |addr| slots(&block(image, geometry, addr)[4..]).iter().map(|slot| slot.name).collect();
     chain(image, geometry, dir).into_iter().map(names).collect()
 }
 
@@ -85,7 +89,7 @@ pub fn fill_of(image: &[u8], geometry: Geometry, dir: u32) -> Vec<usize> {
 
 fn read_dir(image: &[u8], geometry: Geometry, dir: u32, path: &[u8], depth: u32, found: &mut Vec<Entry>) {
     for addr in chain(image, geometry, dir) {
-        for slot in slots(&block(image, addr)[4..]) {
+        for slot in slots(&block(image, geometry, addr)[4..]) {
             let entry = Entry {
                 path: [path, b"/", slot.name].concat(),
                 kind: slot.kind,
@@ -106,9 +110,10 @@ fn read_dir(image: &[u8], geometry: Geometry, dir: u32, path: &[u8], depth: u32,
 
 /// The entries in the data of one directory block.
 pub(crate) fn slots(data: &[u8]) -> Vec<Slot<'_>> {
+    let capacity = data.len();
     let mut found = Vec::new();
     let mut offset = 0;
-    while offset < CAPACITY - HEADER {
+    while offset < capacity - HEADER {
         let kind = match data[offset] {
             0 => Kind::Dir,
             1 => Kind::File,
@@ -117,7 +122,7 @@ pub(crate) fn slots(data: &[u8]) -> Vec<Slot<'_>> {
         };
         let len = data[offset + 17] as usize;
         let end = offset + HEADER + len;
-        if len == 0 || end >= CAPACITY {
+        if len == 0 || end >= capacity {
             break;
         }
         found.push(Slot {
@@ -132,7 +137,7 @@ pub(crate) fn slots(data: &[u8]) -> Vec<Slot<'_>> {
     found
 }
 
-fn block(image: &[u8], addr: u32) -> &[u8] {
-    let start = addr as usize * BLOCK_SIZE;
-    &image[start..start + BLOCK_SIZE]
+fn block(image: &[u8], geometry: Geometry, addr: u32) -> &[u8] {
+    let start = geometry.place(addr);
+    &image[start..start + geometry.form().block_size()]
 }

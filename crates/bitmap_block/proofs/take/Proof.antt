@@ -1,4 +1,4 @@
-use Rattle.bitmap_block.proofs.Answers.{half-fit, half-used}
+use Rattle.bitmap_block.proofs.Answers.{zero-inside, zero-fit, half-fit, half-used}
 use Rattle.bitmap_block.specs.Bitmap.{taken}
 use borrow.Author.Needs.{needs}
 use Rattle.bitmap_block.proofs.take.Statement.{statement}
@@ -16,11 +16,11 @@ addr-requires c κs = search needs
 
 -- src/lib.rt:65:5
 clear-requires : tie.Need-clear-requires
-clear-requires c κs = search needs
+clear-requires c κs = search (zero-inside, needs)
 
 -- src/lib.rt:66:5
 set-mark-requires : tie.Need-set-mark-requires
-set-mark-requires c κs = search needs
+set-mark-requires c κs = search (zero-fit, needs)
 
 -- src/lib.rt:67:5
 inc-alloc-count-requires : tie.Need-inc-alloc-count-requires

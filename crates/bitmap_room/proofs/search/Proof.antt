@@ -40,7 +40,7 @@ returns-2 : tie.Need-returns-2 Inv-loop μ-loop
 returns-2 c =
     let e = c .before .before .next-piece .ensures in
     let inv = c .before .before .before .before .loop .inv in
-    found _ _ _ _ _ _ (inv .2) (inv .1) _ _ (e .1) (e .2) (e .3) (c .if2 .taken)
+    search (found, e .1, e .2, e .3, inv .1, inv .2, c .if2 .taken)
 
 -- src/lib.rt:101:9
 sub-left : tie.Need-sub-left Inv-loop μ-loop

@@ -7,15 +7,15 @@ use Rattle.block.proofs.clear.Lts as lts
 use Rattle.block.proofs.offset.Reads as offset-reads
 use Rattle.wire.proofs.fill.Reads as fill-reads
 
--- src/lib.rt:50:9
+-- src/lib.rt:51:9
 offset-requires : tie.Need-offset-requires
 offset-requires c κs = search needs
 
--- src/lib.rt:51:13
-mul-n : tie.Need-mul-n
-mul-n c = search needs
+-- src/lib.rt:52:9
+offset-requires-2 : tie.Need-offset-requires-2
+offset-requires-2 c κs = search needs
 
--- src/lib.rt:52:5
+-- src/lib.rt:53:5
 fill-requires : tie.Need-fill-requires
 fill-requires c κs = search needs
 
@@ -29,4 +29,5 @@ unfolding zeroed
 returns c = cc
 
 pub clear-spec : {M : Type 1} → statement M
-clear-spec = tie.close (tie.spec offset-requires mul-n fill-requires same-length returns)
+clear-spec =
+    tie.close (tie.spec offset-requires offset-requires-2 fill-requires same-length returns)

@@ -24,7 +24,7 @@ enum-known-checked-2 c = search needs
 write-requires : tie.Need-write-requires
 write-requires c κs =
     let all : Bytes (c .before .before .before .before .before .before .before .before .before .before .before .before .args .img .now) = λ i. c .before .before .before .before .before .before .before .before .before .before .before .slice-known .given i .fits in
-    search (ready-fit, ready-well, ready-count, ready, all, needs)
+    (search (ready-fit, ready, all, needs), (search (ready-well, ready, all, needs), search (ready-count, ready, all, needs)))
 
 -- src/lib.rt:561:1
 same-length : tie.Need-same-length

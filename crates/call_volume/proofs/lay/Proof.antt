@@ -1,4 +1,4 @@
-use Rattle.call_volume.proofs.Answers.{maps-le, bitmap-in, laid-fit, root-in, laid-used, laid-is}
+use Rattle.call_volume.proofs.Answers.{maps-le, size-in, bitmap-in, laid-fit, root-in, laid-used, laid-is}
 use borrow.Author.Needs.{needs}
 use Rattle.call_volume.proofs.lay.Statement.{statement}
 use Rattle.call_volume.proofs.lay.Tie as tie
@@ -18,7 +18,7 @@ sub-clear c = search maps-le
 
 -- src/lib.rt:34:5
 clear-requires : tie.Need-clear-requires
-clear-requires c κs = search bitmap-in
+clear-requires c κs = (search size-in, search bitmap-in)
 
 -- src/lib.rt:35:5
 take-requires : tie.Need-take-requires

@@ -1,4 +1,4 @@
-use Rattle.call_volume.proofs.Answers.{opened-at, usage-refused, usage-sized}
+use Rattle.call_volume.proofs.Answers.{opened-at, opened-size, usage-refused, usage-sized}
 use borrow.Author.Needs.{needs}
 use Rattle.call_volume.proofs.usage.Statement.{statement}
 use Rattle.call_volume.proofs.usage.Tie as tie
@@ -26,7 +26,7 @@ alloc-count-requires c κs = search opened-at
 
 -- src/lib.rt:77:26
 sizes-of-requires : tie.Need-sizes-of-requires
-sizes-of-requires c κs = search needs
+sizes-of-requires c κs = search opened-size
 
 -- src/lib.rt:71:1
 returns : tie.Need-returns

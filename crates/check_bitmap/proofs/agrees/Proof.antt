@@ -1,4 +1,4 @@
-use Rattle.check_bitmap.proofs.Answers.{marks-long, marks-in, marks-differ, past-in, past-image, marks-tested}
+use Rattle.check_bitmap.proofs.Answers.{marks-long, marks-in, marks-differ, past-fits, past-in, past-image, marks-tested}
 use borrow.Author.Needs.{needs}
 use Rattle.check_bitmap.proofs.agrees.Statement.{statement}
 use Rattle.check_bitmap.proofs.agrees.Tie as tie
@@ -32,7 +32,7 @@ returns c = search (marks-differ, needs)
 
 -- src/lib.rt:55:16
 add-past : tie.Need-add-past
-add-past c = search needs
+add-past c = search (past-fits, needs)
 
 -- src/lib.rt:56:9
 offset-requires-2 : tie.Need-offset-requires-2

@@ -1,4 +1,3 @@
-use Rattle.check_bitmap.proofs.Answers.{map-before, limit-fits, bits-in, sum-fits, count-tested}
 use borrow.Author.Needs.{needs}
 use Rattle.check_bitmap.proofs.count_right.Statement.{statement}
 use Rattle.check_bitmap.proofs.count_right.Tie as tie
@@ -7,6 +6,7 @@ use Rattle.check_bitmap.proofs.count_right.Lts as lts
 use Rattle.bits.proofs.count.Reads as count-reads
 use Rattle.block.proofs.offset.Reads as offset-reads
 use Rattle.super_block.proofs.SuperBlock.alloc_count.Reads as alloc-count-reads
+use Rattle.check_bitmap.proofs.Answers.{map-before, map-fits, limit-fits, bits-in, sum-fits, count-tested}
 
 -- src/lib.rt:67:9
 offset-requires : tie.Need-offset-requires
@@ -18,7 +18,11 @@ sub-limit c = search (map-before, needs)
 
 -- src/lib.rt:68:17
 mul-limit : tie.Need-mul-limit
-mul-limit c = search (limit-fits, needs)
+mul-limit c = search (map-fits, needs)
+
+-- src/lib.rt:64:17
+mul-limit-2 : tie.Need-mul-limit-2
+mul-limit-2 c = search (limit-fits, needs)
 
 -- src/lib.rt:69:9
 count-requires : tie.Need-count-requires
@@ -43,6 +47,7 @@ count-right-spec =
     offset-requires
     sub-limit
     mul-limit
+    mul-limit-2
     count-requires
     alloc-count-requires
     add-result

@@ -1,10 +1,9 @@
 use Prim.Native.Nat.{_≤_}
-use mathlib.Core.Path.{_≡_, ap, _∙_}
+use mathlib.Core.Path.{_≡_}
 use borrow.Author.Needs.{needs}
 use borrow.Author.Tests.{not-true, not-false}
 use lib.ListN.{length}
-use Rattle.block.specs.Block.{next}
-use Rattle.check_chain.proofs.Chains.{Left, left-start, left-step, left-stop, left-end, left-over, fileCheck, file-done, file-over, file-stop, file-next, still-long, claimed-inside}
+use Rattle.check_chain.proofs.Chains.{Left, left-start, left-step, left-stop, left-end, left-over, fileCheck, file-done, file-over, file-stop, file-next, still-long, claimed-linked, next-is}
 use Rattle.check_chain.proofs.cells.Statement.{statement}
 use Rattle.check_chain.proofs.cells.Tie as tie
 use Rattle.check_chain.proofs.cells.Reads as reads
@@ -12,17 +11,18 @@ use Rattle.check_chain.proofs.cells.Lts as lts
 use Rattle.block.proofs.LinkedBlock.new.Reads as new-reads
 use Rattle.block.proofs.LinkedBlock.next_addr.Reads as next-addr-reads
 use Rattle.super_block.proofs.Fits.{few-blocks}
+use Rattle.super_block.specs.Super.{areaIn}
 use Rattle.check_chain.proofs.claim.Reads as claim-reads
 
 abbrev Inv-loop : tie.InvT-loop
-Inv-loop img work₀ s k b₀ left₀ work b left = (left ≤ k) × (length work ≡ length work₀) × Left (s .area .0) (s .blocks) (fileCheck (s .area .0) (s .blocks) img) work₀ k (b₀ .0) work (b .0) left
+Inv-loop img work₀ s k b₀ left₀ work b left = (left ≤ k) × (length work ≡ length work₀) × Left (areaIn s) (fileCheck (areaIn s) img) work₀ k (b₀ .0) work (b .0) left
 
 abbrev μ-loop : tie.MeasureT-loop
 μ-loop img work₀ s k b₀ left₀ work b left = left
 
 -- src/lib.rt:48:5
 loop-holds : tie.Need-loop-holds Inv-loop μ-loop
-loop-holds c = (search needs, search needs, left-start _ _ _ _ _ _)
+loop-holds c = (search needs, search needs, left-start _ _ _ _ _)
 
 -- src/lib.rt:49:13
 claim-requires : tie.Need-claim-requires Inv-loop μ-loop
@@ -36,7 +36,7 @@ same-length c = search needs
 returns : tie.Need-returns Inv-loop μ-loop
 returns c =
     let past = c .before .before .before in
-    left-stop _ _ _ _ _ _ _ _ _ (past .before .before .before .loop .inv .2) _ _ _ (past .before .before .loop-test .taken) (past .claim .ensures .0) (not-true _ (c .if1 .taken)) (file-stop _ _ _ _)
+    left-stop _ _ _ _ _ _ _ _ (past .before .before .before .loop .inv .2) _ _ _ (past .before .before .loop-test .taken) (past .claim .ensures .0) (not-true _ (c .if1 .taken)) (file-stop _ _ _)
 
 -- src/lib.rt:52:13
 new-requires : tie.Need-new-requires Inv-loop μ-loop
@@ -44,7 +44,7 @@ new-requires c κs = search needs
 
 -- src/lib.rt:52:9
 next-addr-requires : tie.Need-next-addr-requires Inv-loop μ-loop
-next-addr-requires c κs = search (claimed-inside, not-false, needs)
+next-addr-requires c κs = (search needs, search (claimed-linked, not-false, needs))
 
 -- src/lib.rt:53:9
 sub-left : tie.Need-sub-left Inv-loop μ-loop
@@ -58,8 +58,8 @@ loop-less c = search needs
 loop-again : tie.Need-loop-again Inv-loop μ-loop
 loop-again c =
     let past = c .before .before .before .before .before in
-    let to = c .next-addr .ensures ∙ ap (next 512 _) (c .before .new .ensures) in
-    (search needs, search needs, left-step _ _ _ _ _ _ _ _ _ (past .before .before .before .loop .inv .2) _ _ _ (past .before .before .loop-test .taken) (past .claim .ensures .0) _ (not-false _ (c .before .before .if1 .left)) (file-next _ _ _ _ _ to))
+    let to = next-is _ _ _ (c .before .new .ensures .0) (c .before .new .ensures .1) (c .next-addr .ensures) in
+    (search needs, search needs, left-step _ _ _ _ _ _ _ _ (past .before .before .before .loop .inv .2) _ _ _ (past .before .before .loop-test .taken) (past .claim .ensures .0) _ (not-false _ (c .before .before .if1 .left)) (file-next _ _ _ _ to))
 
 -- src/lib.rt:56:9
 same-length-2 : tie.Need-same-length-2 Inv-loop μ-loop
@@ -67,7 +67,7 @@ same-length-2 c = search needs
 
 -- src/lib.rt:56:9
 returns-2 : tie.Need-returns-2 Inv-loop μ-loop
-returns-2 c = left-end _ _ _ _ _ _ _ _ _ (c .before .before .before .loop .inv .2) (c .before .before .loop-test .left) (file-done _ _ _ _ (c .if2 .taken))
+returns-2 c = left-end _ _ _ _ _ _ _ _ (c .before .before .before .loop .inv .2) (c .before .before .loop-test .left) (file-done _ _ _ (c .if2 .taken))
 
 -- src/lib.rt:41:1
 same-length-3 : tie.Need-same-length-3 Inv-loop μ-loop
@@ -75,7 +75,7 @@ same-length-3 c = search needs
 
 -- src/lib.rt:41:1
 returns-3 : tie.Need-returns-3 Inv-loop μ-loop
-returns-3 c = left-over _ _ _ _ _ _ _ _ _ (c .before .before .before .loop .inv .2) (c .before .before .loop-test .left) (file-over _ _ _ _ (c .if2 .left))
+returns-3 c = left-over _ _ _ _ _ _ _ _ (c .before .before .before .loop .inv .2) (c .before .before .loop-test .left) (file-over _ _ _ (c .if2 .left))
 
 pub cells-spec : {M : Type 1} → statement M
 cells-spec =

@@ -9,7 +9,7 @@ use Rattle.check_chain.proofs.cells.Reads as cells-reads
 
 -- src/lib.rt:259:9
 returns : tie.Need-returns
-returns c = file-large _ _ _ _ _ _ (c .if1 .taken)
+returns c = file-large _ _ _ _ _ (c .if1 .taken)
 
 -- src/lib.rt:261:28
 blocks-for-requires : tie.Need-blocks-for-requires
@@ -25,7 +25,7 @@ same-length c = search needs
 
 -- src/lib.rt:253:1
 returns-2 : tie.Need-returns-2
-returns-2 c = file-cells _ _ _ _ _ _ (c .before .before .before .before .before .if1 .left) _ _ _ (c .before .before .before .blocks-for .ensures) (c .before .before .cells .ensures)
+returns-2 c = file-cells _ _ _ _ _ (c .before .before .before .before .before .if1 .left) _ _ _ (c .before .before .before .blocks-for .ensures) (c .before .before .cells .ensures)
 
 pub file-chain-spec : {M : Type 1} → statement M
 file-chain-spec =

@@ -24,7 +24,7 @@ returns c = (search (block-no, not-true, needs), tt)
 
 -- src/lib.rt:166:11
 holding-requires : tie.Need-holding-requires
-holding-requires c κs = search (claimed-inside, not-false, needs)
+holding-requires c κs = (search needs, search (claimed-inside, not-false, needs))
 
 -- src/lib.rt:167:26
 enum-told : tie.Need-enum-told

@@ -1,8 +1,7 @@
 use borrow.Author.Needs.{needs}
-use mathlib.Core.Path.{refl, ap, _∙_}
+use mathlib.Core.Path.{refl}
 use borrow.Author.Tests.{not-true, not-false}
-use Rattle.block.specs.Block.{next}
-use Rattle.check_chain.proofs.Chains.{claimed-inside}
+use Rattle.check_chain.proofs.Chains.{claimed-linked, next-is}
 use Rattle.check_dir.proofs.DirBlocks.{blocks-no, blocks-yes, later-few}
 use Rattle.check_dir.proofs.blocks.Statement.{statement}
 use Rattle.check_dir.proofs.blocks.Tie as tie
@@ -24,7 +23,7 @@ same-length c = search needs
 
 -- src/lib.rt:201:9
 returns : tie.Need-returns
-returns c = blocks-no _ _ _ _ _ _ _ (c .before .before .before .block .ensures .0) (not-true _ (c .if1 .taken))
+returns c = blocks-no _ _ _ _ _ _ (c .before .before .before .block .ensures .0) (not-true _ (c .if1 .taken))
 
 -- src/lib.rt:204:25
 new-requires : tie.Need-new-requires
@@ -32,7 +31,7 @@ new-requires c κs = search needs
 
 -- src/lib.rt:204:25
 next-addr-requires : tie.Need-next-addr-requires
-next-addr-requires c κs = search (claimed-inside, not-false, needs)
+next-addr-requires c κs = (search needs, search (claimed-linked, not-false, needs))
 
 -- src/lib.rt:204:61
 sub-later : tie.Need-sub-later
@@ -54,8 +53,8 @@ same-length-2 c = search needs
 returns-2 : tie.Need-returns-2
 returns-2 c =
     let past = c .before .before .before .before .before in
-    let to = past .next-addr .ensures ∙ ap (next 512 _) (past .before .new .ensures) in
-    blocks-yes _ _ _ _ _ _ _ (past .before .before .before .before .before .before .before .block .ensures .0) (not-false _ (past .before .before .before .before .if1 .left)) _ _ _ _ to refl (c .before .before .later .ensures)
+    let to = next-is _ _ _ (past .before .new .ensures .0) (past .before .new .ensures .1) (past .next-addr .ensures) in
+    blocks-yes _ _ _ _ _ _ (past .before .before .before .before .before .before .before .block .ensures .0) (not-false _ (past .before .before .before .before .if1 .left)) _ _ _ _ to refl (c .before .before .later .ensures)
 
 pub blocks-spec : {M : Type 1} → statement M
 blocks-spec =

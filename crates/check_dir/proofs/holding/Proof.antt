@@ -7,16 +7,17 @@ use Rattle.check_dir.proofs.holding.Statement.{statement}
 use Rattle.check_dir.proofs.holding.Tie as tie
 use Rattle.check_dir.proofs.holding.Reads as reads
 use Rattle.check_dir.proofs.holding.Lts as lts
+use Rattle.block.proofs.Blocks.{linked-inside}
 use Rattle.block.proofs.LinkedBlock.new.Reads as new-reads
 use Rattle.dir_entry.proofs.DirEntry.decode.Reads as decode-reads
 use Rattle.check_dir.proofs.passes.Reads as passes-reads
 use Rattle.check_dir.proofs.rest.Reads as rest-reads
 
 abbrev Inv-loop : tie.InvT-loop
-Inv-loop img a o₀ o = (o ≤ 507) × Looks img (a .0) o
+Inv-loop img size a o₀ o = (o ≤ size - 5) × Looks size img (a .0) o
 
 abbrev μ-loop : tie.MeasureT-loop
-μ-loop img a o₀ o = 507 - o
+μ-loop img size a o₀ o = size - o
 
 -- src/lib.rt:143:5
 loop-holds : tie.Need-loop-holds Inv-loop μ-loop
@@ -28,7 +29,7 @@ new-requires c κs = search needs
 
 -- src/lib.rt:144:15
 decode-requires : tie.Need-decode-requires Inv-loop μ-loop
-decode-requires c κs = search needs
+decode-requires c κs = (search needs, search linked-inside)
 
 -- src/lib.rt:145:27
 enum-told : tie.Need-enum-told Inv-loop μ-loop

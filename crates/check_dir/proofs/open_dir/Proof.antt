@@ -18,7 +18,7 @@ same-length c = search needs
 
 -- src/lib.rt:216:9
 returns : tie.Need-returns
-returns c = (open-no _ _ _ _ _ _ _ (c .before .before .before .blocks2 .ensures) (not-true _ (c .if1 .taken)), search needs)
+returns c = (open-no _ _ _ _ _ _ (c .before .before .before .blocks2 .ensures) (not-true _ (c .if1 .taken)), search needs)
 
 -- src/lib.rt:218:5
 distinct-requires : tie.Need-distinct-requires
@@ -34,7 +34,7 @@ same-length-3 c = search needs
 
 -- src/lib.rt:208:1
 returns-2 : tie.Need-returns-2
-returns-2 c = (open-yes _ _ _ _ _ _ _ (c .before .before .before .before .before .before .before .blocks2 .ensures) (not-false _ (c .before .before .before .before .if1 .left)) _ (c .before .before .distinct .ensures .0), c .before .before .distinct .ensures .1)
+returns-2 c = (open-yes _ _ _ _ _ _ (c .before .before .before .before .before .before .before .blocks2 .ensures) (not-false _ (c .before .before .before .before .if1 .left)) _ (c .before .before .distinct .ensures .0), c .before .before .distinct .ensures .1)
 
 pub open-dir-spec : {M : Type 1} → statement M
 open-dir-spec =

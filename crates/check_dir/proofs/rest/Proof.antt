@@ -1,12 +1,20 @@
 use borrow.Author.Needs.{needs}
-use borrow.Author.Tests.{not-true, not-false}
-use Rattle.check_dir.proofs.Holds.{rest-damaged, rest-nothing, rest-entries}
 use Rattle.check_dir.proofs.rest.Statement.{statement}
 use Rattle.check_dir.proofs.rest.Tie as tie
 use Rattle.check_dir.proofs.rest.Reads as reads
 use Rattle.check_dir.proofs.rest.Lts as lts
 use Rattle.dir_entry.proofs.place.Reads as place-reads
 use Rattle.wire.proofs.zero_bytes.Reads as zero-bytes-reads
+use borrow.Author.Tests.{not-true, not-false}
+use Rattle.check_dir.proofs.Holds.{rest-damaged, rest-nothing, rest-entries}
+
+-- src/lib.rt:57:21
+sub-capacity : tie.Need-sub-capacity
+sub-capacity c = search needs
+
+-- src/lib.rt:57:20
+cast-capacity : tie.Need-cast-capacity
+cast-capacity c = search needs
 
 -- src/lib.rt:128:31
 place-requires : tie.Need-place-requires
@@ -35,4 +43,12 @@ returns-3 c = search (rest-entries, not-false, needs)
 pub rest-spec : {M : Type 1} → statement M
 rest-spec =
     tie.close
-    (tie.spec place-requires sub-zero-bytes zero-bytes-requires returns returns-2 returns-3)
+    (tie.spec
+    sub-capacity
+    cast-capacity
+    place-requires
+    sub-zero-bytes
+    zero-bytes-requires
+    returns
+    returns-2
+    returns-3)

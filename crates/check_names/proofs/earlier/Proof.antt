@@ -6,6 +6,7 @@ use lib.ListN.{take}
 use borrow.Author.Needs.{needs}
 use mathlib.Core.Path.{_≡_, refl}
 use Rattle.super_block.proofs.Fits.{area-inside}
+use Rattle.super_block.specs.Super.{areaIn}
 use Rattle.check_names.proofs.earlier.Statement.{statement}
 use Rattle.check_names.proofs.earlier.Tie as tie
 use Rattle.check_names.proofs.earlier.Reads as reads
@@ -15,7 +16,7 @@ use Rattle.read_dir.proofs.ReadDir.next.Reads as next-reads
 use Rattle.read_dir.proofs.named.Reads as named-reads
 
 abbrev Inv-loop : tie.InvT-loop
-Inv-loop img s i name c₀ left₀ c left = oneOf name (take left (namesIn (cursorWalk 512 (s .area .0) (s .blocks) img c))) ≡ oneOf name (take i (namesIn (cursorWalk 512 (s .area .0) (s .blocks) img c₀)))
+Inv-loop img s i name c₀ left₀ c left = oneOf name (take left (namesIn (cursorWalk (areaIn s) img c))) ≡ oneOf name (take i (namesIn (cursorWalk (areaIn s) img c₀)))
 
 abbrev μ-loop : tie.MeasureT-loop
 μ-loop img s i name c₀ left₀ c left = left
@@ -38,7 +39,7 @@ enum-known-e c = search needs
 
 -- src/lib.rt:106:20
 named-requires : tie.Need-named-requires Inv-loop μ-loop
-named-requires c κs = (search entry-inside, search entry-ends)
+named-requires c κs = (search needs, (search entry-inside, search entry-ends))
 
 -- src/lib.rt:107:21
 returns : tie.Need-returns Inv-loop μ-loop

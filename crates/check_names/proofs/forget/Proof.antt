@@ -7,6 +7,7 @@ use Rattle.read_dir.specs.Cursor.{cursorWalk, items}
 use borrow.Author.Needs.{needs}
 use mathlib.Core.Path.{_≡_, refl}
 use Rattle.super_block.proofs.Fits.{area-inside}
+use Rattle.super_block.specs.Super.{areaIn}
 use Rattle.check_names.proofs.forget.Statement.{statement}
 use Rattle.check_names.proofs.forget.Tie as tie
 use Rattle.check_names.proofs.forget.Reads as reads
@@ -18,10 +19,10 @@ use Rattle.read_dir.proofs.ReadDir.next.Reads as next-reads
 use Rattle.read_dir.proofs.name_of.Reads as name-of-reads
 
 abbrev Inv-loop : tie.InvT-loop
-Inv-loop img s filter₀ c₀ filter c = Only filter (namesIn (cursorWalk 512 (s .area .0) (s .blocks) img c)) × (length filter ≡ length filter₀)
+Inv-loop img s filter₀ c₀ filter c = Only filter (namesIn (cursorWalk (areaIn s) img c)) × (length filter ≡ length filter₀)
 
 abbrev μ-loop : tie.MeasureT-loop
-μ-loop img s filter₀ c₀ filter c = items (cursorWalk 512 (s .area .0) (s .blocks) img c)
+μ-loop img s filter₀ c₀ filter c = items (cursorWalk (areaIn s) img c)
 
 -- src/lib.rt:166:9
 new-requires : tie.Need-new-requires Inv-loop μ-loop
@@ -41,7 +42,7 @@ enum-known-e c = search needs
 
 -- src/lib.rt:170:30
 name-of-requires : tie.Need-name-of-requires Inv-loop μ-loop
-name-of-requires c κs = (search entry-inside, search entry-ends)
+name-of-requires c κs = (search needs, (search entry-inside, search entry-ends))
 
 -- src/lib.rt:170:21
 hash-requires : tie.Need-hash-requires Inv-loop μ-loop

@@ -6,6 +6,7 @@ use Rattle.read_dir.specs.Walk.{walk}
 use borrow.Author.Needs.{needs}
 use mathlib.Core.Path.{_≡_, refl}
 use Rattle.super_block.proofs.Fits.{area-inside}
+use Rattle.super_block.specs.Super.{areaIn}
 use Rattle.check_names.proofs.tested.Statement.{statement}
 use Rattle.check_names.proofs.tested.Tie as tie
 use Rattle.check_names.proofs.tested.Reads as reads
@@ -18,10 +19,10 @@ use Rattle.read_dir.proofs.ReadDir.next.Reads as next-reads
 use Rattle.read_dir.proofs.name_of.Reads as name-of-reads
 
 abbrev Inv-loop : tie.InvT-loop
-Inv-loop img s dir filter₀ c₀ i₀ filter c i = Met filter i (walk 512 (s .area .0) (s .blocks) img (dir .0)) (cursorWalk 512 (s .area .0) (s .blocks) img c) × (length filter ≡ length filter₀)
+Inv-loop img s dir filter₀ c₀ i₀ filter c i = Met filter i (walk (areaIn s) img (dir .0)) (cursorWalk (areaIn s) img c) × (length filter ≡ length filter₀)
 
 abbrev μ-loop : tie.MeasureT-loop
-μ-loop img s dir filter₀ c₀ i₀ filter c i = items (cursorWalk 512 (s .area .0) (s .blocks) img c)
+μ-loop img s dir filter₀ c₀ i₀ filter c i = items (cursorWalk (areaIn s) img c)
 
 -- src/lib.rt:140:9
 new-requires : tie.Need-new-requires Inv-loop μ-loop
@@ -41,7 +42,7 @@ enum-known-e c = search needs
 
 -- src/lib.rt:145:21
 name-of-requires : tie.Need-name-of-requires Inv-loop μ-loop
-name-of-requires c κs = (search entry-inside, search entry-ends)
+name-of-requires c κs = (search needs, (search entry-inside, search entry-ends))
 
 -- src/lib.rt:146:21
 hash-requires : tie.Need-hash-requires Inv-loop μ-loop

@@ -12,6 +12,7 @@ use Rattle.check_volume.proofs.Walks.{Rest, rest-start, rest-no, rest-o
 use borrow.Fn.Kinds.{In}
 use borrow.Fn.PlainCycle.{Measures, is, falls, and}
 use Rattle.super_block.proofs.Fits.{area-inside}
+use Rattle.super_block.specs.Super.{areaIn}
 use Rattle.check_volume.proofs.walk_dir.Reads as walk-dir
 use Rattle.check_volume.proofs.walk_dir.Kinds as walk-dir-kinds
 use Rattle.check_volume.proofs.+walk_dir+walk_entry.Lts-walk_dir as walk-dir-lts
@@ -49,10 +50,10 @@ walk-entry-below t =
     and 3 walk-entry-kinds.ps (falls 3 walk-entry-kinds.ps _<_ μ-walk-entry t) walk-entry.Pre
 
 abbrev walk-dir-Inv-loop : walk-dir-lts.InvT-loop
-walk-dir-Inv-loop img work₀ filter₀ s depth c₀ work filter c = (length work ≡ length work₀) × (filter ≡ filter₀) × Rest (s .area .0) (s .blocks) (entryCheck 512 (s .area .0) (s .blocks) img depth) work₀ (cursorWalk 512 (s .area .0) (s .blocks) img c₀) work (cursorWalk 512 (s .area .0) (s .blocks) img c)
+walk-dir-Inv-loop img work₀ filter₀ s depth c₀ work filter c = (length work ≡ length work₀) × (filter ≡ filter₀) × Rest (areaIn s) (entryCheck (areaIn s) img depth) work₀ (cursorWalk (areaIn s) img c₀) work (cursorWalk (areaIn s) img c)
 
 abbrev walk-dir-μ-loop : walk-dir-lts.MeasureT-loop
-walk-dir-μ-loop img work₀ filter₀ s depth c₀ work filter c = items (cursorWalk 512 (s .area .0) (s .blocks) img c)
+walk-dir-μ-loop img work₀ filter₀ s depth c₀ work filter c = items (cursorWalk (areaIn s) img c)
 
 -- src/lib.rt:300:9
 walk-dir-new-requires : (t : ℕ) → walk-dir-lts.Need-new-requires (
@@ -74,7 +75,7 @@ walk-dir-loop-holds : (t : ℕ) → walk-dir-lts.Need-loop-holds (
   walk-entry-below t,
   walk-entry.Post,
 ) (walk-dir-at t) walk-dir.Post walk-dir-Inv-loop walk-dir-μ-loop
-walk-dir-loop-holds t c = (refl, refl, rest-start _ _ _ _ _)
+walk-dir-loop-holds t c = (refl, refl, rest-start _ _ _ _)
 
 -- src/lib.rt:302:15
 walk-dir-next-requires : (t : ℕ) → walk-dir-lts.Need-next-requires (

@@ -18,7 +18,7 @@ rest-clear-requires c κs = search needs
 
 -- src/lib.rt:363:9
 returns : tie.Need-returns
-returns c = (search (not-rest, not-true, needs), beyond-refl _ _ _)
+returns c = (search (not-rest, not-true, needs), beyond-refl _ _)
 
 -- src/lib.rt:366:25
 slice-aggregate-tree : tie.Need-slice-aggregate-tree

@@ -24,7 +24,7 @@ same-length-2 c = search needs
 
 -- src/lib.rt:349:9
 returns : tie.Need-returns
-returns c = tree-no _ _ _ _ _ _ _ (c .before .before .before .before .before .open-dir .ensures .0) (not-true _ (c .if1 .taken))
+returns c = tree-no _ _ _ _ _ _ (c .before .before .before .before .before .open-dir .ensures .0) (not-true _ (c .if1 .taken))
 
 -- src/lib.rt:351:5
 walk-dir-requires : tie.Need-walk-dir-requires
@@ -40,7 +40,7 @@ same-length-4 c = search needs
 
 -- src/lib.rt:341:1
 returns-2 : tie.Need-returns-2
-returns-2 c = tree-yes _ _ _ _ _ _ _ (c .before .before .before .before .before .before .before .before .before .before .before .before .open-dir .ensures .0) (not-false _ (c .before .before .before .before .before .before .before .if1 .left)) _ _ (c .before .before .before .before .walk-dir .ensures .0)
+returns-2 c = tree-yes _ _ _ _ _ _ (c .before .before .before .before .before .before .before .before .before .before .before .before .open-dir .ensures .0) (not-false _ (c .before .before .before .before .before .before .before .if1 .left)) _ _ (c .before .before .before .before .walk-dir .ensures .0)
 
 pub tree-spec : {M : Type 1} → statement M
 tree-spec =

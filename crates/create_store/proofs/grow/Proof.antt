@@ -1,4 +1,4 @@
-use Rattle.create_store.proofs.Steps.{grow-image}
+use Rattle.create_store.proofs.Steps.{made-known, still-inside, grow-image}
 use borrow.Author.Needs.{needs}
 use Rattle.create_store.proofs.grow.Statement.{statement}
 use Rattle.create_store.proofs.grow.Tie as tie
@@ -18,7 +18,7 @@ new-requires c κs = search needs
 
 -- src/lib.rt:101:5
 set-next-addr-requires : tie.Need-set-next-addr-requires
-set-next-addr-requires c κs = search needs
+set-next-addr-requires c κs = (search made-known, search (still-inside, needs))
 
 -- src/lib.rt:94:1
 same-length : tie.Need-same-length

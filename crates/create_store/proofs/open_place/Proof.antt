@@ -1,4 +1,4 @@
-use Rattle.create_store.proofs.Steps.{after-room, after-inside, after-place, after-image, never}
+use Rattle.create_store.proofs.Steps.{in-image, in-place, after-room, after-inside, after-place, after-image, never}
 use borrow.Author.Needs.{needs}
 use Rattle.create_store.proofs.open_place.Statement.{statement}
 use Rattle.create_store.proofs.open_place.Tie as tie
@@ -24,7 +24,7 @@ enum-told c = search needs
 
 -- src/lib.rt:106:1
 returns : tie.Need-returns
-returns c = search needs
+returns c = (search (in-image, needs), search (in-place, needs))
 
 -- src/lib.rt:106:1
 same-length : tie.Need-same-length

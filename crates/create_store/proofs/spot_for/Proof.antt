@@ -1,3 +1,4 @@
+use Rattle.create_store.proofs.Steps.{made-known}
 use Rattle.create_store.proofs.Spots.{left-over, left-below, left-above, left-in, left-after, left-again}
 use Rattle.create_store.specs.Create.{spotFrom, spotFor}
 use mathlib.Core.Path.{_≡_, refl}
@@ -7,20 +8,28 @@ use Rattle.create_store.proofs.spot_for.Statement.{statement}
 use Rattle.create_store.proofs.spot_for.Tie as tie
 use Rattle.create_store.proofs.spot_for.Reads as reads
 use Rattle.create_store.proofs.spot_for.Lts as lts
+use Rattle.block.proofs.Blocks.{linked-inside}
 use Rattle.block.proofs.LinkedBlock.new.Reads as new-reads
 use Rattle.block.proofs.LinkedBlock.next_addr.Reads as next-addr-reads
 use Rattle.super_block.proofs.Fits.{area-inside, fit-inside}
+use Rattle.super_block.specs.Super.{areaIn}
 use Rattle.create_store.proofs.used_bytes.Reads as used-bytes-reads
 
 abbrev Inv-loop : tie.InvT-loop
-Inv-loop img s len d b₀ left₀ b left = (left ≤ s .blocks) × (spotFrom 512 (s .area .0) (s .blocks) img len left (b .0) ≡ spotFor 512 (s .area .0) (s .blocks) img (b₀ .0) len)
+Inv-loop img s len d b₀ left₀ capacity b left = (left ≤ s .blocks) × (spotFrom (areaIn s) img len left (b .0) ≡ spotFor (areaIn s) img (b₀ .0) len)
 
 abbrev μ-loop : tie.MeasureT-loop
-μ-loop img s len d b₀ left₀ b left = left
+μ-loop img s len d b₀ left₀ capacity b left = left
 
 -- src/lib.rt:57:20
 sub-left : tie.Need-sub-left Inv-loop μ-loop
 sub-left c = search (area-inside, needs)
+
+sub-capacity : tie.Need-sub-capacity Inv-loop μ-loop
+sub-capacity c = search needs
+
+cast-capacity : tie.Need-cast-capacity Inv-loop μ-loop
+cast-capacity c = search needs
 
 -- src/lib.rt:58:5
 loop-holds : tie.Need-loop-holds Inv-loop μ-loop
@@ -36,7 +45,7 @@ returns-2 c = search left-above
 
 -- src/lib.rt:65:13
 used-bytes-requires : tie.Need-used-bytes-requires Inv-loop μ-loop
-used-bytes-requires c κs = search (fit-inside, needs)
+used-bytes-requires c κs = (search needs, search fit-inside)
 
 -- src/lib.rt:66:12
 add-if3 : tie.Need-add-if3 Inv-loop μ-loop
@@ -60,7 +69,7 @@ new-requires c κs = search needs
 
 -- src/lib.rt:72:13
 next-addr-requires : tie.Need-next-addr-requires Inv-loop μ-loop
-next-addr-requires c κs = search (fit-inside, needs)
+next-addr-requires c κs = (search made-known, search (linked-inside, fit-inside))
 
 -- src/lib.rt:74:13
 returns-4 : tie.Need-returns-4 Inv-loop μ-loop
@@ -89,6 +98,8 @@ spot-for-spec =
     Inv-loop
     μ-loop
     sub-left
+    sub-capacity
+    cast-capacity
     loop-holds
     returns
     returns-2

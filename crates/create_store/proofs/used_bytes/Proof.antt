@@ -1,6 +1,6 @@
-use Rattle.create_store.proofs.Spots.{used-stop, used-ends, used-less, used-again}
+use Rattle.create_store.proofs.Spots.{used-start, used-stop, used-ends, used-less, used-again}
 use Rattle.create_store.specs.Create.{stopFrom, usedAt}
-use mathlib.Core.Path.{_≡_, refl}
+use mathlib.Core.Path.{_≡_}
 use Prim.Native.Nat.{_-_, _≤_}
 use native.Mathlib.Omega.{arith}
 use borrow.Author.Needs.{needs}
@@ -8,18 +8,19 @@ use Rattle.create_store.proofs.used_bytes.Statement.{statement}
 use Rattle.create_store.proofs.used_bytes.Tie as tie
 use Rattle.create_store.proofs.used_bytes.Reads as reads
 use Rattle.create_store.proofs.used_bytes.Lts as lts
+use Rattle.block.proofs.Blocks.{linked-inside}
 use Rattle.block.proofs.LinkedBlock.new.Reads as new-reads
 use Rattle.dir_entry.proofs.DirEntry.decode.Reads as decode-reads
 
 abbrev Inv-loop : tie.InvT-loop
-Inv-loop img block at₀ at = (at ≤ 507) × (stopFrom 512 img (512 - at) (block .0) at ≡ usedAt 512 img (block .0))
+Inv-loop img size block at₀ at = (at ≤ size - 5) × (stopFrom size img (size - at) (block .0) at ≡ usedAt size img (block .0))
 
 abbrev μ-loop : tie.MeasureT-loop
-μ-loop img block at₀ at = 512 - at
+μ-loop img size block at₀ at = size - at
 
 -- src/lib.rt:39:5
 loop-holds : tie.Need-loop-holds Inv-loop μ-loop
-loop-holds c = (omega arith, refl)
+loop-holds c = (omega arith, used-start _ _ _)
 
 -- src/lib.rt:40:37
 new-requires : tie.Need-new-requires Inv-loop μ-loop
@@ -27,7 +28,7 @@ new-requires c κs = search needs
 
 -- src/lib.rt:40:15
 decode-requires : tie.Need-decode-requires Inv-loop μ-loop
-decode-requires c κs = search needs
+decode-requires c κs = (search needs, search linked-inside)
 
 -- src/lib.rt:41:27
 enum-told : tie.Need-enum-told Inv-loop μ-loop

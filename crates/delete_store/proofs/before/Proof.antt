@@ -7,12 +7,13 @@ use Rattle.delete_store.proofs.before.Statement.{statement}
 use Rattle.delete_store.proofs.before.Tie as tie
 use Rattle.delete_store.proofs.before.Reads as reads
 use Rattle.delete_store.proofs.before.Lts as lts
+use Rattle.block.proofs.Blocks.{linked-inside}
 use Rattle.block.proofs.LinkedBlock.new.Reads as new-reads
 use Rattle.block.proofs.LinkedBlock.next_addr.Reads as next-addr-reads
 use Rattle.super_block.proofs.Fits.{area-inside, fit-inside}
 
 abbrev Inv-loop : tie.InvT-loop
-Inv-loop img s b a₀ left₀ a left = (a .0 < s .blocks) × (beforeFrom 512 (s .blocks) img left (a .0) (b .0) ≡ beforeFrom 512 (s .blocks) img (s .blocks - s .area .0) (a₀ .0) (b .0))
+Inv-loop img s b a₀ left₀ a left = (a .0 < s .blocks) × (beforeFrom (s .size) (s .blocks) img left (a .0) (b .0) ≡ beforeFrom (s .size) (s .blocks) img (s .blocks - s .area .0) (a₀ .0) (b .0))
 
 abbrev μ-loop : tie.MeasureT-loop
 μ-loop img s b a₀ left₀ a left = left
@@ -31,7 +32,7 @@ new-requires c κs = search needs
 
 -- src/lib.rt:80:13
 next-addr-requires : tie.Need-next-addr-requires Inv-loop μ-loop
-next-addr-requires c κs = search (fit-inside, needs)
+next-addr-requires c κs = (search needs, search (linked-inside, fit-inside))
 
 -- src/lib.rt:82:13
 returns : tie.Need-returns Inv-loop μ-loop

@@ -12,6 +12,12 @@ use Rattle.wire.proofs.move_down.Reads as move-down-reads
 place-requires : tie.Need-place-requires
 place-requires c κs = search needs
 
+sub-capacity : tie.Need-sub-capacity
+sub-capacity c = search needs
+
+cast-capacity : tie.Need-cast-capacity
+cast-capacity c = search needs
+
 -- src/lib.rt:28:42
 add-after : tie.Need-add-after
 add-after c = search needs
@@ -46,6 +52,8 @@ cut-out-spec =
     tie.close
     (tie.spec
     place-requires
+    sub-capacity
+    cast-capacity
     add-after
     sub-after
     move-down-requires

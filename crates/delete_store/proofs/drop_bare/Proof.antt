@@ -1,4 +1,4 @@
-use Rattle.delete_store.proofs.Answers.{bare-first, bare-gone, bare-kept}
+use Rattle.delete_store.proofs.Answers.{bare-inside, bare-first, bare-gone, bare-kept}
 use borrow.Author.Needs.{needs}
 use Rattle.delete_store.proofs.drop_bare.Statement.{statement}
 use Rattle.delete_store.proofs.drop_bare.Tie as tie
@@ -16,9 +16,15 @@ returns c = search (bare-first, needs)
 place-requires : tie.Need-place-requires
 place-requires c κs = search needs
 
+sub-zero-bytes : tie.Need-sub-zero-bytes
+sub-zero-bytes c = search needs
+
+cast-zero-bytes : tie.Need-cast-zero-bytes
+cast-zero-bytes c = search needs
+
 -- src/lib.rt:119:8
 zero-bytes-requires : tie.Need-zero-bytes-requires
-zero-bytes-requires c κs = search needs
+zero-bytes-requires c κs = search (bare-inside, needs)
 
 -- src/lib.rt:120:9
 unlink-requires : tie.Need-unlink-requires
@@ -46,6 +52,8 @@ drop-bare-spec =
     (tie.spec
     returns
     place-requires
+    sub-zero-bytes
+    cast-zero-bytes
     zero-bytes-requires
     unlink-requires
     same-length

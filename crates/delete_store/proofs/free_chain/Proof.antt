@@ -10,6 +10,7 @@ use Rattle.delete_store.proofs.free_chain.Statement.{statement}
 use Rattle.delete_store.proofs.free_chain.Tie as tie
 use Rattle.delete_store.proofs.free_chain.Reads as reads
 use Rattle.delete_store.proofs.free_chain.Lts as lts
+use Rattle.block.proofs.Blocks.{linked-inside}
 use Rattle.block.proofs.LinkedBlock.new.Reads as new-reads
 use Rattle.block.proofs.LinkedBlock.next_addr.Reads as next-addr-reads
 use Rattle.delete_store.proofs.release.Reads as release-reads
@@ -50,7 +51,7 @@ new-requires c κs = search needs
 
 -- src/lib.rt:63:13
 next-addr-requires : tie.Need-next-addr-requires Inv-loop μ-loop
-next-addr-requires c κs = search (fit-inside, needs)
+next-addr-requires c κs = (search needs, search (linked-inside, fit-inside))
 
 -- src/lib.rt:64:9
 release-requires : tie.Need-release-requires Inv-loop μ-loop

@@ -1,4 +1,4 @@
-use Rattle.delete_store.proofs.Answers.{fit-twice, own-still, removed-in}
+use Rattle.delete_store.proofs.Answers.{still-fit, fit-twice, own-still, removed-in}
 use borrow.Author.Needs.{needs}
 use Rattle.delete_store.proofs.remove.Statement.{statement}
 use Rattle.delete_store.proofs.remove.Tie as tie
@@ -14,7 +14,7 @@ take-out-requires c κs = search needs
 
 -- src/lib.rt:163:5
 free-chain-requires : tie.Need-free-chain-requires
-free-chain-requires c κs = search needs
+free-chain-requires c κs = search (still-fit, needs)
 
 -- src/lib.rt:164:5
 renew-sum-requires : tie.Need-renew-sum-requires
@@ -22,7 +22,7 @@ renew-sum-requires c κs =
     let a = c .before .before .before .before .before .before .before .before .before .before .before in
     let out = c .before .before .before .before .before .before .before .take-out .last in
     let freed = c .before .before .before .free-chain .last in
-    (search (fit-twice, needs), own-still (a .args .img .now) (out .0) (freed .0) (a .args .own) (a .pre .1 .1 .1 .1 .1) (search needs) (search needs))
+    (search (fit-twice, needs), own-still _ (a .args .img .now) (out .0) (freed .0) (a .args .own) (a .pre .1 .1 .1 .1 .1) (search needs) (search needs))
 
 -- src/lib.rt:152:1
 same-length : tie.Need-same-length

@@ -1,4 +1,5 @@
-use Rattle.delete_store.specs.Delete.{entryGone}
+use Rattle.delete_store.proofs.Answers.{still-fit, gone-is}
+use Rattle.super_block.proofs.Fits.{fit-inside}
 use borrow.Author.Needs.{needs}
 use Rattle.delete_store.proofs.take_out.Statement.{statement}
 use Rattle.delete_store.proofs.take_out.Tie as tie
@@ -17,11 +18,11 @@ add-cut-out c = search needs
 
 -- src/lib.rt:134:5
 cut-out-requires : tie.Need-cut-out-requires
-cut-out-requires c κs = search needs
+cut-out-requires c κs = (search needs, (search fit-inside, search needs))
 
 -- src/lib.rt:135:5
 drop-bare-requires : tie.Need-drop-bare-requires
-drop-bare-requires c κs = search needs
+drop-bare-requires c κs = search (still-fit, needs)
 
 -- src/lib.rt:125:1
 same-length : tie.Need-same-length
@@ -29,8 +30,7 @@ same-length c = search needs
 
 -- src/lib.rt:125:1
 returns : tie.Need-returns
-unfolding entryGone
-returns c = cc
+returns c = search (gone-is, needs)
 
 pub take-out-spec : {M : Type 1} → statement M
 take-out-spec =

@@ -1,9 +1,11 @@
-use Rattle.delete_store.proofs.Answers.{unlink-is}
+use Rattle.delete_store.proofs.Answers.{still-fit, unlink-is}
 use borrow.Author.Needs.{needs}
 use Rattle.delete_store.proofs.unlink.Statement.{statement}
 use Rattle.delete_store.proofs.unlink.Tie as tie
 use Rattle.delete_store.proofs.unlink.Reads as reads
 use Rattle.delete_store.proofs.unlink.Lts as lts
+use Rattle.block.proofs.Blocks.{linked-inside}
+use Rattle.super_block.proofs.Fits.{fit-inside}
 use Rattle.block.proofs.LinkedBlock.new.Reads as new-reads
 use Rattle.block.proofs.LinkedBlock.next_addr.Reads as next-addr-reads
 use Rattle.block.proofs.LinkedBlock.set_next_addr.Reads as set-next-addr-reads
@@ -16,7 +18,7 @@ new-requires c κs = search needs
 
 -- src/lib.rt:101:9
 next-addr-requires : tie.Need-next-addr-requires
-next-addr-requires c κs = search needs
+next-addr-requires c κs = (search needs, search (linked-inside, fit-inside))
 
 -- src/lib.rt:102:9
 before-requires : tie.Need-before-requires
@@ -28,11 +30,11 @@ new-requires-2 c κs = search needs
 
 -- src/lib.rt:103:5
 set-next-addr-requires : tie.Need-set-next-addr-requires
-set-next-addr-requires c κs = search needs
+set-next-addr-requires c κs = (search needs, search (linked-inside, fit-inside))
 
 -- src/lib.rt:104:5
 release-requires : tie.Need-release-requires
-release-requires c κs = search needs
+release-requires c κs = search (still-fit, needs)
 
 -- src/lib.rt:94:1
 same-length : tie.Need-same-length

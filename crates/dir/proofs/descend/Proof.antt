@@ -3,6 +3,7 @@ use borrow.Author.Needs.{needs}
 use Prim.Native.Nat.{_-_, _≤_}
 use mathlib.Core.Path.{_≡_}
 use lib.ListN.{take, drop}
+use Rattle.super_block.specs.Super.{areaIn}
 use Rattle.path.specs.Path.{split}
 use Rattle.dir.specs.Hold.{rootHold, holdFrom}
 use Rattle.dir.specs.Post.{holdOf}
@@ -18,8 +19,8 @@ abbrev Inv-loop : tie.InvT-loop
 Inv-loop img s full first end at₀ h₀ at h =
     (at ≤ end)
     × (h .depth ≤ at)
-    × (holdFrom 512 (s .area .0) (s .blocks) img (split (drop at (take end full))) (holdOf h)
-    ≡ holdFrom 512 (s .area .0) (s .blocks) img (split (drop first (take end full))) (rootHold (s .area .0)))
+    × (holdFrom (areaIn s) img (split (drop at (take end full))) (holdOf h)
+    ≡ holdFrom (areaIn s) img (split (drop first (take end full))) (rootHold (s .area .0)))
 
 abbrev μ-loop : tie.MeasureT-loop
 μ-loop img s full first end at₀ h₀ at h = end - at

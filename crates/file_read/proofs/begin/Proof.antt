@@ -1,11 +1,22 @@
-use Rattle.file_read.proofs.Follows.{begin-none, begin-over, begin-lost, begin-cut, begin-found}
 use borrow.Author.Needs.{needs}
-use Rattle.super_block.proofs.Fits.{area-inside}
 use Rattle.file_read.proofs.begin.Statement.{statement}
 use Rattle.file_read.proofs.begin.Tie as tie
+use Rattle.file_read.proofs.begin.Reads as reads
+use Rattle.file_read.proofs.begin.Lts as lts
+use Rattle.file_read.proofs.follow.Reads as follow-reads
+use Rattle.file_read.proofs.Follows.{begin-count, begin-first, begin-none, begin-over, begin-lost, begin-cut, begin-found}
+use Rattle.super_block.proofs.Fits.{area-inside}
 
 returns : tie.Need-returns
 returns c = search begin-none
+
+-- src/lib.rt:58:20
+sub-capacity : tie.Need-sub-capacity
+sub-capacity c = search needs
+
+-- src/lib.rt:59:17
+div-first : tie.Need-div-first
+div-first c = search needs
 
 sub-m : tie.Need-sub-m
 sub-m c = search needs
@@ -13,8 +24,12 @@ sub-m c = search needs
 add-m : tie.Need-add-m
 add-m c = search needs
 
+-- src/lib.rt:60:13
+div-m : tie.Need-div-m
+div-m c = search needs
+
 add-m-2 : tie.Need-add-m-2
-add-m-2 c = search needs
+add-m-2 c = search (begin-count, needs)
 
 sub-if2 : tie.Need-sub-if2
 sub-if2 c = search area-inside
@@ -35,7 +50,7 @@ returns-3 : tie.Need-returns-3
 returns-3 c = search begin-lost
 
 sub-follow : tie.Need-sub-follow
-sub-follow c = search needs
+sub-follow c = search begin-first
 
 follow-requires-2 : tie.Need-follow-requires-2
 follow-requires-2 c κs = search needs
@@ -57,8 +72,11 @@ begin-spec =
     tie.close
     (tie.spec
     returns
+    sub-capacity
+    div-first
     sub-m
     add-m
+    div-m
     add-m-2
     sub-if2
     returns-2

@@ -1,13 +1,15 @@
 use mathlib.Core.Path.{_≡_, refl}
 use borrow.Author.Needs.{needs}
+use Rattle.block.proofs.Blocks.{linked-inside}
 use Rattle.super_block.proofs.Fits.{fit-inside}
+use Rattle.super_block.specs.Super.{areaIn}
 use Rattle.file_read.specs.Post.{after}
 use Rattle.file_read.proofs.Follows.{follow-end, follow-low, follow-high, follow-again}
 use Rattle.file_read.proofs.follow.Statement.{statement}
 use Rattle.file_read.proofs.follow.Tie as tie
 
 abbrev Inv-loop : tie.InvT-loop
-Inv-loop img s k d b₀ left₀ b left = after 512 (s .area .0) (s .blocks) img left (b .0) ≡ after 512 (s .area .0) (s .blocks) img k (b₀ .0)
+Inv-loop img s k d b₀ left₀ b left = after (areaIn s) img left (b .0) ≡ after (areaIn s) img k (b₀ .0)
 
 abbrev μ-loop : tie.MeasureT-loop
 μ-loop img s k d b₀ left₀ b left = left
@@ -25,7 +27,7 @@ new-requires : tie.Need-new-requires Inv-loop μ-loop
 new-requires c κs = search needs
 
 next-addr-requires : tie.Need-next-addr-requires Inv-loop μ-loop
-next-addr-requires c κs = search (fit-inside, needs)
+next-addr-requires c κs = (search needs, search (linked-inside, fit-inside))
 
 sub-left : tie.Need-sub-left Inv-loop μ-loop
 sub-left c = search needs

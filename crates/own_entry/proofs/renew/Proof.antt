@@ -1,10 +1,10 @@
 use borrow.Author.Needs.{needs}
-use Rattle.own_entry.proofs.Renewals.{own-at, renewed-at}
 use Rattle.own_entry.proofs.renew.Statement.{statement}
 use Rattle.own_entry.proofs.renew.Tie as tie
 use Rattle.own_entry.proofs.renew.Reads as reads
 use Rattle.own_entry.proofs.renew.Lts as lts
 use Rattle.own_entry.proofs.renew_at.Reads as renew-at-reads
+use Rattle.own_entry.proofs.Renewals.{own-at, renewed-at}
 
 enum-told : tie.Need-enum-told
 enum-told c = search needs

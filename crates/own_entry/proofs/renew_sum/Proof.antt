@@ -1,4 +1,3 @@
-use Rattle.own_entry.proofs.Renewals.{sum-told, sum-damaged}
 use borrow.Author.Needs.{needs}
 use Rattle.own_entry.proofs.renew_sum.Statement.{statement}
 use Rattle.own_entry.proofs.renew_sum.Tie as tie
@@ -6,6 +5,7 @@ use Rattle.own_entry.proofs.renew_sum.Reads as reads
 use Rattle.own_entry.proofs.renew_sum.Lts as lts
 use Rattle.own_entry.proofs.renew.Reads as renew-reads
 use Rattle.read_dir.proofs.sum.Reads as sum-reads
+use Rattle.own_entry.proofs.Renewals.{sum-told, sum-damaged}
 
 -- src/lib.rt:144:11
 sum-requires : tie.Need-sum-requires

@@ -8,6 +8,7 @@ use Rattle.reached.proofs.Steps.{rest, reach-here, reach-last, rest-aga
 use borrow.Fn.Kinds.{In}
 use borrow.Fn.PlainCycle.{Measures, is, falls, and}
 use Rattle.super_block.proofs.Fits.{area-inside}
+use Rattle.super_block.specs.Super.{areaIn}
 use Rattle.reached.proofs.dir_reaches.Reads as dir-reaches
 use Rattle.reached.proofs.dir_reaches.Kinds as dir-reaches-kinds
 use Rattle.reached.proofs.+dir_reaches+entry_reaches.Lts-dir_reaches as dir-reaches-lts
@@ -46,10 +47,10 @@ entry-reaches-below t =
     entry-reaches.Pre
 
 abbrev dir-reaches-Inv-loop : dir-reaches-lts.InvT-loop
-dir-reaches-Inv-loop img s target depth below c₀ c = rest (s .area .0) (s .blocks) img (target .0) below c ≡ rest (s .area .0) (s .blocks) img (target .0) below c₀
+dir-reaches-Inv-loop img s target depth below c₀ c = rest (areaIn s) img (target .0) below c ≡ rest (areaIn s) img (target .0) below c₀
 
 abbrev dir-reaches-μ-loop : dir-reaches-lts.MeasureT-loop
-dir-reaches-μ-loop img s target depth below c₀ c = items (cursorWalk 512 (s .area .0) (s .blocks) img c)
+dir-reaches-μ-loop img s target depth below c₀ c = items (cursorWalk (areaIn s) img c)
 
 -- src/lib.rt:29:9
 dir-reaches-returns : (t : ℕ) → dir-reaches-lts.Need-returns (

@@ -7,6 +7,7 @@ use Prim.Native.Nat.{_≤_, _<_, _^_}
 use mathlib.Core.List.{_++_}
 use borrow.Author.Needs.{needs}
 use mathlib.Core.Path.{_≡_, refl}
+use Rattle.super_block.specs.Super.{areaIn}
 use Rattle.read_dir.proofs.fill.Statement.{statement}
 use Rattle.read_dir.proofs.fill.Tie as tie
 use Rattle.read_dir.proofs.fill.Reads as reads
@@ -16,10 +17,10 @@ use Rattle.read_dir.proofs.put_record.Reads as put-record-reads
 
 abbrev Inv-loop : tie.InvT-loop
 Inv-loop img s buf₀ cap c₀ used₀ buf c used =
-    (take used buf ++ recordsFrom cap used (cursorWalk 512 (s .area .0) (s .blocks) img c) ≡ recordsFrom cap 0 (cursorWalk 512 (s .area .0) (s .blocks) img c₀)) × (drop used buf ≡ drop used buf₀) × (used ≤ length buf) × (length buf ≡ length buf₀) × (cap ≡ length buf) × (length buf < 2 ^ 63)
+    (take used buf ++ recordsFrom cap used (cursorWalk (areaIn s) img c) ≡ recordsFrom cap 0 (cursorWalk (areaIn s) img c₀)) × (drop used buf ≡ drop used buf₀) × (used ≤ length buf) × (length buf ≡ length buf₀) × (cap ≡ length buf) × (length buf < 2 ^ 63)
 
 abbrev μ-loop : tie.MeasureT-loop
-μ-loop img s buf₀ cap c₀ used₀ buf c used = items (cursorWalk 512 (s .area .0) (s .blocks) img c)
+μ-loop img s buf₀ cap c₀ used₀ buf c used = items (cursorWalk (areaIn s) img c)
 
 -- src/lib.rt:300:5
 loop-holds : tie.Need-loop-holds Inv-loop μ-loop
@@ -55,7 +56,7 @@ returns c = search fill-full
 
 -- src/lib.rt:307:17
 put-record-requires : tie.Need-put-record-requires Inv-loop μ-loop
-put-record-requires c κs = (omega arith, (search entry-inside, search entry-ends))
+put-record-requires c κs = (omega arith, (search needs, (search entry-inside, search entry-ends)))
 
 -- src/lib.rt:308:24
 add-used : tie.Need-add-used Inv-loop μ-loop

@@ -4,6 +4,7 @@ use Rattle.read_dir.specs.Cursor.{cursorWalk, items}
 use borrow.Author.Needs.{needs}
 use mathlib.Core.Path.{_≡_, refl}
 use Rattle.super_block.proofs.Fits.{area-inside}
+use Rattle.super_block.specs.Super.{areaIn}
 use Rattle.read_dir.proofs.lookup.Statement.{statement}
 use Rattle.read_dir.proofs.lookup.Tie as tie
 use Rattle.read_dir.proofs.lookup.Reads as reads
@@ -13,10 +14,10 @@ use Rattle.read_dir.proofs.ReadDir.next.Reads as next-reads
 use Rattle.read_dir.proofs.named.Reads as named-reads
 
 abbrev Inv-loop : tie.InvT-loop
-Inv-loop img s name c₀ c = findIn name (cursorWalk 512 (s .area .0) (s .blocks) img c) ≡ findIn name (cursorWalk 512 (s .area .0) (s .blocks) img c₀)
+Inv-loop img s name c₀ c = findIn name (cursorWalk (areaIn s) img c) ≡ findIn name (cursorWalk (areaIn s) img c₀)
 
 abbrev μ-loop : tie.MeasureT-loop
-μ-loop img s name c₀ c = items (cursorWalk 512 (s .area .0) (s .blocks) img c)
+μ-loop img s name c₀ c = items (cursorWalk (areaIn s) img c)
 
 -- src/lib.rt:195:9
 new-requires : tie.Need-new-requires Inv-loop μ-loop
@@ -36,7 +37,7 @@ enum-known-e c = search needs
 
 -- src/lib.rt:199:20
 named-requires : tie.Need-named-requires Inv-loop μ-loop
-named-requires c κs = (search entry-inside, search entry-ends)
+named-requires c κs = (search needs, (search entry-inside, search entry-ends))
 
 -- src/lib.rt:200:21
 returns : tie.Need-returns Inv-loop μ-loop

@@ -4,6 +4,7 @@ use Rattle.read_dir.specs.Cursor.{cursorWalk, items}
 use Prim.Native.Nat.{_+_, _≤_, _<_, _^_}
 use borrow.Author.Needs.{needs}
 use mathlib.Core.Path.{_≡_}
+use Rattle.super_block.specs.Super.{areaIn}
 use Rattle.read_dir.proofs.measure.Statement.{statement}
 use Rattle.read_dir.proofs.measure.Tie as tie
 use Rattle.read_dir.proofs.measure.Reads as reads
@@ -12,10 +13,10 @@ use Rattle.read_dir.proofs.ReadDir.next.Reads as next-reads
 
 abbrev Inv-loop : tie.InvT-loop
 Inv-loop img s i cap c₀ used₀ k₀ c used k =
-    (listFrom cap used k (cursorWalk 512 (s .area .0) (s .blocks) img c) ≡ listFrom cap 0 i (cursorWalk 512 (s .area .0) (s .blocks) img c₀)) × (used ≤ cap) × (k + items (cursorWalk 512 (s .area .0) (s .blocks) img c) < 2 ^ 32)
+    (listFrom cap used k (cursorWalk (areaIn s) img c) ≡ listFrom cap 0 i (cursorWalk (areaIn s) img c₀)) × (used ≤ cap) × (k + items (cursorWalk (areaIn s) img c) < 2 ^ 32)
 
 abbrev μ-loop : tie.MeasureT-loop
-μ-loop img s i cap c₀ used₀ k₀ c used k = items (cursorWalk 512 (s .area .0) (s .blocks) img c)
+μ-loop img s i cap c₀ used₀ k₀ c used k = items (cursorWalk (areaIn s) img c)
 
 -- src/lib.rt:258:5
 loop-holds : tie.Need-loop-holds Inv-loop μ-loop

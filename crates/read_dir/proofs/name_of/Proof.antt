@@ -1,10 +1,10 @@
-use Rattle.read_dir.proofs.Names.{name-part}
 use borrow.Author.Needs.{needs}
 use Rattle.read_dir.proofs.name_of.Statement.{statement}
 use Rattle.read_dir.proofs.name_of.Tie as tie
 use Rattle.read_dir.proofs.name_of.Reads as reads
 use Rattle.read_dir.proofs.name_of.Lts as lts
 use Rattle.dir_entry.proofs.place.Reads as place-reads
+use Rattle.read_dir.proofs.Names.{name-part}
 
 -- src/lib.rt:172:16
 place-requires : tie.Need-place-requires

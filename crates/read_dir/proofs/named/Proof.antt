@@ -1,4 +1,3 @@
-use Rattle.read_dir.proofs.Names.{name-longer, name-compared}
 use borrow.Author.Needs.{needs}
 use Rattle.read_dir.proofs.named.Statement.{statement}
 use Rattle.read_dir.proofs.named.Tie as tie
@@ -6,6 +5,7 @@ use Rattle.read_dir.proofs.named.Reads as reads
 use Rattle.read_dir.proofs.named.Lts as lts
 use Rattle.read_dir.proofs.name_of.Reads as name-of-reads
 use Rattle.wire.proofs.same_bytes.Reads as same-bytes-reads
+use Rattle.read_dir.proofs.Names.{name-longer, name-compared}
 
 -- src/lib.rt:183:9
 name-of-requires : tie.Need-name-of-requires

@@ -1,8 +1,3 @@
-use Rattle.read_dir.proofs.Records.{record-copied}
-use lib.ListN.{length-set}
-use native.Mathlib.Omega.{arith}
-use Prim.Native.Nat.{_+_}
-use mathlib.Core.Path.{refl}
 use borrow.Author.Needs.{needs}
 use Rattle.read_dir.proofs.put_record.Statement.{statement}
 use Rattle.read_dir.proofs.put_record.Tie as tie
@@ -12,6 +7,11 @@ use Rattle.dir_entry.proofs.Kind.byte.Reads as byte-reads
 use Rattle.dir_entry.proofs.place.Reads as place-reads
 use Rattle.wire.proofs.copy.Reads as copy-reads
 use Rattle.wire.proofs.put.Reads as put-reads
+use Rattle.read_dir.proofs.Records.{record-copied}
+use lib.ListN.{length-set}
+use native.Mathlib.Omega.{arith}
+use Prim.Native.Nat.{_+_}
+use mathlib.Core.Path.{refl}
 
 -- src/lib.rt:284:16
 place-requires : tie.Need-place-requires
@@ -75,8 +75,9 @@ same-length c = omega (arith, length-set (c .before .before .before .before .bef
 
 -- src/lib.rt:276:1
 returns : tie.Need-returns
-returns c = let a = c .before .before .before .before .before .before .before .before .before .before .before .before .before .before .before .before .before .before .before .args in
-    record-copied (a .img .now) (a .buf .now) _ _ _ _ (a .at) _ _ _ (a .e) (omega arith) (omega arith) (c .before .before .before .before .before .before .before .before .before .before .before .before .before .before .before .place .ensures) (c .before .before .before .before .before .before .before .before .before .before .before .before .before .before .byte .ensures) refl (c .before .before .before .before .before .before .before .before .before .before .before .put .ensures) (c .before .before .before .before .before .before .before .put2 .ensures) (c .before .before .copy .ensures)
+returns c = let b = c .before .before .before .before .before .before .before .before .before .before .before .before .before .before .before .before .before .before .before in
+    let a = b .args in
+    record-copied (a .img .now) (a .buf .now) _ _ _ _ (a .at) _ _ _ (a .e) (omega arith) (omega (arith, b .pre .1 .1 .0, b .pre .1 .1 .1)) (c .before .before .before .before .before .before .before .before .before .before .before .before .before .before .before .place .ensures) (c .before .before .before .before .before .before .before .before .before .before .before .before .before .before .byte .ensures) refl (c .before .before .before .before .before .before .before .before .before .before .before .put .ensures) (c .before .before .before .before .before .before .before .put2 .ensures) (c .before .before .copy .ensures)
 
 pub put-record-spec : {M : Type 1} → statement M
 put-record-spec =

@@ -4,6 +4,7 @@ use Rattle.read_dir.specs.Cursor.{cursorWalk}
 use borrow.Author.Needs.{needs}
 use mathlib.Core.Path.{_≡_, refl}
 use Rattle.super_block.proofs.Fits.{area-inside}
+use Rattle.super_block.specs.Super.{areaIn}
 use Rattle.read_dir.proofs.seek.Statement.{statement}
 use Rattle.read_dir.proofs.seek.Tie as tie
 use Rattle.read_dir.proofs.seek.Reads as reads
@@ -12,7 +13,7 @@ use Rattle.read_dir.proofs.ReadDir.new.Reads as new-reads
 use Rattle.read_dir.proofs.ReadDir.next.Reads as next-reads
 
 abbrev Inv-loop : tie.InvT-loop
-Inv-loop img s i c₀ left₀ c left = skip left (cursorWalk 512 (s .area .0) (s .blocks) img c) ≡ skip i (cursorWalk 512 (s .area .0) (s .blocks) img c₀)
+Inv-loop img s i c₀ left₀ c left = skip left (cursorWalk (areaIn s) img c) ≡ skip i (cursorWalk (areaIn s) img c₀)
 
 abbrev μ-loop : tie.MeasureT-loop
 μ-loop img s i c₀ left₀ c left = left

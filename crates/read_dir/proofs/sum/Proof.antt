@@ -6,6 +6,7 @@ use Prim.Native.Nat.{_+_, _<_, _^_}
 use borrow.Author.Needs.{needs}
 use mathlib.Core.Path.{_≡_, refl}
 use Rattle.super_block.proofs.Fits.{area-inside}
+use Rattle.super_block.specs.Super.{areaIn}
 use Rattle.read_dir.proofs.sum.Statement.{statement}
 use Rattle.read_dir.proofs.sum.Tie as tie
 use Rattle.read_dir.proofs.sum.Reads as reads
@@ -14,10 +15,10 @@ use Rattle.read_dir.proofs.ReadDir.new.Reads as new-reads
 use Rattle.read_dir.proofs.ReadDir.next.Reads as next-reads
 
 abbrev Inv-loop : tie.InvT-loop
-Inv-loop img s c₀ total₀ c total = (sumFrom total (cursorWalk 512 (s .area .0) (s .blocks) img c) ≡ sumFrom 0 (cursorWalk 512 (s .area .0) (s .blocks) img c₀)) × (total + weigh (cursorWalk 512 (s .area .0) (s .blocks) img c) < 2 ^ 32)
+Inv-loop img s c₀ total₀ c total = (sumFrom total (cursorWalk (areaIn s) img c) ≡ sumFrom 0 (cursorWalk (areaIn s) img c₀)) × (total + weigh (cursorWalk (areaIn s) img c) < 2 ^ 32)
 
 abbrev μ-loop : tie.MeasureT-loop
-μ-loop img s c₀ total₀ c total = items (cursorWalk 512 (s .area .0) (s .blocks) img c)
+μ-loop img s c₀ total₀ c total = items (cursorWalk (areaIn s) img c)
 
 -- src/lib.rt:215:9
 new-requires : tie.Need-new-requires Inv-loop μ-loop

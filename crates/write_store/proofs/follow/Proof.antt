@@ -1,19 +1,21 @@
 use mathlib.Core.Path.{_≡_, refl}
 use borrow.Author.Needs.{needs}
-use Rattle.write_store.specs.Write.{hop}
-use Rattle.write_store.proofs.Loops.{Passes, pass-block, pass-more, follow-more, follow-ends}
+use Rattle.block.proofs.Blocks.{linked-inside}
+use Rattle.super_block.specs.Super.{geoOf}
+use Rattle.write_store.specs.Write.{hop, Along}
+use Rattle.write_store.proofs.Loops.{chain-inside, chain-next, follow-more, follow-ends}
 use Rattle.write_store.proofs.follow.Statement.{statement}
 use Rattle.write_store.proofs.follow.Tie as tie
 
 abbrev Inv-loop : tie.InvT-loop
-Inv-loop img k b₀ left₀ b left = (hop 512 img left (b .0) ≡ hop 512 img k (b₀ .0)) × Passes img (b₀ .0) k (b .0) left
+Inv-loop img s k b₀ left₀ b left = (hop (s .size) img left (b .0) ≡ hop (s .size) img k (b₀ .0)) × Along (geoOf s) img (b .0) left
 
 abbrev μ-loop : tie.MeasureT-loop
-μ-loop img k b₀ left₀ b left = left
+μ-loop img s k b₀ left₀ b left = left
 
 -- src/lib.rt:42:5
 loop-holds : tie.Need-loop-holds Inv-loop μ-loop
-loop-holds c = (refl, λ s w. w)
+loop-holds c = (refl, search needs)
 
 -- src/lib.rt:43:13
 new-requires : tie.Need-new-requires Inv-loop μ-loop
@@ -21,7 +23,7 @@ new-requires c κs = search needs
 
 -- src/lib.rt:43:9
 next-addr-requires : tie.Need-next-addr-requires Inv-loop μ-loop
-next-addr-requires c κs = search pass-block
+next-addr-requires c κs = (search needs, search (linked-inside, chain-inside))
 
 -- src/lib.rt:44:9
 sub-left : tie.Need-sub-left Inv-loop μ-loop
@@ -33,7 +35,7 @@ loop-less c = search needs
 
 -- src/lib.rt:42:5
 loop-again : tie.Need-loop-again Inv-loop μ-loop
-loop-again c = (search follow-more, search pass-more)
+loop-again c = (search follow-more, search chain-next)
 
 -- src/lib.rt:35:1
 returns : tie.Need-returns Inv-loop μ-loop

@@ -6,7 +6,8 @@ use borrow.Author.Needs.{needs}
 use Rattle.model.specs.Geometry.{usedCount}
 use Rattle.super_block.specs.Super.{geoOf, Fit}
 use Rattle.write_store.specs.Write.{Along, dropped}
-use Rattle.write_store.proofs.Loops.{chain-block, chain-low, free-in, free-fit, free-long, free-along, free-enough, free-few, free-more, free-ends}
+use Rattle.write_store.proofs.Loops.{chain-inside, chain-low, free-in, free-fit, free-long, free-along, free-enough, free-few, free-more, free-ends}
+use Rattle.block.proofs.Blocks.{linked-inside}
 use Rattle.write_store.proofs.free_chain.Statement.{statement}
 use Rattle.write_store.proofs.free_chain.Tie as tie
 
@@ -28,7 +29,7 @@ new-requires c κs = search needs
 
 -- src/lib.rt:93:13
 next-addr-requires : tie.Need-next-addr-requires Inv-loop μ-loop
-next-addr-requires c κs = search chain-block
+next-addr-requires c κs = (search needs, search (linked-inside, chain-inside))
 
 -- src/lib.rt:94:36
 index-requires : tie.Need-index-requires Inv-loop μ-loop

@@ -1,5 +1,7 @@
 use Rattle.write_store.proofs.Loops.{grow-addr, grow-is, grow-fresh}
 use borrow.Author.Needs.{needs}
+use Rattle.block.proofs.Blocks.{linked-inside}
+use Rattle.super_block.proofs.Fits.{fit-inside}
 use Rattle.write_store.proofs.grow.Statement.{statement}
 use Rattle.write_store.proofs.grow.Tie as tie
 
@@ -17,7 +19,7 @@ addr-requires c κs = search grow-addr
 
 -- src/lib.rt:59:5
 set-next-addr-requires : tie.Need-set-next-addr-requires
-set-next-addr-requires c κs = search needs
+set-next-addr-requires c κs = (search needs, search (linked-inside, fit-inside))
 
 -- src/lib.rt:50:1
 same-length : tie.Need-same-length

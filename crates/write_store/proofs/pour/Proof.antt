@@ -1,24 +1,27 @@
 use mathlib.Core.Path.{_≡_, refl}
-use Prim.Native.Nat.{_≤_, _<_}
+use Prim.Native.Nat.{_-_, _≤_, _<_}
 use native.Mathlib.Omega.{arith}
 use lib.ListN.{length, drop}
 use borrow.Author.Needs.{needs}
-use Rattle.write_store.specs.Write.{poured}
-use Rattle.write_store.proofs.Loops.{Flows, pour-block, pour-more, pour-flows, pour-ends}
+use Rattle.block.proofs.Blocks.{linked-inside}
+use Rattle.super_block.specs.Super.{geoOf}
+use Rattle.write_store.specs.Write.{Along, poured}
+use Rattle.write_store.proofs.Loops.{chain-inside, pour-more, pour-along, pour-ends}
 use Rattle.write_store.proofs.pour.Statement.{statement}
 use Rattle.write_store.proofs.pour.Tie as tie
 
 abbrev Inv-loop : tie.InvT-loop
-Inv-loop img₀ o buf k b₀ at₀ i₀ left₀ img b at i left =
-    (at < 508) × (i ≤ length buf) × (length img ≡ length img₀) × (poured 512 img (b .0) at (drop i buf) left ≡ poured 512 img₀ (b₀ .0) at₀ buf k)
-    × (Flows img₀ (b₀ .0) k img (b .0) left)
+Inv-loop img₀ s o buf k b₀ at₀ i₀ left₀ img b at i left =
+    (at < s .size - 4) × (i ≤ length buf) × (length img ≡ length img₀)
+    × (poured (s .size) img (b .0) at (drop i buf) left ≡ poured (s .size) img₀ (b₀ .0) at₀ buf k)
+    × (Along (geoOf s) img (b .0) left)
 
 abbrev μ-loop : tie.MeasureT-loop
-μ-loop img₀ o buf k b₀ at₀ i₀ left₀ img b at i left = left
+μ-loop img₀ s o buf k b₀ at₀ i₀ left₀ img b at i left = left
 
 -- src/lib.rt:162:5
 loop-holds : tie.Need-loop-holds Inv-loop μ-loop
-loop-holds c = (search needs, omega arith, refl, refl, λ s f w. w)
+loop-holds c = (search needs, omega arith, refl, refl, search needs)
 
 -- src/lib.rt:163:20
 new-requires : tie.Need-new-requires Inv-loop μ-loop
@@ -26,11 +29,11 @@ new-requires c κs = search needs
 
 -- src/lib.rt:163:13
 next-addr-requires : tie.Need-next-addr-requires Inv-loop μ-loop
-next-addr-requires c κs = search pour-block
+next-addr-requires c κs = (search needs, search (linked-inside, chain-inside))
 
 -- src/lib.rt:164:14
 put-run-requires : tie.Need-put-run-requires Inv-loop μ-loop
-put-run-requires c κs = (search needs, (search needs, search pour-block))
+put-run-requires c κs = (search needs, (search needs, (search needs, search chain-inside)))
 
 -- src/lib.rt:164:9
 add-i : tie.Need-add-i Inv-loop μ-loop
@@ -47,16 +50,18 @@ loop-less c = search needs
 -- src/lib.rt:162:5
 loop-again : tie.Need-loop-again Inv-loop μ-loop
 loop-again c =
+    let a = c .before .before .before .before .before .before .before .before .before .before .before in
     let l = c .before .before .before .before .before .before .before .before .loop in
     let h = c .before .before .before .before .before .before .before .loop-test .taken in
     let m = c .before .before .before .before .before .before .new .ensures in
     let n = c .before .before .before .before .next-addr .ensures in
     let w = c .before .before .put-run .ensures in (
+      omega (arith, a .pre .0 .known .least),
       omega arith,
       omega arith,
-      omega arith,
-      pour-more _ _ _ _ _ _ _ _ _ h (l .inv .0) _ _ _ _ m n (w .0) _ _ (w .1) (l .inv .3),
-      pour-flows _ _ _ (c .before .before .before .before .before .before .before .before .before .before .before .args .buf .now) _ _ _ (l .i) _ h (l .inv .0) _ _ 0 _ m n (w .0) (l .inv .4) (l .inv .2),
+      pour-more (a .args .s) _ _ _ _ _ _ _ h (l .inv .0) _ _ _ _ (m .0) (m .1) n (w .0) _ _ _ _ _ (w .1) (l .inv .3),
+      pour-along (a .args .s) _ (a .args .buf .now) _ _ _ (l .i) _ h (l .inv .0) _ _ _ _ (m .0) (m .1) n (w .0)
+          (a .pre .0) (l .inv .2) (l .inv .4),
     )
 
 -- src/lib.rt:152:1

@@ -1,4 +1,4 @@
-use mathlib.Core.Path.{refl}
+use mathlib.Core.Path.{refl, _∙_}
 use Rattle.write_store.proofs.Loops.{write-resizable, write-first, resized-fit, resized-along, entry-in, write-is}
 use borrow.Author.Needs.{needs}
 use Rattle.write_store.proofs.write.Statement.{statement}
@@ -22,7 +22,10 @@ blocks-for-requires-2 c κs = search needs
 
 -- src/lib.rt:205:5
 resize-requires : tie.Need-resize-requires
-resize-requires c κs = (search needs, write-resizable (c .before .before .before .before .before .before .args .s) _ _ _ _ _ (c .before .before .before .before .before .before .pre .1) _ _ refl (c .before .blocks-for2 .ensures) _ (c .before .before .blocks-for .ensures))
+resize-requires c κs =
+    let b = c .before .before .before .before .before .before in
+    let o = c .before .before .blocks-for .ensures in
+    (search needs, write-resizable (b .args .s) _ (b .pre .0) _ _ _ _ (b .pre .1) _ _ refl (c .before .blocks-for2 .ensures) _ o)
 
 -- src/lib.rt:206:5
 put-bytes-requires : tie.Need-put-bytes-requires
@@ -33,12 +36,16 @@ put-bytes-requires c κs =
     let j = c .before .before .before .resize .ensures in
     let f = c .before .before .before .before .before .before .before .before .before .before .pre .0 in
     let s = c .before .before .before .before .before .before .before .before .before .before .args .s in
-    let r = write-resizable s _ _ _ _ _ w _ _ refl n _ o in
-    (resized-fit _ _ f _ _ _ r _ j, (write-first s _ _ _ _ _ w _ _ refl n, resized-along _ _ f _ _ _ r _ j))
+    let r = write-resizable s _ f _ _ _ _ w _ _ refl n _ o in
+    (resized-fit _ _ f _ _ _ r _ j, (write-first s _ f _ _ _ _ w _ _ refl n, resized-along _ _ f _ _ _ r _ j))
 
 -- src/lib.rt:207:5
 renew-at-requires : tie.Need-renew-at-requires
-renew-at-requires c κs = search (entry-in, needs)
+renew-at-requires c κs =
+    let b = c .before .before .before .before .before .before .before .before .before .before .before .before .before .before in
+    let p = c .before .before .before .put-bytes in
+    let r = c .before .before .before .before .before .before .before .resize in
+    (search needs, entry-in _ _ (p .last .0) _ _ _ _ (b .pre .0) (b .pre .1) (p .kept .0 ∙ r .kept .0))
 
 -- src/lib.rt:196:1
 same-length : tie.Need-same-length
@@ -49,7 +56,10 @@ returns : tie.Need-returns
 returns c =
     let o = c .before .before .before .before .before .before .before .before .before .before .before .before .before .blocks-for .ensures in
     let n = c .before .before .before .before .before .before .before .before .before .before .before .before .blocks-for2 .ensures in
-    write-is (c .before .before .before .before .before .before .before .before .before .before .before .before .before .before .before .before .before .args .s) _ _ _ _ _ _ _ _ _ _ _ _ refl o n (c .before .before .before .before .before .before .before .before .before .before .resize .ensures) (c .before .before .before .before .before .before .put-bytes .ensures) (c .before .before .renew-at .ensures)
+    let b = c .before .before .before .before .before .before .before .before .before .before .before .before .before .before .before .before .before in
+    let r = c .before .before .before .before .before .before .before .before .before .before .resize in
+    let p = c .before .before .before .before .before .before .put-bytes in
+    write-is (b .args .s) _ _ _ _ _ _ _ _ _ _ _ _ (b .pre .0) refl o n (r .ensures) (p .ensures) (c .before .before .renew-at .ensures)
 
 pub write-spec : {M : Type 1} → statement M
 write-spec =

@@ -1,13 +1,21 @@
-use Rattle.dir_entry.proofs.Slots.{stop-offset, code-kind, code-empty, code-long, code-entry}
-use mathlib.Core.Path.{sym}
 use borrow.Author.Needs.{needs}
 use Rattle.dir_entry.proofs.DirEntry.decode.Statement.{statement}
 use Rattle.dir_entry.proofs.DirEntry.decode.Tie as tie
 use Rattle.dir_entry.proofs.DirEntry.decode.Reads as reads
 use Rattle.dir_entry.proofs.DirEntry.decode.Lts as lts
+use Rattle.block.proofs.LinkedBlock.capacity.Reads as capacity-reads
 use Rattle.dir_entry.proofs.DirEntry.read.Reads as read-reads
 use Rattle.dir_entry.proofs.place.Reads as place-reads
 use Rattle.dir_entry.proofs.wide.Reads as wide-reads
+use Rattle.dir_entry.proofs.Slots.{code-offset, code-kind, code-empty, code-long, code-entry}
+
+-- src/lib.rt:97:24
+capacity-requires : tie.Need-capacity-requires
+capacity-requires c κs = search needs
+
+-- src/lib.rt:97:24
+cast-capacity : tie.Need-cast-capacity
+cast-capacity c = search needs
 
 -- src/lib.rt:99:12
 sub-if1 : tie.Need-sub-if1
@@ -15,7 +23,7 @@ sub-if1 c = search needs
 
 -- src/lib.rt:100:13
 returns : tie.Need-returns
-returns c = search (stop-offset, sym)
+returns c = search code-offset
 
 -- src/lib.rt:103:13
 place-requires : tie.Need-place-requires
@@ -73,6 +81,8 @@ pub decode-spec : {M : Type 1} → statement M
 decode-spec =
     tie.close
     (tie.spec
+    capacity-requires
+    cast-capacity
     sub-if1
     returns
     place-requires

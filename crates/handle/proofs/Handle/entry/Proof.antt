@@ -1,6 +1,7 @@
 use mathlib.Core.Path.{_≡_, refl}
 use borrow.Author.Needs.{needs}
 use Rattle.super_block.proofs.Fits.{area-inside}
+use Rattle.super_block.specs.Super.{areaIn}
 use Rattle.read_dir.specs.Cursor.{cursorWalk, items}
 use Rattle.read_dir.proofs.Along.{entry-inside, entry-ends, step-less}
 use Rattle.handle.specs.Handles.{currentIn}
@@ -9,10 +10,10 @@ use Rattle.handle.proofs.Handle.entry.Statement.{statement}
 use Rattle.handle.proofs.Handle.entry.Tie as tie
 
 abbrev Inv-loop : tie.InvT-loop
-Inv-loop self img s c₀ c = currentIn self (cursorWalk 512 (s .area .0) (s .blocks) img c) ≡ currentIn self (cursorWalk 512 (s .area .0) (s .blocks) img c₀)
+Inv-loop self img s c₀ c = currentIn self (cursorWalk (areaIn s) img c) ≡ currentIn self (cursorWalk (areaIn s) img c₀)
 
 abbrev μ-loop : tie.MeasureT-loop
-μ-loop self img s c₀ c = items (cursorWalk 512 (s .area .0) (s .blocks) img c)
+μ-loop self img s c₀ c = items (cursorWalk (areaIn s) img c)
 
 new-requires : tie.Need-new-requires Inv-loop μ-loop
 new-requires c κs = search area-inside
@@ -27,7 +28,7 @@ enum-known-e : tie.Need-enum-known-e Inv-loop μ-loop
 enum-known-e c = search needs
 
 current-requires : tie.Need-current-requires Inv-loop μ-loop
-current-requires c κs = (search needs, (search entry-inside, search entry-ends))
+current-requires c κs = (search needs, (search needs, (search entry-inside, search entry-ends)))
 
 returns : tie.Need-returns Inv-loop μ-loop
 returns c = search entry-hit

@@ -1,4 +1,5 @@
-use Rattle.read_dir.proofs.Moves.{move-spent, move-low, move-high, move-stop, move-entry, decoded-ends}
+use Rattle.block.proofs.Blocks.{linked-inside}
+use Rattle.super_block.proofs.Fits.{fit-inside}
 use borrow.Author.Needs.{needs}
 use Rattle.read_dir.proofs.ReadDir.advance.Statement.{statement}
 use Rattle.read_dir.proofs.ReadDir.advance.Tie as tie
@@ -8,6 +9,7 @@ use Rattle.block.proofs.LinkedBlock.new.Reads as new-reads
 use Rattle.dir_entry.proofs.DirEntry.decode.Reads as decode-reads
 use Rattle.read_dir.proofs.ReadDir.hop.Reads as hop-reads
 use Rattle.read_dir.proofs.ReadDir.over.Reads as over-reads
+use Rattle.read_dir.proofs.Moves.{move-spent, move-low, move-high, move-stop, move-entry, decoded-ends}
 
 -- src/lib.rt:132:13
 returns : tie.Need-returns
@@ -27,7 +29,7 @@ new-requires c κs = search needs
 
 -- src/lib.rt:140:15
 decode-requires : tie.Need-decode-requires
-decode-requires c κs = search needs
+decode-requires c κs = (search needs, search (linked-inside, fit-inside))
 
 -- src/lib.rt:141:27
 enum-told : tie.Need-enum-told
@@ -35,7 +37,7 @@ enum-told c = search needs
 
 -- src/lib.rt:141:27
 hop-requires : tie.Need-hop-requires
-hop-requires c κs = search needs
+hop-requires c κs = (search needs, (search fit-inside, search needs))
 
 -- src/lib.rt:142:25
 enum-known-e : tie.Need-enum-known-e

@@ -1,18 +1,19 @@
-use Rattle.read_dir.proofs.Moves.{moves, go-less, go-again, step-entry, step-end, step-damaged}
-use Rattle.read_dir.specs.Cursor.{cursorWalk}
-use borrow.Author.Needs.{needs}
-use mathlib.Core.Path.{_≡_, refl}
 use Rattle.read_dir.proofs.ReadDir.next.Statement.{statement}
 use Rattle.read_dir.proofs.ReadDir.next.Tie as tie
 use Rattle.read_dir.proofs.ReadDir.next.Reads as reads
 use Rattle.read_dir.proofs.ReadDir.next.Lts as lts
 use Rattle.read_dir.proofs.ReadDir.advance.Reads as advance-reads
+use Rattle.read_dir.proofs.Moves.{moves, go-less, go-again, step-entry, step-end, step-damaged}
+use Rattle.read_dir.specs.Cursor.{cursorWalk}
+use borrow.Author.Needs.{needs}
+use mathlib.Core.Path.{_≡_, refl}
+use Rattle.super_block.specs.Super.{areaIn}
 
 abbrev Inv-loop : tie.InvT-loop
-Inv-loop img s c₀ c = cursorWalk 512 (s .area .0) (s .blocks) img c ≡ cursorWalk 512 (s .area .0) (s .blocks) img c₀
+Inv-loop img s c₀ c = cursorWalk (areaIn s) img c ≡ cursorWalk (areaIn s) img c₀
 
 abbrev μ-loop : tie.MeasureT-loop
-μ-loop img s c₀ c = moves c
+μ-loop img s c₀ c = moves (areaIn s) c
 
 -- src/lib.rt:152:9
 loop-holds : tie.Need-loop-holds Inv-loop μ-loop

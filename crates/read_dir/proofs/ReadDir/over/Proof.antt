@@ -1,9 +1,9 @@
-use Rattle.read_dir.proofs.Moves.{over-zero, over-entry}
 use borrow.Author.Needs.{needs}
 use Rattle.read_dir.proofs.ReadDir.over.Statement.{statement}
 use Rattle.read_dir.proofs.ReadDir.over.Tie as tie
 use Rattle.read_dir.proofs.ReadDir.over.Reads as reads
 use Rattle.read_dir.proofs.ReadDir.over.Lts as lts
+use Rattle.read_dir.proofs.Moves.{over-zero, over-entry}
 
 -- src/lib.rt:110:21
 add-t8 : tie.Need-add-t8

@@ -1,7 +1,3 @@
-use Rattle.super_block.proofs.Fits.{placed}
-use native.Mathlib.Omega.{arith}
-use Rattle.super_block.proofs.Tests.{super-stored}
-use Rattle.super_block.specs.Super.{superWritten}
 use borrow.Author.Needs.{needs}
 use Rattle.super_block.proofs.SuperBlock.write.Statement.{statement}
 use Rattle.super_block.proofs.SuperBlock.write.Tie as tie
@@ -11,6 +7,8 @@ use Rattle.block.proofs.offset.Reads as offset-reads
 use Rattle.wire.proofs.copy.Reads as copy-reads
 use Rattle.wire.proofs.fill.Reads as fill-reads
 use Rattle.wire.proofs.put.Reads as put-reads
+use Rattle.super_block.proofs.Tests.{super-steps}
+use mathlib.Core.Path.{refl}
 
 -- src/lib.rt:173:13
 offset-requires : tie.Need-offset-requires
@@ -44,6 +42,14 @@ add-put-2 c = search needs
 put-requires-2 : tie.Need-put-requires-2
 put-requires-2 c κs = search needs
 
+-- src/lib.rt:190:21
+sub-rest : tie.Need-sub-rest
+sub-rest c = search needs
+
+-- src/lib.rt:190:20
+cast-rest : tie.Need-cast-rest
+cast-rest c = search needs
+
 -- src/lib.rt:177:25
 add-fill : tie.Need-add-fill
 add-fill c = search needs
@@ -58,10 +64,9 @@ same-length c = search needs
 
 -- src/lib.rt:167:5
 returns : tie.Need-returns
-unfolding superWritten
 returns c =
-    let a = c .before .before .before .before .before .before .before .before .before .before .before .before .before .before .before .before .before .before .before .before .args in
-    cc (super-stored (a .img .now) (a .self .addr .0) (a .self .blocks) (a .v) (omega (arith, placed (c .before .before .before .before .before .before .before .before .before .before .before .before .before .before .before .before .before .before .before .before .pre) .top)))
+    let s = c .before .before .before .before .before .before .before .before .before .before .before .before .before .before .before .before .before .before .before .before .before in
+    super-steps (s .args .self) (s .args .img .now) _ _ _ _ _ (s .args .v) _ (s .pre) (c .before .before .before .before .before .before .before .before .before .before .before .before .before .before .before .before .before .before .offset .ensures) refl (c .before .before .before .before .before .before .before .before .before .before .before .before .before .before .before .copy .ensures) (c .before .before .before .before .before .before .before .before .before .before .before .put .ensures) (c .before .before .before .before .before .before .before .put2 .ensures) (c .before .before .fill .ensures)
 
 pub write-spec : {M : Type 1} → statement M
 write-spec =
@@ -75,6 +80,8 @@ write-spec =
     put-requires
     add-put-2
     put-requires-2
+    sub-rest
+    cast-rest
     add-fill
     fill-requires
     same-length
