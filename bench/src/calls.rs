@@ -36,6 +36,8 @@ pub enum Checked {
     /// Of the long file's contents into a new file.
     Write,
     Append(Handle),
+    /// Over the last bytes of a file, which keeps its length.
+    InPlace,
     Create,
     Delete,
 }
@@ -133,6 +135,13 @@ impl Checked {
                 }
                 let (pair, ()) = after_check(side, |side| side.write(&mut file, &[b'+'; SHORT]));
                 cut_back(side, path);
+                (pair, place::<S>(&file))
+            }
+            Checked::InPlace => {
+                let mut file = side.open(path);
+                let [_, size] = S::place(&file);
+                side.seek(&mut file, size - SHORT as u32);
+                let (pair, ()) = after_check(side, |side| side.write(&mut file, &[b'='; SHORT]));
                 (pair, place::<S>(&file))
             }
             Checked::Create => {

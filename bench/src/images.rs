@@ -18,6 +18,9 @@ const DIR_ENTRIES: u32 = 1000;
 /// Entries that fill a directory block.
 const BLOCK_ENTRIES: u32 = 21;
 
+/// The size of a meter's file: its counter.
+pub const COUNTER: u32 = 8;
+
 /// What a full volume holds.
 #[derive(Clone, Copy)]
 pub enum Fill {
@@ -78,6 +81,26 @@ pub fn full(mib: u32, fill: Fill) -> Volume {
     let volume = lay(filler.tree, mib, order);
     assert_eq!(volume.geometry.free_in_reach(&volume.image).count(), 0, "the volume is not full");
     volume
+}
+
+/// So many meters in directories of 1,000, at the paths of `meter`; where `full` is set, files of 1 MiB take all other blocks.
+pub fn meters(mib: u32, count: u32, full: bool) -> Vec<u8> {
+    let mut filler = Filler::new(geometry(mib).data_blocks());
+    for _ in 0..count {
+        filler.add(COUNTER);
+    }
+    if full {
+        while filler.has_room_for_two(LONG) {
+            filler.add(LONG);
+        }
+        filler.add_last();
+    }
+    lay(filler.tree, mib, Order::Rising).image
+}
+
+/// The path of a meter's file.
+pub fn meter(i: u32) -> String {
+    format!("/d{:05}/m{:05}", i / DIR_ENTRIES, i % DIR_ENTRIES)
 }
 
 fn geometry(mib: u32) -> Geometry {
@@ -156,7 +179,7 @@ fn block_for(entries: u32) -> u32 {
 
 #[cfg(test)]
 mod tests {
-    use super::{full, Fill};
+    use super::{full, meter, meters, Fill, COUNTER};
     use original_k8::K;
 
     /// That no block is free is asserted where the volume is made.
@@ -166,6 +189,17 @@ mod tests {
             let volume = full(8, fill);
             let mut work = vec![0; mfs::work_len(volume.image.len())];
             assert_eq!(mfs::check(&volume.image, K, &mut work), Ok(()));
+        }
+    }
+
+    #[test]
+    fn meters_are_at_their_paths() {
+        for is_full in [false, true] {
+            let image = meters(8, 1010, is_full);
+            for i in [0, 999, 1000, 1009] {
+                let file = mfs::open(&image, K, b"/", meter(i).as_bytes()).expect("a meter's file");
+                assert_eq!(file.size(), COUNTER);
+            }
         }
     }
 

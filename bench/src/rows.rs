@@ -1,6 +1,6 @@
 //! The rows of the table: which calls are timed, on which volumes, at which paths.
 use crate::calls::{Call, Checked, Handle, Plain, LONG, SHORT};
-use crate::images::{self, LARGE, SMALL};
+use crate::images::{self, Fill, LARGE, SMALL};
 
 /// Rows on the same volume.
 pub struct Group {
@@ -23,7 +23,7 @@ const fn checked(label: &'static str, checked: Checked, path: &'static str) -> R
 }
 
 /// The volumes are of 64 MiB where nothing else is said.
-pub const GROUPS: [Group; 6] = [
+pub static GROUPS: [Group; 8] = [
     Group { image: images::blank, rows: &[plain("format", Plain::Format, "/"), plain("usage", Plain::Usage, "/")] },
     Group {
         image: || images::directory(SMALL, 1000),
@@ -48,7 +48,17 @@ pub const GROUPS: [Group; 6] = [
             plain("open, last of 10,000 entries", Plain::Open, "/d/m09999"),
             plain("info, last of 10,000 entries", Plain::Info, "/d/m09999"),
             plain("list of 10,000 entries", Plain::List, "/d"),
+            checked("create among 10,000 entries, 64 MiB", Checked::Create, "/d/m10000"),
+            checked("delete among 10,000 entries, 64 MiB", Checked::Delete, "/d/m10000"),
         ],
+    },
+    Group {
+        image: || images::full(SMALL, Fill::Long).image,
+        rows: &[checked("write of 16 bytes in place, full volume, 64 MiB", Checked::InPlace, "/d00000/m00000")],
+    },
+    Group {
+        image: || images::full(SMALL, Fill::Short).image,
+        rows: &[checked("write of 16 bytes in place, full of short files, 64 MiB", Checked::InPlace, "/d00000/m00999")],
     },
     Group {
         image: images::deep,

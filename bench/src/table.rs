@@ -13,12 +13,13 @@ pub fn line<T: AsRef<str>>(cells: &[T]) {
     println!("| {} |", cells.join(" | "));
 }
 
-/// A time given in nanoseconds.
+/// A time given in nanoseconds. A difference of two may be below zero.
 pub fn time(nanos: f64) -> String {
-    match nanos {
-        n if n < 1e3 => format!("{} ns", three_digits(n)),
-        n if n < 1e6 => format!("{} µs", three_digits(n / 1e3)),
-        n => format!("{} ms", three_digits(n / 1e6)),
+    match nanos.abs() {
+        n if n < 1e3 => format!("{} ns", three_digits(nanos)),
+        n if n < 1e6 => format!("{} µs", three_digits(nanos / 1e3)),
+        n if n < 1e9 => format!("{} ms", three_digits(nanos / 1e6)),
+        _ => format!("{} s", three_digits(nanos / 1e9)),
     }
 }
 
@@ -45,6 +46,8 @@ mod tests {
         assert_eq!(time(12.34), "12.3 ns");
         assert_eq!(time(123_456.0), "123 µs");
         assert_eq!(time(1_234_567.0), "1.23 ms");
+        assert_eq!(time(123_298_000_000.0), "123 s");
+        assert_eq!(time(-49_487.0), "-49.5 µs");
     }
 
     #[test]

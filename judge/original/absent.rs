@@ -1,4 +1,6 @@
 //! The same calls where the original is not at hand: there is no turn, so none of them can be made.
+#![allow(clippy::result_unit_err)] // as the original has them
+
 use crate::{Info, SeekFrom};
 
 /// The right to use the original; nobody has it.

@@ -16,7 +16,7 @@ use Rattle.model.specs.Calls.{clearFrom}
 use Rattle.model.proofs.Free.{LowestClear, lowest-clear, clear-lowest}
 use Rattle.super_block.specs.declared.SuperBlock.{SuperBlock}
 use Rattle.super_block.specs.Super.{geoOf, Fit}
-use Rattle.super_block.proofs.Fits.{placed, fit-long, fit-inside}
+use Rattle.super_block.proofs.Fits.{placed, from-is, fit-long, fit-inside}
 use Rattle.bitmap_block.specs.Bitmap.{mark, marked, clears}
 use Rattle.bitmap_block.proofs.Stores.{used-marked, length-half, used-half, length-marked, clears-first, first-in}
 
@@ -25,10 +25,6 @@ pub reach-few : {s : SuperBlock} {I : List ℕ} → Fit s I → s .reach ≤ 167
 reach-few f = let p = placed f in omega arith
 
 module _ {s : SuperBlock} {I : List ℕ} {at : ℕ} (f : Fit s I) (e : at ≡ s .size * s .bitmap .0) where
-  -- the bitmap begins where the definitions have it
-  pub from-is : at ≡ blockSize (geoOf s) * mapAt (geoOf s)
-  from-is = e ∙ ap (λ (a : ℕ). s .size * a) (f .bitmap) ∙ ap (λ (z : ℕ). z * mapAt (geoOf s)) (f .size)
-
   -- the byte of an index in the data
   pub bit-place : (x : ℕ) → s .area .0 + x < s .blocks → at + x / 8 < length I
   bit-place x h = let p = placed f in omega arith
@@ -39,11 +35,11 @@ module _ {s : SuperBlock} {I : List ℕ} {at : ℕ} (f : Fit s I) (e : at ≡ s 
 
   -- the hint, said of the place that code computes
   pub hint : {y : ℕ} → AllSet I (blockSize (geoOf s) * mapAt (geoOf s)) 0 y → AllSet I at 0 y
-  hint {y} a = subst (λ (z : ℕ). AllSet I z 0 y) (sym from-is) a
+  hint {y} a = subst (λ (z : ℕ). AllSet I z 0 y) (sym (from-is f e)) a
 
   bit-is : (x : ℕ) → mark (geoOf s) I x ≡ bit I at x
   unfolding mark
-  bit-is x = ap (λ (z : ℕ). bit I z x) (sym from-is)
+  bit-is x = ap (λ (z : ℕ). bit I z x) (sym (from-is f e))
 
   -- what a search finds is the first of the clear ones
   pub first-at : {x : ℕ} {r : Found} → Lowest I at (s .reach) r → r ≡ At x → dataAt (geoOf s) + x ≡ getD (clears (geoOf s) I) 0 0

@@ -16,7 +16,7 @@ use Rattle.block.specs.Block.{cell, zeroed, Off, Kept}
 use Rattle.block.proofs.Blocks.{block-below, kept-trans, kept-less, be-kept, splice-kept, zeroed-kept, cell-zeroed}
 use Rattle.model.specs.Tree.{Tree}
 use Rattle.model.specs.Render.{blocks, count, padded, Shows}
-use Rattle.model.specs.Geometry.{mount, Geo, blockSize, mapSize, mapAt, dataAt, reach, mapBits, signature, superBytes, usedCount, Sound}
+use Rattle.model.specs.Geometry.{Geo, blockSize, mapSize, mapAt, dataAt, reach, mapBits, signature, superBytes, usedCount, Sound}
 use Rattle.model.specs.Volume.{Volume}
 use Rattle.model.specs.Calls.{freeBlocks}
 use Rattle.model.proofs.Areas.{area, few, size-large, block-inside}

@@ -98,7 +98,8 @@ pub fn alloc(img: &mut [u8], s: SuperBlock, from: Index) -> Index
     requires { ⌜ Fit s (now img) ⌝ }
     requires { ⌜ Room (geoOf s) (now img) 1 ⌝ }
     requires { ⌜ AllSet (now img) (blockSize (geoOf s) * mapAt (geoOf s)) 0 (from .0) ⌝ }
-    ensures { λ r. ⌜ (now (img .exit) ≡ taken (geoOf s) (now (img .entry)) (r .0)) × (dataAt (geoOf s) + r .0 ≡ getD (clears (geoOf s) (now (img .entry))) 0 0) ⌝ }
+    ensures { λ r. ⌜ (now (img .exit) ≡ taken (geoOf s) (now (img .entry)) (r .0))
+        × (dataAt (geoOf s) + r .0 ≡ getD (clears (geoOf s) (now (img .entry))) 0 0) ⌝ }
 {
     let x = next_free(img, s, from);
     take(img, s, x);

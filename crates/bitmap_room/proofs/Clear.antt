@@ -18,7 +18,7 @@ use Rattle.model.proofs.Free.{clear-count}
 use Rattle.super_block.specs.declared.SuperBlock.{SuperBlock}
 use Rattle.super_block.specs.Super.{geoOf, Fit}
 use Rattle.bitmap_block.specs.Bitmap.{mark, clears}
-use Rattle.bitmap_block.proofs.Answers.{from-is}
+use Rattle.super_block.proofs.Fits.{from-is}
 use Rattle.bitmap_room.specs.Search.{clearIn, bytesRead, bytesFor, Together, toldOf, roomIn}
 use Rattle.bitmap_room.specs.declared.Told.{Told}
 

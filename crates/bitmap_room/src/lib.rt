@@ -1,6 +1,6 @@
 // Whether so many indexes in reach are clear. The bitmap's bytes are read in order, and none after the byte that has the last one
-// asked for. Eight are counted together where the eighth is needed whatever they hold, since more than 64 are still to find; eight
-// full ones are passed together, each read only where those before it are full; all others are counted singly.
+// asked for. Eight are counted together where the eighth is needed whatever they hold, since more than 64 are still to find;
+// eight full ones are passed together, each read only where those before it are full; all others are counted singly.
 // (No contract can say what is not read: judge/damaged shows it, with a guard page behind the last byte.)
 use super_block::SuperBlock;
 ghost use mathlib.Core.Path.{_≡_};

@@ -14,7 +14,8 @@ pub record BlockSize (B : ℕ) : Type 0 where
   pub least : blockBytes ≤ B
   pub most : B ≤ 1024
 
--- F1, F3: the blocks that chains run in: the size of a block, the data area's first address, and the volume's end, which is none of it.
+-- F1, F3: the blocks that chains run in: the size of a block, the data area's first address, and the
+-- volume's end, which is none of it.
 pub record Area : Type 0 where
   pub size : ℕ
   pub first : ℕ

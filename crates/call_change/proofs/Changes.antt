@@ -17,7 +17,7 @@ use Rattle.limits.proofs.Numbers.{number-some, settle-refused}
 use Rattle.super_block.specs.declared.SuperBlock.{SuperBlock}
 use Rattle.super_block.specs.declared.Opened.{Opened}
 use Rattle.super_block.specs.declared.Opened.the-variants as opened
-use Rattle.super_block.specs.Super.{mountOf, geoOf, superBlock, Fit}
+use Rattle.super_block.specs.Super.{mountOf, geoOf, superBlock, Ready}
 use Rattle.super_block.proofs.Fits.{opened-fit, opened-geo}
 use Rattle.path.specs.declared.Real.{Real}
 use Rattle.path.specs.declared.Real.the-variants as real
@@ -51,9 +51,9 @@ use Rattle.limits.specs.declared.Answer.{Answer}
 use Rattle.limits.specs.declared.Answer.the-variants as answer
 use Rattle.call_volume.specs.Says.{says}
 use Rattle.call_volume.specs.Checking.{checkRefusal, CheckedIs, Checked}
-use Rattle.call_change.specs.Changing.{Ready, changeCall, createReply, createImage, freshHandle, CreatesFile, plainly, CreatesDir, Deletes, writeReply, Writes}
+use Rattle.call_change.specs.Changing.{changeCall, createReply, createImage, freshHandle, CreatesFile, plainly, CreatesDir, Deletes, writeReply, Writes}
 use Rattle.call_read.proofs.Paths.{given-none, given-some, path-taken, path-at}
-use Rattle.call_volume.proofs.Checked.{checked-opens, check-passed}
+use Rattle.call_volume.proofs.Checked.{check-passed}
 
 -- ---- the path
 
@@ -72,15 +72,6 @@ module _ (cwd p l m : List ℕ) (r : Real) (o : RealIs cwd p l m r) where
   image-at n e h F I J j =
       let s : Stores (badPath cwd p) (realPath cwd p) l m n = subst (RealIs cwd p l m) e o in
       j ∙ ap F (path-taken cwd p l m r o n e h) ∙ sym (settle-none (F (realPath cwd p)) I (when-false 4 (s .good)))
-
-pub ready-fit : (s : SuperBlock) (I : List ℕ) → Ready s I → Fit s I
-ready-fit s I h = h .fit
-
-pub ready-well : (s : SuperBlock) (I : List ℕ) → Ready s I → WellFormed (mountOf s) I
-ready-well s I h = h .well
-
-pub ready-count : (s : SuperBlock) (I : List ℕ) → Ready s I → s .blocks ≡ countAt (mountOf s) I
-ready-count s I h = h .count
 
 -- ---- the checked volume
 

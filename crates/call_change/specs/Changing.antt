@@ -5,10 +5,7 @@ use mathlib.Core.List.{List, [], _∷_}
 use Prim.Native.Nat.{ℕ}
 use lib.ListN.{length}
 use Rattle.model.specs.Answers.{Reply, accepted, andThen, firstOf, settle, given}
-use Rattle.model.specs.Geometry.{Mount, geoAt, countAt}
-use Rattle.model.specs.Volume.{WellFormed}
-use Rattle.super_block.specs.declared.SuperBlock.{SuperBlock}
-use Rattle.super_block.specs.Super.{mountOf, Fit}
+use Rattle.model.specs.Geometry.{Mount, geoAt}
 use Rattle.dir_entry.specs.declared.Kind.{Kind}
 use Rattle.dir_entry.specs.declared.Kind.the-variants.{Dir, File}
 use Rattle.path.specs.Path.{realPath, pathRefusal, lastName}
@@ -44,7 +41,8 @@ freshHandle x f = newHandle (record { 0 = f .dir }) x (record { 0 = f .block }) 
 
 -- C9: create a file at the path p, with the work buffer W: the answer o, the image J and the buffer Z.
 pub record CreatesFile (M : Mount) (I W cwd p : List ℕ) (time : ℕ) (o : OpenOut) (J Z : List ℕ) : Type 0 where
-  pub answer : OpenIs (andThen (createReply File M I (length W) cwd p) (λ f. accepted (freshHandle (lastName (realPath cwd p)) f))) o
+  pub answer : OpenIs (andThen (createReply File M I (length W) cwd p)
+      (λ f. accepted (freshHandle (lastName (realPath cwd p)) f))) o
   pub image : J ≡ createImage File M I (length W) cwd p time
   pub work : Z ≡ workAfter M I W
 
@@ -75,11 +73,3 @@ pub record Writes (M : Mount) (I W : List ℕ) (h : Handle) (buf : List ℕ) (ti
   pub handle : o .handle ≡ handleAfter h (length buf) (writeReply M I (length W) h (length buf))
   pub image : J ≡ settle (checkRefusal M I (length W)) (writtenImage (geoAt M I) I h buf time) I
   pub work : Z ≡ workAfter M I W
-
--- ---- what the inner calls ask
-
--- The struct is that of the image's own superblock, and the image is well formed: what a passed check gives.
-pub record Ready (s : SuperBlock) (I : List ℕ) : Type 0 where
-  pub fit : Fit s I
-  pub well : WellFormed (mountOf s) I
-  pub count : s .blocks ≡ countAt (mountOf s) I

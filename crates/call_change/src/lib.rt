@@ -1,5 +1,5 @@
-// The public calls that change a volume: create, delete and write, each after the whole check. Their answers for a caller are those of `mfs`,
-// which passes them on.
+// The public calls that change a volume: create, delete and write, each after the whole check. Their answers for a caller are
+// those of `mfs`, which passes them on.
 use call_read::OpenOut;
 use create::Created;
 use delete::Deleted;
@@ -16,7 +16,7 @@ ghost use mathlib.Core.Path.{_≡_};
 ghost use Prim.Native.Nat.{_≤_};
 ghost use lib.ListN.{length, take};
 ghost use Rattle.model.specs.Geometry.{mount};
-ghost use Rattle.super_block.specs.Super.{geoOf};
+ghost use Rattle.super_block.specs.Super.{geoOf, Ready};
 ghost use Rattle.model.specs.Answers.{accepted, andThen, settle, given};
 ghost use Rattle.path.specs.Path.{pathLimit, realPath, pathRefusal, lastName};
 ghost use Rattle.dir_entry.specs.declared.Kind.the-variants as kind;
@@ -24,14 +24,15 @@ ghost use Rattle.call_volume.specs.Says.{says};
 ghost use Rattle.call_read.specs.Reading.{OpenIs};
 ghost use Rattle.delete.specs.Deleting.{deletedOn, deletedImage};
 ghost use Rattle.create.specs.Creating.{createdOn, createdImage};
-ghost use Rattle.call_change.specs.Changing.{Ready, freshHandle, CreatesFile, plainly, CreatesDir, Deletes, Writes};
+ghost use Rattle.call_change.specs.Changing.{freshHandle, CreatesFile, plainly, CreatesDir, Deletes, Writes};
 
 // Creates a file at the full path full[..len] of a checked volume.
 fn create_file_full(img: &mut [u8], s: SuperBlock, full: &[u8], len: usize, time: u64) -> OpenOut
     requires { ⌜ Ready s (now img) ⌝ }
     requires { ⌜ len ≤ length (now full) ⌝ }
     requires { ⌜ length (now full) ≤ pathLimit ⌝ }
-    ensures { λ o. ⌜ OpenIs (andThen (createdOn (geoOf s) (now (img .entry)) kind.File (take len (now (full .entry)))) (λ f. accepted (freshHandle (lastName (take len (now (full .entry)))) f))) o ⌝ }
+    ensures { λ o. ⌜ OpenIs (andThen (createdOn (geoOf s) (now (img .entry)) kind.File (take len (now (full .entry))))
+        (λ f. accepted (freshHandle (lastName (take len (now (full .entry)))) f))) o ⌝ }
     ensures { λ _. ⌜ now (img .exit) ≡ createdImage (geoOf s) (now (img .entry)) kind.File (take len (now (full .entry))) time ⌝ }
 {
     let created = create::create(img, s, full, len, Kind::File, time);
@@ -44,8 +45,12 @@ fn create_file_full(img: &mut [u8], s: SuperBlock, full: &[u8], len: usize, time
 // Creates a file at a path of a checked volume.
 fn create_file_path(img: &mut [u8], s: SuperBlock, cwd: &[u8], path: &[u8], time: u64) -> OpenOut
     requires { ⌜ Ready s (now img) ⌝ }
-    ensures { λ o. ⌜ OpenIs (given (pathRefusal (now (cwd .entry)) (now (path .entry))) (andThen (createdOn (geoOf s) (now (img .entry)) kind.File (realPath (now (cwd .entry)) (now (path .entry)))) (λ f. accepted (freshHandle (lastName (realPath (now (cwd .entry)) (now (path .entry)))) f)))) o ⌝ }
-    ensures { λ _. ⌜ now (img .exit) ≡ settle (pathRefusal (now (cwd .entry)) (now (path .entry))) (createdImage (geoOf s) (now (img .entry)) kind.File (realPath (now (cwd .entry)) (now (path .entry))) time) (now (img .entry)) ⌝ }
+    ensures { λ o. ⌜ OpenIs (given (pathRefusal (now (cwd .entry)) (now (path .entry)))
+        (andThen (createdOn (geoOf s) (now (img .entry)) kind.File (realPath (now (cwd .entry)) (now (path .entry))))
+        (λ f. accepted (freshHandle (lastName (realPath (now (cwd .entry)) (now (path .entry)))) f)))) o ⌝ }
+    ensures { λ _. ⌜ now (img .exit) ≡ settle (pathRefusal (now (cwd .entry)) (now (path .entry)))
+        (createdImage (geoOf s) (now (img .entry)) kind.File (realPath (now (cwd .entry)) (now (path .entry))) time)
+        (now (img .entry)) ⌝ }
 {
     let mut full = [0u8; 1024];
     let real = path::realpath(&mut full, cwd, path);
@@ -64,7 +69,8 @@ pub fn create_file(
     time: u64,
     work: &mut [u8],
 ) -> OpenOut
-    ensures { λ o. ⌜ CreatesFile (mount k) (now (img .entry)) (now (work .entry)) (now (cwd .entry)) (now (path .entry)) time o (now (img .exit)) (now (work .exit)) ⌝ }
+    ensures { λ o. ⌜ CreatesFile (mount k) (now (img .entry)) (now (work .entry)) (now (cwd .entry)) (now (path .entry)) time o
+        (now (img .exit)) (now (work .exit)) ⌝ }
 {
     let checked = call_volume::open_checked(img, k, work);
     match checked {
@@ -76,8 +82,11 @@ pub fn create_file(
 // Creates an empty directory at a path of a checked volume.
 fn create_dir_path(img: &mut [u8], s: SuperBlock, cwd: &[u8], path: &[u8], time: u64) -> Answer
     requires { ⌜ Ready s (now img) ⌝ }
-    ensures { λ r. ⌜ says r ≡ given (pathRefusal (now (cwd .entry)) (now (path .entry))) (plainly (createdOn (geoOf s) (now (img .entry)) kind.Dir (realPath (now (cwd .entry)) (now (path .entry))))) ⌝ }
-    ensures { λ _. ⌜ now (img .exit) ≡ settle (pathRefusal (now (cwd .entry)) (now (path .entry))) (createdImage (geoOf s) (now (img .entry)) kind.Dir (realPath (now (cwd .entry)) (now (path .entry))) time) (now (img .entry)) ⌝ }
+    ensures { λ r. ⌜ says r ≡ given (pathRefusal (now (cwd .entry)) (now (path .entry)))
+        (plainly (createdOn (geoOf s) (now (img .entry)) kind.Dir (realPath (now (cwd .entry)) (now (path .entry))))) ⌝ }
+    ensures { λ _. ⌜ now (img .exit) ≡ settle (pathRefusal (now (cwd .entry)) (now (path .entry)))
+        (createdImage (geoOf s) (now (img .entry)) kind.Dir (realPath (now (cwd .entry)) (now (path .entry))) time)
+        (now (img .entry)) ⌝ }
 {
     let mut full = [0u8; 1024];
     let real = path::realpath(&mut full, cwd, path);
@@ -100,7 +109,8 @@ pub fn create_dir(
     time: u64,
     work: &mut [u8],
 ) -> Answer
-    ensures { λ r. ⌜ CreatesDir (mount k) (now (img .entry)) (now (work .entry)) (now (cwd .entry)) (now (path .entry)) time r (now (img .exit)) (now (work .exit)) ⌝ }
+    ensures { λ r. ⌜ CreatesDir (mount k) (now (img .entry)) (now (work .entry)) (now (cwd .entry)) (now (path .entry)) time r
+        (now (img .exit)) (now (work .exit)) ⌝ }
 {
     let checked = call_volume::open_checked(img, k, work);
     match checked {
@@ -112,8 +122,10 @@ pub fn create_dir(
 // Deletes the entry at a path of a checked volume.
 fn delete_path(img: &mut [u8], s: SuperBlock, cwd: &[u8], path: &[u8], time: u64) -> Answer
     requires { ⌜ Ready s (now img) ⌝ }
-    ensures { λ r. ⌜ says r ≡ given (pathRefusal (now (cwd .entry)) (now (path .entry))) (deletedOn (geoOf s) (now (img .entry)) (realPath (now (cwd .entry)) (now (path .entry)))) ⌝ }
-    ensures { λ _. ⌜ now (img .exit) ≡ settle (pathRefusal (now (cwd .entry)) (now (path .entry))) (deletedImage (geoOf s) (now (img .entry)) (realPath (now (cwd .entry)) (now (path .entry))) time) (now (img .entry)) ⌝ }
+    ensures { λ r. ⌜ says r ≡ given (pathRefusal (now (cwd .entry)) (now (path .entry)))
+        (deletedOn (geoOf s) (now (img .entry)) (realPath (now (cwd .entry)) (now (path .entry)))) ⌝ }
+    ensures { λ _. ⌜ now (img .exit) ≡ settle (pathRefusal (now (cwd .entry)) (now (path .entry)))
+        (deletedImage (geoOf s) (now (img .entry)) (realPath (now (cwd .entry)) (now (path .entry))) time) (now (img .entry)) ⌝ }
 {
     let mut full = [0u8; 1024];
     let real = path::realpath(&mut full, cwd, path);
@@ -129,7 +141,8 @@ fn delete_path(img: &mut [u8], s: SuperBlock, cwd: &[u8], path: &[u8], time: u64
 
 // Deletes the file, the device or the empty directory at a path. Refusals: 1, 2, 3, 16, 17, 4, 5, 6, 14.
 pub fn delete(img: &mut [u8], k: u32, cwd: &[u8], path: &[u8], time: u64, work: &mut [u8]) -> Answer
-    ensures { λ r. ⌜ Deletes (mount k) (now (img .entry)) (now (work .entry)) (now (cwd .entry)) (now (path .entry)) time r (now (img .exit)) (now (work .exit)) ⌝ }
+    ensures { λ r. ⌜ Deletes (mount k) (now (img .entry)) (now (work .entry)) (now (cwd .entry)) (now (path .entry)) time r
+        (now (img .exit)) (now (work .exit)) ⌝ }
 {
     let checked = call_volume::open_checked(img, k, work);
     match checked {
@@ -138,7 +151,8 @@ pub fn delete(img: &mut [u8], k: u32, cwd: &[u8], path: &[u8], time: u64, work: 
     }
 }
 
-// Writes buf at the handle's position; the file ends there. Refusals: 1, 2, 3, 16, 17, 13, 11, 10, 9; a refused write hands back the very handle.
+// Writes buf at the handle's position; the file ends there. Refusals: 1, 2, 3, 16, 17, 13, 11, 10, 9; a refused write hands back
+// the very handle.
 pub fn write(
     img: &mut [u8],
     k: u32,
@@ -147,7 +161,8 @@ pub fn write(
     time: u64,
     work: &mut [u8],
 ) -> CountedOut
-    ensures { λ o. ⌜ Writes (mount k) (now (img .entry)) (now (work .entry)) handle (now (buf .entry)) time o (now (img .exit)) (now (work .exit)) ⌝ }
+    ensures { λ o. ⌜ Writes (mount k) (now (img .entry)) (now (work .entry)) handle (now (buf .entry)) time o (now (img .exit))
+        (now (work .exit)) ⌝ }
 {
     let checked = call_volume::open_checked(img, k, work);
     match checked {

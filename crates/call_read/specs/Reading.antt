@@ -60,7 +60,8 @@ noHandle = record { dir = record { 0 = 0 }; name = zeros 255; len = 0; addr = re
 -- C4, R6, R10: an entry that is a file's, and not too long
 unfoldable pub openEntry : List ℕ → Held → Reply Handle
 openEntry x h =
-    pick (isFile (h .entry .kind)) (pick (ltb fileLimit (h .entry .size)) (refused 10) (accepted (handleFor (h .dir) (h .entry) x))) (refused 6)
+    pick (isFile (h .entry .kind)) (pick (ltb fileLimit (h .entry .size)) (refused 10)
+    (accepted (handleFor (h .dir) (h .entry) x))) (refused 6)
 
 -- at the full path l
 unfoldable pub openOn : Area → List ℕ → List ℕ → Reply Handle
@@ -96,7 +97,8 @@ aboutRoot summed.Damaged = refused 17
 
 -- P6: of the path p, whose full path is l; the root only where p is a slash and nothing else
 unfoldable pub infoOn : Area → List ℕ → List ℕ → List ℕ → Reply About
-infoOn A I l p = pick (same p (slash ∷ [])) (aboutRoot (sumFrom 0 (walk A I (A .first)))) (andThen (entryOf A I l) (aboutEntry (lastName l)))
+infoOn A I l p = pick (same p (slash ∷ [])) (aboutRoot (sumFrom 0 (walk A I (A .first))))
+    (andThen (entryOf A I l) (aboutEntry (lastName l)))
 
 unfoldable pub infoReply : Mount → List ℕ → List ℕ → List ℕ → Reply About
 infoReply M I cwd p = given (pathCall M I cwd p) (infoOn (areaAt M I) I (realPath cwd p) p)

@@ -1,4 +1,4 @@
-// The public calls that read: open, info, list, read and seek. Their answers for a caller are those of `mfs`, which passes them on.
+// The public calls that read: open, info, list, read and seek. Their answers for a caller are those of `mfs`.
 use block::Addr;
 use dir::Located;
 use dir_entry::DirEntry;
@@ -168,7 +168,10 @@ fn info_root(img: &[u8], s: SuperBlock) -> InfoOut
 // Lists the directory that begins at block a, from entry number i on.
 fn list_dir(img: &[u8], s: SuperBlock, a: Addr, i: u32, buf: &mut [u8]) -> Listing
     requires { ⌜ Fit s (now img) ⌝ }
-    ensures { λ r. ⌜ ListIs (countsOf (listFrom (length (now (buf .entry))) 0 i (skip i (walk (areaIn s) (now (img .entry)) (a .0))))) (recordsFrom (length (now (buf .entry))) 0 (skip i (walk (areaIn s) (now (img .entry)) (a .0)))) (now (buf .entry)) (now (buf .exit)) r ⌝ }
+    ensures { λ r. ⌜ ListIs (countsOf (listFrom (length (now (buf .entry))) 0 i
+        (skip i (walk (areaIn s) (now (img .entry)) (a .0)))))
+        (recordsFrom (length (now (buf .entry))) 0 (skip i (walk (areaIn s) (now (img .entry)) (a .0)))) (now (buf .entry))
+        (now (buf .exit)) r ⌝ }
 {
     let l = read_dir::list(img, s, a, i, buf);
     match l {
@@ -194,7 +197,8 @@ fn open_full(img: &[u8], s: SuperBlock, full: &[u8], len: usize) -> OpenOut
 // The file at a path.
 fn open_path(img: &[u8], s: SuperBlock, cwd: &[u8], path: &[u8]) -> OpenOut
     requires { ⌜ Fit s (now img) ⌝ }
-    ensures { λ o. ⌜ OpenIs (given (pathRefusal (now (cwd .entry)) (now (path .entry))) (openOn (areaIn s) (now (img .entry)) (realPath (now (cwd .entry)) (now (path .entry))))) o ⌝ }
+    ensures { λ o. ⌜ OpenIs (given (pathRefusal (now (cwd .entry)) (now (path .entry)))
+        (openOn (areaIn s) (now (img .entry)) (realPath (now (cwd .entry)) (now (path .entry))))) o ⌝ }
 {
     let mut full = [0u8; 1024];
     let real = path::realpath(&mut full, cwd, path);
@@ -220,7 +224,8 @@ fn info_full(img: &[u8], s: SuperBlock, full: &[u8], len: usize) -> InfoOut
     requires { ⌜ Fit s (now img) ⌝ }
     requires { ⌜ len ≤ length (now full) ⌝ }
     requires { ⌜ length (now full) ≤ pathLimit ⌝ }
-    ensures { λ o. ⌜ InfoIs (andThen (entryOf (areaIn s) (now (img .entry)) (take len (now (full .entry)))) (aboutEntry (lastName (take len (now (full .entry)))))) o ⌝ }
+    ensures { λ o. ⌜ InfoIs (andThen (entryOf (areaIn s) (now (img .entry)) (take len (now (full .entry))))
+        (aboutEntry (lastName (take len (now (full .entry)))))) o ⌝ }
 {
     let found = dir::find(img, s, full, len);
     match found {
@@ -232,7 +237,8 @@ fn info_full(img: &[u8], s: SuperBlock, full: &[u8], len: usize) -> InfoOut
 // What stands at a path; the path `/` itself is the root.
 fn info_path(img: &[u8], s: SuperBlock, cwd: &[u8], path: &[u8]) -> InfoOut
     requires { ⌜ Fit s (now img) ⌝ }
-    ensures { λ o. ⌜ InfoIs (given (pathRefusal (now (cwd .entry)) (now (path .entry))) (infoOn (areaIn s) (now (img .entry)) (realPath (now (cwd .entry)) (now (path .entry))) (now (path .entry)))) o ⌝ }
+    ensures { λ o. ⌜ InfoIs (given (pathRefusal (now (cwd .entry)) (now (path .entry)))
+        (infoOn (areaIn s) (now (img .entry)) (realPath (now (cwd .entry)) (now (path .entry))) (now (path .entry)))) o ⌝ }
 {
     let mut full = [0u8; 1024];
     let real = path::realpath(&mut full, cwd, path);
@@ -263,7 +269,9 @@ fn list_full(img: &[u8], s: SuperBlock, full: &[u8], len: usize, i: u32, buf: &m
     requires { ⌜ Fit s (now img) ⌝ }
     requires { ⌜ len ≤ length (now full) ⌝ }
     requires { ⌜ length (now full) ≤ pathLimit ⌝ }
-    ensures { λ r. ⌜ ListIs (listOn (areaIn s) (now (img .entry)) (take len (now (full .entry))) i (length (now (buf .entry)))) (recordsOn (areaIn s) (now (img .entry)) (take len (now (full .entry))) i (length (now (buf .entry)))) (now (buf .entry)) (now (buf .exit)) r ⌝ }
+    ensures { λ r. ⌜ ListIs (listOn (areaIn s) (now (img .entry)) (take len (now (full .entry))) i (length (now (buf .entry))))
+        (recordsOn (areaIn s) (now (img .entry)) (take len (now (full .entry))) i (length (now (buf .entry))))
+        (now (buf .entry)) (now (buf .exit)) r ⌝ }
 {
     let opened = dir::open(img, s, full, len);
     match opened {
@@ -275,7 +283,10 @@ fn list_full(img: &[u8], s: SuperBlock, full: &[u8], len: usize, i: u32, buf: &m
 // Lists the directory at a path.
 fn list_path(img: &[u8], s: SuperBlock, cwd: &[u8], path: &[u8], i: u32, buf: &mut [u8]) -> Listing
     requires { ⌜ Fit s (now img) ⌝ }
-    ensures { λ r. ⌜ ListIs (given (pathRefusal (now (cwd .entry)) (now (path .entry))) (listOn (areaIn s) (now (img .entry)) (realPath (now (cwd .entry)) (now (path .entry))) i (length (now (buf .entry))))) (recordsOn (areaIn s) (now (img .entry)) (realPath (now (cwd .entry)) (now (path .entry))) i (length (now (buf .entry)))) (now (buf .entry)) (now (buf .exit)) r ⌝ }
+    ensures { λ r. ⌜ ListIs (given (pathRefusal (now (cwd .entry)) (now (path .entry)))
+        (listOn (areaIn s) (now (img .entry)) (realPath (now (cwd .entry)) (now (path .entry))) i (length (now (buf .entry)))))
+        (recordsOn (areaIn s) (now (img .entry)) (realPath (now (cwd .entry)) (now (path .entry))) i
+        (length (now (buf .entry)))) (now (buf .entry)) (now (buf .exit)) r ⌝ }
 {
     let mut full = [0u8; 1024];
     let real = path::realpath(&mut full, cwd, path);
@@ -287,7 +298,8 @@ fn list_path(img: &[u8], s: SuperBlock, cwd: &[u8], path: &[u8], i: u32, buf: &m
 
 // Lists the directory at a path from entry number i on, into buf. Refusals: 1, 2, 3, 4, 5, 6, 17.
 pub fn list(img: &[u8], k: u32, cwd: &[u8], path: &[u8], i: u32, buf: &mut [u8]) -> Listing
-    ensures { λ r. ⌜ Lists (mount k) (now (img .entry)) (now (cwd .entry)) (now (path .entry)) i (now (buf .entry)) r (now (buf .exit)) ⌝ }
+    ensures { λ r. ⌜ Lists (mount k) (now (img .entry)) (now (cwd .entry)) (now (path .entry)) i (now (buf .entry)) r
+        (now (buf .exit)) ⌝ }
 {
     let opened = SuperBlock::read(img, k);
     match opened {

@@ -89,7 +89,7 @@ opened-is M I p s o e = subst (OpenedIs M I) e o
 
 -- ---- what the number means
 
-pub checked-opens : (M : Mount) (I : List ℕ) (len : ℕ) → checkRefusal M I len ≡ 0 → openRefusal M I ≡ 0
+checked-opens : (M : Mount) (I : List ℕ) (len : ℕ) → checkRefusal M I len ≡ 0 → openRefusal M I ≡ 0
 unfolding checkRefusal checkCall
 checked-opens M I len e = first-of-zero _ _ (first-of-zero _ _ e .0) .0
 

@@ -29,7 +29,8 @@ workAfter M I W = settle (checkCall M I (length W)) (splice W 0 (zeros (markLong
 -- O4, R17, S7: success exactly where W1 to W5 hold and nothing was given before; else what was given, or 17.
 abbrev pub Decides : Mount → List ℕ → ℕ → Answer → Type 0
 Decides M I len answer.Success = (checkCall M I len ≡ 0) × WellFormed M I
-Decides M I len (answer.Refused r) = (refusalNumber r ≡ firstOf (checkCall M I len ∷ (17 ∷ []))) × (checkCall M I len ≡ 0 → WellFormed M I → ⊥)
+Decides M I len (answer.Refused r) = (refusalNumber r ≡ firstOf (checkCall M I len ∷ (17 ∷ [])))
+    × (checkCall M I len ≡ 0 → WellFormed M I → ⊥)
 
 -- The check of image I with the work buffer W: the answer r, and the buffer Z.
 pub record Checks (M : Mount) (I W : List ℕ) (r : Answer) (Z : List ℕ) : Type 0 where

@@ -105,8 +105,8 @@ pub fn open_checked(img: &[u8], k: u32, work: &mut [u8]) -> Opened
     }
 }
 
-// Whether the image is a well-formed volume, W1 to W5. One bit a block is marked in the work buffer, and is zero again afterwards.
-// Refusals: 1, 2, 3, 16, 17.
+// Whether the image is a well-formed volume, W1 to W5. One bit a block is marked in the work buffer, and is zero again
+// afterwards. Refusals: 1, 2, 3, 16, 17.
 pub fn check(img: &[u8], k: u32, work: &mut [u8]) -> Answer
     ensures { λ r. ⌜ Checks (mount k) (now (img .entry)) (now (work .entry)) r (now (work .exit)) ⌝ }
 {

@@ -16,7 +16,7 @@ use Rattle.block.specs.Block.{Area}
 use Rattle.model.specs.Geometry.{Geo, blockSize, mapSize, mapAt, rest, dataAt, mapBits, setBits, usedCount}
 use Rattle.super_block.specs.declared.SuperBlock.{SuperBlock}
 use Rattle.super_block.specs.Super.{areaIn, geoOf, Fit}
-use Rattle.super_block.proofs.Fits.{placed, area-is, area-inside, few-blocks}
+use Rattle.super_block.proofs.Fits.{placed, from-is, area-is, area-inside, few-blocks}
 use Rattle.check_bitmap.specs.Tally.{markBytes, mapFrom, mapLong, markLong, agreed}
 
 -- ---- the rest of the superblock
@@ -34,11 +34,7 @@ rest-tested I B k at r e f = f ∙ ap (λ (x : ℕ). zeroFrom I (x + 18) (B - 18
 
 -- ---- the areas
 
--- the bitmap begins where the definitions have it
-from-is : {s : SuperBlock} {I : List ℕ} {at : ℕ} → Fit s I → at ≡ s .size * s .bitmap .0 → at ≡ mapFrom (geoOf s)
-from-is {s} f e = e ∙ ap (λ (a : ℕ). s .size * a) (f .bitmap) ∙ ap (λ (z : ℕ). z * mapAt (geoOf s)) (f .size)
-
--- and is as long
+-- the bitmap is as long as the definitions have it
 long-is : {s : SuperBlock} {I : List ℕ} → Fit s I → s .size * (s .area .0 - s .bitmap .0) ≡ mapLong (geoOf s)
 long-is f = λ i. f .size i * (f .area i - f .bitmap i)
 

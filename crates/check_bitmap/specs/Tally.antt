@@ -23,4 +23,6 @@ markLong g = markBytes (areaOf g)
 
 -- W5: the bitmap of I has the marks W, which are those of the blocks that were reached, then zeros.
 unfoldable pub agreed : Geo → List ℕ → List ℕ → Bool
-agreed g I W = same (take (markLong g) (drop (mapFrom g) I)) (take (markLong g) W) && zeroFrom I (mapFrom g + markLong g) (mapLong g - markLong g)
+agreed g I W =
+    same (take (markLong g) (drop (mapFrom g) I)) (take (markLong g) W)
+    && zeroFrom I (mapFrom g + markLong g) (mapLong g - markLong g)

@@ -56,7 +56,8 @@ pub fn agrees(img: &[u8], s: SuperBlock, work: &[u8]) -> bool
 // W5: whether the used count is the true one.
 pub fn count_right(img: &[u8], s: SuperBlock) -> bool
     requires { ⌜ Fit s (now img) ⌝ }
-    ensures { λ r. ⌜ r ≡ eqb (usedCount (geoOf s) (now (img .entry))) (dataAt (geoOf s) + setBits (now (img .entry)) (geoOf s)) ⌝ }
+    ensures { λ r. ⌜ r ≡ eqb (usedCount (geoOf s) (now (img .entry)))
+        (dataAt (geoOf s) + setBits (now (img .entry)) (geoOf s)) ⌝ }
 {
     let a = s.bitmap;
     let d = s.area;

@@ -42,7 +42,9 @@ pub fn claim(work: &mut [u8], s: SuperBlock, a: Addr) -> bool
 fn cells(img: &[u8], work: &mut [u8], s: SuperBlock, a: Addr, k: u32) -> bool
     requires { ⌜ Fit s (now img) ⌝ }
     requires { ⌜ markBytes (areaIn s) ≤ length (now work) ⌝ }
-    ensures { λ r. ⌜ MarksAnswer (areaIn s) (λ seen. seenOf (cellsOf (areaIn s) (now (img .entry)) k (a .0) seen)) (now (work .entry)) (now (work .exit)) r ⌝ }
+    ensures { λ r. ⌜ MarksAnswer (areaIn s)
+        (λ seen. seenOf (cellsOf (areaIn s) (now (img .entry)) k (a .0) seen))
+        (now (work .entry)) (now (work .exit)) r ⌝ }
 {
     let mut b = a;
     let mut left = k;
@@ -63,7 +65,10 @@ fn cells(img: &[u8], work: &mut [u8], s: SuperBlock, a: Addr, k: u32) -> bool
 pub fn file_chain(img: &[u8], work: &mut [u8], s: SuperBlock, a: Addr, size: u32) -> bool
     requires { ⌜ Fit s (now img) ⌝ }
     requires { ⌜ markBytes (areaIn s) ≤ length (now work) ⌝ }
-    ensures { λ r. ⌜ MarksAnswer (areaIn s) (λ seen. pick (leb size fileLimit) (seenOf (cellsOf (areaIn s) (now (img .entry)) (blocksFor (s .size) size) (a .0) seen)) none) (now (work .entry)) (now (work .exit)) r ⌝ }
+    ensures { λ r. ⌜ MarksAnswer (areaIn s)
+        (λ seen. pick (leb size fileLimit)
+        (seenOf (cellsOf (areaIn s) (now (img .entry)) (blocksFor (s .size) size) (a .0) seen)) none)
+        (now (work .entry)) (now (work .exit)) r ⌝ }
 {
     if limits::FILE_LIMIT < size {
         return false;
@@ -75,7 +80,9 @@ pub fn file_chain(img: &[u8], work: &mut [u8], s: SuperBlock, a: Addr, size: u32
 pub fn chain(img: &[u8], work: &mut [u8], s: SuperBlock, a: Addr) -> bool
     requires { ⌜ Fit s (now img) ⌝ }
     requires { ⌜ markBytes (areaIn s) ≤ length (now work) ⌝ }
-    ensures { λ r. ⌜ MarksAnswer (areaIn s) (λ seen. seenOf (chainOf (areaIn s) (now (img .entry)) (s .blocks - s .area .0) (a .0) seen)) (now (work .entry)) (now (work .exit)) r ⌝ }
+    ensures { λ r. ⌜ MarksAnswer (areaIn s)
+        (λ seen. seenOf (chainOf (areaIn s) (now (img .entry)) (s .blocks - s .area .0) (a .0) seen))
+        (now (work .entry)) (now (work .exit)) r ⌝ }
 {
     let d = s.area;
     let mut b = a;

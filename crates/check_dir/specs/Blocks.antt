@@ -29,4 +29,5 @@ mayStand later held.Entries = true
 module _ (A : Area) (I : List ℕ) where
   -- Block a is claimed, and what it holds may stand there.
   unfoldable pub blockCheck : Bool → ℕ → List ℕ → Option (List ℕ)
-  blockCheck later a seen = then (claim A I a seen) (λ s. pick (mayStand later (heldAt 0 (rawsFrom (A .size) I (A .size) a 0))) (some s) none)
+  blockCheck later a seen = then (claim A I a seen)
+      (λ s. pick (mayStand later (heldAt 0 (rawsFrom (A .size) I (A .size) a 0))) (some s) none)

@@ -88,7 +88,8 @@ fn holding(img: &[u8], size: u32, a: Addr) -> Held
 fn block(img: &[u8], work: &mut [u8], s: SuperBlock, a: Addr, later: bool) -> bool
     requires { ⌜ Fit s (now img) ⌝ }
     requires { ⌜ markBytes (areaIn s) ≤ length (now work) ⌝ }
-    ensures { λ r. ⌜ MarksAnswer (areaIn s) (blockCheck (areaIn s) (now (img .entry)) later (a .0)) (now (work .entry)) (now (work .exit)) r ⌝ }
+    ensures { λ r. ⌜ MarksAnswer (areaIn s) (blockCheck (areaIn s) (now (img .entry)) later (a .0))
+        (now (work .entry)) (now (work .exit)) r ⌝ }
     ensures { λ r. ⌜ Inside (areaIn s) (a .0) r ⌝ }
 {
     if !check_chain::claim(work, s, a) {
@@ -105,7 +106,9 @@ fn block(img: &[u8], work: &mut [u8], s: SuperBlock, a: Addr, later: bool) -> bo
 fn later(img: &[u8], work: &mut [u8], s: SuperBlock, a: Addr, k: u32) -> bool
     requires { ⌜ Fit s (now img) ⌝ }
     requires { ⌜ markBytes (areaIn s) ≤ length (now work) ⌝ }
-    ensures { λ r. ⌜ MarksAnswer (areaIn s) (λ seen. seenOf (laterOf (areaIn s) (now (img .entry)) k (a .0) seen)) (now (work .entry)) (now (work .exit)) r ⌝ }
+    ensures { λ r. ⌜ MarksAnswer (areaIn s)
+        (λ seen. seenOf (laterOf (areaIn s) (now (img .entry)) k (a .0) seen))
+        (now (work .entry)) (now (work .exit)) r ⌝ }
 {
     let mut b = a;
     let mut left = k;
@@ -126,7 +129,9 @@ fn later(img: &[u8], work: &mut [u8], s: SuperBlock, a: Addr, k: u32) -> bool
 fn blocks(img: &[u8], work: &mut [u8], s: SuperBlock, a: Addr) -> bool
     requires { ⌜ Fit s (now img) ⌝ }
     requires { ⌜ markBytes (areaIn s) ≤ length (now work) ⌝ }
-    ensures { λ r. ⌜ MarksAnswer (areaIn s) (λ seen. seenOf (blocksOf (areaIn s) (now (img .entry)) (a .0) seen)) (now (work .entry)) (now (work .exit)) r ⌝ }
+    ensures { λ r. ⌜ MarksAnswer (areaIn s)
+        (λ seen. seenOf (blocksOf (areaIn s) (now (img .entry)) (a .0) seen))
+        (now (work .entry)) (now (work .exit)) r ⌝ }
 {
     if !block(img, work, s, a, false) {
         return false;
@@ -146,7 +151,9 @@ pub fn open_dir(img: &[u8], work: &mut [u8], filter: &mut [u8], s: SuperBlock, a
     requires { ⌜ Fit s (now img) ⌝ }
     requires { ⌜ markBytes (areaIn s) ≤ length (now work) ⌝ }
     requires { ⌜ now filter ≡ clear ⌝ }
-    ensures { λ r. ⌜ MarksAnswer (areaIn s) (λ seen. seenOf (openDir (areaIn s) (now (img .entry)) (a .0) seen)) (now (work .entry)) (now (work .exit)) r ⌝ }
+    ensures { λ r. ⌜ MarksAnswer (areaIn s)
+        (λ seen. seenOf (openDir (areaIn s) (now (img .entry)) (a .0) seen))
+        (now (work .entry)) (now (work .exit)) r ⌝ }
     ensures { λ _. ⌜ now (filter .exit) ≡ now (filter .entry) ⌝ }
 {
     if !blocks(img, work, s, a) {

@@ -1,11 +1,12 @@
 -- How `earlier`, `tested` and `forget` go along a walk, one step at a time.
 use mathlib.Core.Path.{_≡_, refl, sym, ap, _∙_, subst}
-use mathlib.Core.Bool.{Bool, true, false, _&&_}
+use mathlib.Core.Bool.{Bool, true, false, not, _&&_}
 use mathlib.Core.List.{List, [], _∷_, _++_, append-nil}
 use Prim.Native.Nat.{ℕ, _+_, _-_, _^_, _≤_, _<_}
 use native.Mathlib.Omega.{arith}
 use lib.ListN.{take, drop, take-append-drop}
 use lib.Seq.{take-add, drop-drop}
+use borrow.Author.Tests.{not-true, not-false}
 use Rattle.wire.specs.Pick.{same}
 use Rattle.block.specs.declared.Addr.{Addr}
 use Rattle.block.specs.Block.{Area}
@@ -23,34 +24,35 @@ use Rattle.read_dir.specs.declared.Step.{Step}
 use Rattle.read_dir.specs.declared.Step.the-variants as step
 use Rattle.read_dir.proofs.Along.{start-walk, count-again}
 use Rattle.read_dir.proofs.Sizes.{count-fits}
-use Rattle.check_names.specs.Names.{oneOf, distinct, namesIn, ends}
-use Rattle.check_names.specs.Filter.{hashOf, clear, noted, wiped, Covers, Only}
-use Rattle.check_names.proofs.Among.{search-hit, search-miss, search-end, search-none, and-false, distinct-hit, distinct-more}
+use Rattle.check_names.specs.Names.{oneOf, namesIn, ends}
+use Rattle.check_names.specs.Filter.{hashOf, metIn, distinctIn, clear, notedIn, wiped, CoversPart, Only}
+use Rattle.check_names.proofs.Among.{search-hit, search-miss, search-end, search-none, and-false}
+use Rattle.check_names.proofs.Parts.{part-hit, part-more}
 use Rattle.check_names.proofs.Marks.{clear-covers, clear-within, covers-more, within-more, within-all, within-wiped, within-none}
 
 -- ---- what the test has met: the first i names of the walk w, of which v is left
 
-pub record Met (F : List ℕ) (i : ℕ) (w v : Walk) : Type 0 where
+pub record Met (F : List ℕ) (m k i : ℕ) (w v : Walk) : Type 0 where
   pub left : namesIn v ≡ drop i (namesIn w)
   pub ending : ends v ≡ ends w
-  pub apart : distinct (take i (namesIn w)) ≡ true
-  pub covers : Covers F (take i (namesIn w))
+  pub apart : distinctIn m k (take i (namesIn w)) ≡ true
+  pub covers : CoversPart F (take i (namesIn w)) m k
   pub within : Only F (take i (namesIn w))
   pub few : i + items v < 2 ^ 32
 
-pub met-within : (F : List ℕ) (i : ℕ) (w v : Walk) → Met F i w v → Only F (namesIn w)
-met-within F i w v m = within-all F i (namesIn w) (m .within)
+pub met-within : (F : List ℕ) (m k i : ℕ) (w v : Walk) → Met F m k i w v → Only F (namesIn w)
+met-within F m k i w v d = within-all F i (namesIn w) (d .within)
 
-pub met-start : (s : SuperBlock) (I F : List ℕ) (c : ReadDir) (dir : Addr) → Fit s I → F ≡ clear → c ≡ start (areaIn s) dir
-    → Met F 0 (walk (areaIn s) I (dir .0)) (cursorWalk (areaIn s) I c)
-unfolding distinct
-met-start s I F c dir f e b =
+pub met-start : (s : SuperBlock) (I F : List ℕ) (m k : ℕ) (c : ReadDir) (dir : Addr)
+    → Fit s I → F ≡ clear → c ≡ start (areaIn s) dir → Met F m k 0 (walk (areaIn s) I (dir .0)) (cursorWalk (areaIn s) I c)
+unfolding distinctIn
+met-start s I F m k c dir f e b =
     let q : cursorWalk (areaIn s) I c ≡ walk (areaIn s) I (dir .0) = start-walk (areaIn s) I c dir b in
     record {
       left = ap namesIn q;
       ending = ap ends q;
       apart = refl;
-      covers = clear-covers F;
+      covers = clear-covers F m k;
       within = clear-within F [] e;
       few = omega (arith, ap items q, count-fits (areaIn s) I (dir .0) (placed f .bytes));
     }
@@ -109,28 +111,29 @@ module _ (A : Area) (I : List ℕ) (c : ReadDir) (m : Step) (g : Stepped A I c m
 
   -- ---- tested
 
-  module _ (F : List ℕ) (i : ℕ) (w : Walk) (v : Met F i w (cursorWalk A I c)) where
+  module _ (F : List ℕ) (n k i : ℕ) (w : Walk) (v : Met F n k i w (cursorWalk A I c)) where
     -- all names are met
-    at-end : namesIn (cursorWalk A I c) ≡ [] → distinct (namesIn w) ≡ true
+    at-end : namesIn (cursorWalk A I c) ≡ [] → distinctIn n k (namesIn w) ≡ true
     at-end z =
         let t : take i (namesIn w) ≡ namesIn w
         = sym (append-nil (take i (namesIn w))) ∙ ap (λ (ys : List Name). take i (namesIn w) ++ ys) (sym z ∙ v .left) ∙ take-append-drop i (namesIn w) in
-        ap distinct (sym t) ∙ v .apart
+        ap (distinctIn n k) (sym t) ∙ v .apart
 
-    pub tested-end : m ≡ step.End → true ≡ (ends w && distinct (namesIn w))
+    pub tested-end : m ≡ step.End → true ≡ (ends w && distinctIn n k (namesIn w))
     unfolding ends
     tested-end q =
         let t : ends w ≡ true = sym (v .ending) ∙ ap ends (gave step.End q) in
-        sym (ap (λ (b : Bool). b && distinct (namesIn w)) t ∙ at-end (names-end q))
+        sym (ap (λ (b : Bool). b && distinctIn n k (namesIn w)) t ∙ at-end (names-end q))
 
-    pub tested-bad : m ≡ step.Damaged → false ≡ (ends w && distinct (namesIn w))
+    pub tested-bad : m ≡ step.Damaged → false ≡ (ends w && distinctIn n k (namesIn w))
     unfolding ends
     tested-bad q =
         let t : ends w ≡ false = sym (v .ending) ∙ ap ends (gave step.Damaged q) in
-        sym (ap (λ (b : Bool). b && distinct (namesIn w)) t)
+        sym (ap (λ (b : Bool). b && distinctIn n k (namesIn w)) t)
 
-    -- at a name
-    module _ (e : DirEntry) (p : Place) (d : ReadDir) (x : Name) (q : m ≡ step.Entry e p d) (a : x ≡ nameAt I (placeAt (A .size) (p .block .0) (p .offset)) (e .len)) where
+    -- at a name, after which the filter is G
+    module _ (e : DirEntry) (p : Place) (d : ReadDir) (x : Name) (G : List ℕ) (q : m ≡ step.Entry e p d)
+        (a : x ≡ nameAt I (placeAt (A .size) (p .block .0) (p .offset)) (e .len)) (f : G ≡ notedIn F x n k) where
       rest : drop i (namesIn w) ≡ x ∷ namesIn (cursorWalk A I d)
       rest = sym (v .left) ∙ names-item e p d q ∙ ap (λ (y : Name). y ∷ namesIn (cursorWalk A I d)) (sym a)
 
@@ -140,22 +143,39 @@ module _ (A : Area) (I : List ℕ) (c : ReadDir) (m : Step) (g : Stepped A I c m
       one-more : take (i + 1) (namesIn w) ≡ take i (namesIn w) ++ (x ∷ [])
       one-more = take-add i 1 (namesIn w) ∙ ap (λ (ys : List Name). take i (namesIn w) ++ take 1 ys) rest
 
-      pub tested-hit : (t : Bool) → t ≡ oneOf x (take i (namesIn w)) → t ≡ true → false ≡ (ends w && distinct (namesIn w))
-      tested-hit t o k =
-          sym (and-false (ends w) (distinct (namesIn w)) (ap distinct (sym parts) ∙ distinct-hit (take i (namesIn w)) x (namesIn (cursorWalk A I d)) (sym o ∙ k)))
+      next-covers : CoversPart G (take (i + 1) (namesIn w)) n k
+      next-covers =
+          subst (λ (ys : List Name). CoversPart G ys n k) (sym one-more)
+          (subst (λ (H : List ℕ). CoversPart H (take i (namesIn w) ++ (x ∷ [])) n k) (sym f)
+          (covers-more F (take i (namesIn w)) x n k (v .within .long) (v .covers)))
 
-      pub tested-again : (h : ℕ) (G : List ℕ) (t : Bool) → t ≡ oneOf x (take i (namesIn w)) → t ≡ false → h ≡ hashOf x → G ≡ noted F h
-          → Met G (i + 1) w (cursorWalk A I d)
-      tested-again h G t o k u f =
-          let z : G ≡ noted F (hashOf x) = f ∙ ap (noted F) u in
-          record {
-            left = sym (ap (drop 1) rest) ∙ drop-drop 1 i (namesIn w);
-            ending = sym (ends-item e p d q) ∙ v .ending;
-            apart = ap distinct one-more ∙ distinct-more (take i (namesIn w)) x (v .apart) (sym o ∙ k);
-            covers = subst (Covers G) (sym one-more) (subst (λ (y : List ℕ). Covers y (take i (namesIn w) ++ (x ∷ []))) (sym z) (covers-more F (take i (namesIn w)) x (v .within .long) (v .covers)));
-            within = subst (Only G) (sym one-more) (subst (λ (y : List ℕ). Only y (take i (namesIn w) ++ (x ∷ []))) (sym z) (within-more F (take i (namesIn w)) x (v .within)));
-            few = count-again A I c m g i e p d (v .few) q;
-          }
+      next-within : Only G (take (i + 1) (namesIn w))
+      next-within =
+          subst (Only G) (sym one-more)
+          (subst (λ (H : List ℕ). Only H (take i (namesIn w) ++ (x ∷ []))) (sym f)
+          (within-more F (take i (namesIn w)) x n k (v .within)))
+
+      pub tested-within : Only G (namesIn w)
+      tested-within = within-all G (i + 1) (namesIn w) next-within
+
+      module _ (t : Bool) (o : t ≡ not (metIn n k x (take i (namesIn w)))) where
+        pub tested-hit : t ≡ false → false ≡ (ends w && distinctIn n k (namesIn w))
+        tested-hit z =
+            let u : metIn n k x (take i (namesIn w)) ≡ true = not-false (metIn n k x (take i (namesIn w))) (sym o ∙ z) in
+            sym (and-false (ends w) (distinctIn n k (namesIn w))
+            (ap (distinctIn n k) (sym parts) ∙ part-hit n k (take i (namesIn w)) x (namesIn (cursorWalk A I d)) u))
+
+        pub tested-again : t ≡ true → Met G n k (i + 1) w (cursorWalk A I d)
+        tested-again z =
+            let u : metIn n k x (take i (namesIn w)) ≡ false = not-true (metIn n k x (take i (namesIn w))) (sym o ∙ z) in
+            record {
+              left = sym (ap (drop 1) rest) ∙ drop-drop 1 i (namesIn w);
+              ending = sym (ends-item e p d q) ∙ v .ending;
+              apart = ap (distinctIn n k) one-more ∙ part-more n k (take i (namesIn w)) x (v .apart) u;
+              covers = next-covers;
+              within = next-within;
+              few = count-again A I c m g i e p d (v .few) q;
+            }
 
   -- ---- forget
 

@@ -1,18 +1,17 @@
--- The laws of `oneOf` and `distinct`: names among others.
+-- The laws of `oneOf`: a name among others.
 use mathlib.Core.Path.{_≡_, refl, sym, ap, _∙_}
-use mathlib.Core.Bool.{Bool, true, false, not, _&&_}
+use mathlib.Core.Bool.{Bool, true, false, _&&_}
 use mathlib.Core.Logic.{_⊎_, inl, inr}
 use mathlib.Core.List.{List, [], _∷_, _++_}
 use Prim.Native.Nat.{ℕ, zero, suc, _-_, _<_}
 use native.Mathlib.Omega.{arith}
 use lib.ListN.{take, drop, take-append-drop}
 use lib.Seq.{take-nil}
-use borrow.Author.Tests.{not-true}
 use Rattle.wire.specs.Pick.{same}
-use Rattle.wire.proofs.Picks.{either, not-both, same-refl, same-eq, and-both}
+use Rattle.wire.proofs.Picks.{either, not-both, same-refl, same-eq}
 use Rattle.model.specs.Tree.{Name, any}
 use Rattle.model.proofs.Lists.{any-here, any-there}
-use Rattle.check_names.specs.Names.{oneOf, distinct}
+use Rattle.check_names.specs.Names.{oneOf}
 
 -- a test that is not true
 pub not-so : (b : Bool) → (b ≡ true → ⊥) → b ≡ false
@@ -31,7 +30,7 @@ unfolding oneOf any
 none-of-none x = refl
 
 module _ (x y : Name) (ys : List Name) where
-  one-here : same x y ≡ true → oneOf x (y ∷ ys) ≡ true
+  pub one-here : same x y ≡ true → oneOf x (y ∷ ys) ≡ true
   unfolding oneOf
   one-here e = any-here (same x) y ys e
 
@@ -39,7 +38,7 @@ module _ (x y : Name) (ys : List Name) where
   unfolding oneOf
   one-there e = any-there (same x) y ys e
 
-  one-later : oneOf x ys ≡ true → oneOf x (y ∷ ys) ≡ true
+  pub one-later : oneOf x ys ≡ true → oneOf x (y ∷ ys) ≡ true
   one-later t = go (either (same x y))
     where
       go : (same x y ≡ true) ⊎ (same x y ≡ false) → oneOf x (y ∷ ys) ≡ true
@@ -109,34 +108,8 @@ module _ (x : Name) where
   pub search-none : (k : ℕ) (ys : List Name) → k ≡ 0 → oneOf x (take k ys) ≡ false
   search-none k ys z = ap (λ (j : ℕ). oneOf x (take j ys)) z ∙ none-of-none x
 
--- ---- distinct
+-- ---- tests
 
 pub and-false : (a b : Bool) → b ≡ false → (a && b) ≡ false
 and-false true b e = e
 and-false false b e = refl
-
--- a name that was there before
-pub distinct-hit : (ps : List Name) (x : Name) (rest : List Name) → oneOf x ps ≡ true → distinct (ps ++ x ∷ rest) ≡ false
-unfolding distinct
-distinct-hit [] x rest t = absurd (not-both t (none-of-none x))
-distinct-hit (p ∷ ps) x rest t = go (one-cases x p ps t) (distinct-hit ps x rest)
-  where
-    go : (x ≡ p) ⊎ (oneOf x ps ≡ true) → (oneOf x ps ≡ true → distinct (ps ++ x ∷ rest) ≡ false) → distinct (p ∷ (ps ++ x ∷ rest)) ≡ false
-    go (inl e) r =
-        let t : oneOf p (ps ++ x ∷ rest) ≡ true = one-second p ps (x ∷ rest) (one-here p x rest (ap (same p) e ∙ same-refl p)) in
-        ap (λ (b : Bool). not b && distinct (ps ++ x ∷ rest)) t
-    go (inr e) r = and-false (not (oneOf p (ps ++ x ∷ rest))) (distinct (ps ++ x ∷ rest)) (r e)
-
--- a name more that was not
-pub distinct-more : (ps : List Name) (x : Name) → distinct ps ≡ true → oneOf x ps ≡ false → distinct (ps ++ (x ∷ [])) ≡ true
-unfolding distinct
-distinct-more [] x d f = ap (λ (b : Bool). not b && true) (none-of-none x)
-distinct-more (p ∷ ps) x d f =
-    let q = and-both (not (oneOf p ps)) (distinct ps) d in
-    let other : same x p ≡ true → ⊥ = λ e. not-both (one-here x p ps e) f in
-    let fresh : oneOf x ps ≡ false = not-so (oneOf x ps) (λ e. not-both (one-later x p ps e) f) in
-    ap (λ (b : Bool). not b && distinct (ps ++ (x ∷ []))) (not-so (oneOf p (ps ++ (x ∷ []))) (λ t. apart q other (one-last p ps x t))) ∙ distinct-more ps x (q .1) fresh
-  where
-    apart : (not (oneOf p ps) ≡ true) × (distinct ps ≡ true) → (same x p ≡ true → ⊥) → (oneOf p ps ≡ true) ⊎ (p ≡ x) → ⊥
-    apart q other (inl t) = not-both t (not-true (oneOf p ps) (q .0))
-    apart q other (inr e) = other (ap (same x) e ∙ same-refl x)

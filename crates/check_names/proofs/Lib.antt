@@ -1,4 +1,5 @@
 pub mod Bytes
 pub mod Among
+pub mod Parts
 pub mod Marks
 pub mod Along

@@ -22,7 +22,8 @@ ghost use Rattle.check_chain.specs.Marks.{Marks, Beyond, MarksAnswer};
 ghost use Rattle.thm_survey.specs.Steps.{through, entryCheck};
 ghost use Rattle.thm_survey.specs.Whole.{whole};
 
-// Walks an entry of a directory that may have `depth` levels below it: the chain of a file or a device, or a directory in its turn.
+// Walks an entry of a directory that may have `depth` levels below it: the chain of a file or a device, or a
+// directory in its turn.
 fn walk_entry(
     img: &[u8],
     work: &mut [u8],
@@ -34,7 +35,8 @@ fn walk_entry(
     requires { ⌜ Fit s (now img) ⌝ }
     requires { ⌜ markBytes (areaIn s) ≤ length (now work) ⌝ }
     requires { ⌜ now filter ≡ clear ⌝ }
-    ensures { λ r. ⌜ MarksAnswer (areaIn s) (entryCheck (areaIn s) (now (img .entry)) depth e) (now (work .entry)) (now (work .exit)) r ⌝ }
+    ensures { λ r. ⌜ MarksAnswer (areaIn s) (entryCheck (areaIn s) (now (img .entry)) depth e)
+        (now (work .entry)) (now (work .exit)) r ⌝ }
     ensures { λ _. ⌜ now (filter .exit) ≡ now (filter .entry) ⌝ }
 {
     let a = e.addr;
@@ -69,7 +71,9 @@ fn walk_dir(
     requires { ⌜ Fit s (now img) ⌝ }
     requires { ⌜ markBytes (areaIn s) ≤ length (now work) ⌝ }
     requires { ⌜ now filter ≡ clear ⌝ }
-    ensures { λ r. ⌜ MarksAnswer (areaIn s) (through (entryCheck (areaIn s) (now (img .entry)) depth) (walk (areaIn s) (now (img .entry)) (a .0))) (now (work .entry)) (now (work .exit)) r ⌝ }
+    ensures { λ r. ⌜ MarksAnswer (areaIn s)
+        (through (entryCheck (areaIn s) (now (img .entry)) depth) (walk (areaIn s) (now (img .entry)) (a .0)))
+        (now (work .entry)) (now (work .exit)) r ⌝ }
     ensures { λ _. ⌜ now (filter .exit) ≡ now (filter .entry) ⌝ }
 {
     let mut c = ReadDir::new(s, a);
@@ -92,7 +96,9 @@ fn tree(img: &[u8], work: &mut [u8], filter: &mut [u8], s: SuperBlock) -> bool
     requires { ⌜ Fit s (now img) ⌝ }
     requires { ⌜ markBytes (areaIn s) ≤ length (now work) ⌝ }
     requires { ⌜ now filter ≡ clear ⌝ }
-    ensures { λ r. ⌜ MarksAnswer (areaIn s) (λ seen. seenOf (survey (areaIn s) (now (img .entry)) maxDepth (s .area .0) seen)) (now (work .entry)) (now (work .exit)) r ⌝ }
+    ensures { λ r. ⌜ MarksAnswer (areaIn s)
+        (λ seen. seenOf (survey (areaIn s) (now (img .entry)) maxDepth (s .area .0) seen))
+        (now (work .entry)) (now (work .exit)) r ⌝ }
 {
     let d = s.area;
     if !check_dir::open_dir(img, work, filter, s, d) {
@@ -122,8 +128,8 @@ fn decide(img: &[u8], work: &mut [u8], s: SuperBlock) -> bool
     check_bitmap::count_right(img, s)
 }
 
-// Whether the image is a well-formed volume: W1 to W5. The bytes of marks in the work buffer are zero afterwards, whatever stood in them,
-// and the others stay.
+// Whether the image is a well-formed volume: W1 to W5. The bytes of marks in the work buffer are zero afterwards, whatever stood
+// in them, and the others stay.
 pub fn check(img: &[u8], work: &mut [u8], s: SuperBlock) -> bool
     requires { ⌜ Fit s (now img) ⌝ }
     requires { ⌜ markBytes (areaIn s) ≤ length (now work) ⌝ }

@@ -10,15 +10,15 @@ use borrow.Author.Tests.{eq-eqb, ne-eqb, leb-true, ltb-false, eqb-false}
 use Rattle.wire.proofs.Picks.{pick-case}
 use Rattle.model.specs.Answers.{Reply, accepted, refused, andThen, when, given}
 use Rattle.limits.specs.Refusals.{refusalNumber}
-use Rattle.model.specs.Geometry.{Geo, countAt}
-use Rattle.model.specs.Volume.{WellFormed, maxDepth}
+use Rattle.model.specs.Geometry.{Geo}
+use Rattle.model.specs.Volume.{maxDepth}
 use Rattle.limits.specs.declared.Refusal.{Refusal}
 use Rattle.model.proofs.Opens.{when-true, when-false, or-false}
 use Rattle.model.proofs.Replies.{given-none, given-some, and-then-ok, and-then-no}
 use Rattle.block.specs.Block.{Area, next}
 use Rattle.super_block.specs.declared.SuperBlock.{SuperBlock}
-use Rattle.super_block.specs.Super.{areaIn, mountOf, geoOf, Fit}
-use Rattle.super_block.proofs.Fits.{area-is, well-volume}
+use Rattle.super_block.specs.Super.{areaIn, geoOf, Ready}
+use Rattle.super_block.proofs.Fits.{area-is, ready-volume}
 use Rattle.bitmap_block.specs.Bitmap.{clears, Room}
 use Rattle.bitmap_block.proofs.Stores.{volume-clears, volume-room}
 use Rattle.dir_entry.specs.declared.DirEntry.{DirEntry}
@@ -91,12 +91,12 @@ module _ (s : SuperBlock) (I : List ℕ) (p : Spot) (k : ℕ) (needs : k ≡ nee
       subst (SpotIn (areaIn s) len) (sym e)
       (spot-lies (areaIn s) I len (s .blocks - s .area .0) a (subst (λ (q : Spot). 1 ≤ needed q) e (omega arith)))
 
-  pub spot-room : (b : Bool) → Fit s I → WellFormed (mountOf s) I → s .blocks ≡ countAt (mountOf s) I
-      → b ≡ ltb (length (clears (geoOf s) I)) k → b ≡ false → Room (geoOf s) I (needed p)
-  spot-room b f w e q h =
-      let v = well-volume s I f w e in
+  pub spot-room : (b : Bool) → Ready s I → b ≡ ltb (length (clears (geoOf s) I)) k → b ≡ false → Room (geoOf s) I (needed p)
+  spot-room b w q h =
+      let t = w .well .tree in
+      let v = ready-volume s I w in
       let r = ltb-false (length (clears (geoOf s) I)) k (sym q ∙ h) in
-      volume-room (geoOf s) I maxDepth (w .tree) v (needed p) (subst (λ (l : List ℕ). needed p ≤ length l) (volume-clears (geoOf s) I maxDepth (w .tree) v) (omega arith))
+      volume-room (geoOf s) I maxDepth t v (needed p) (subst (λ (l : List ℕ). needed p ≤ length l) (volume-clears (geoOf s) I maxDepth t v) (omega arith))
 
 -- ---- the site at a spot
 
@@ -137,7 +137,7 @@ module _ (s : SuperBlock) (I : List ℕ) (h : Holding) (p q : Spot) (k : ℕ) (e
 
 -- ---- the site in a directory
 
-module _ (s : SuperBlock) (I : List ℕ) (fit : Fit s I) (h : Holding) (k : Kind) (x : List ℕ) (b : Bool) (t : b ≡ (isDir k && leb maxDepth (h .depth))) where
+module _ (s : SuperBlock) (I : List ℕ) (ok : Ready s I) (h : Holding) (k : Kind) (x : List ℕ) (b : Bool) (t : b ≡ (isDir k && leb maxDepth (h .depth))) where
   pub in-deep : b ≡ true → refused 15 ≡ siteIn (geoOf s) I k x (holdOf h)
   unfolding siteIn tooDeep
   in-deep y = sym (given-some 15 _ (omega arith) (when-true 15 (sym t ∙ y)))
@@ -148,7 +148,7 @@ module _ (s : SuperBlock) (I : List ℕ) (fit : Fit s I) (h : Holding) (k : Kind
     looked =
         given-none _ (when-false 15 (sym t ∙ shallow))
         ∙ ap (λ (A : Area). given (existsNumber (findIn x (walk A I (h .dir .0))))
-        (siteAt (geoOf s) I (holdOf h) (spotFor A I (h .dir .0) (length x)))) (sym (area-is fit))
+        (siteAt (geoOf s) I (holdOf h) (spotFor A I (h .dir .0) (length x)))) (sym (area-is (ok .fit)))
         ∙ ap (λ (y : Found). given (existsNumber y) (siteAt (geoOf s) I (holdOf h) (spotFor (areaIn s) I (h .dir .0) (length x)))) (sym q)
 
     pub in-exists : (e : DirEntry) (p : Place) → f ≡ found.At e p → refused 7 ≡ siteIn (geoOf s) I k x (holdOf h)
@@ -214,12 +214,12 @@ module _ (s : SuperBlock) (I : List ℕ) (k : Kind) (full : List ℕ) (len time 
   unfolding createdImage
   path-bad-leaves y = ap (imageAt (geoOf s) I k (lastName path) time) (sym (bad y))
 
-  module _ (fit : Fit s I) (hs : Holds) (good : b ≡ false) (held : holdsSays hs ≡ holdDir (areaIn s) I (take (ps .dir) full)) where
+  module _ (ok : Ready s I) (hs : Holds) (good : b ≡ false) (held : holdsSays hs ≡ holdDir (areaIn s) I (take (ps .dir) full)) where
     site-held : siteOf (geoOf s) I k path ≡ andThen (holdsSays hs) (siteIn (geoOf s) I k (lastName path))
     unfolding siteOf
     site-held =
         given-none _ (when-false 8 (sym named ∙ good))
-        ∙ ap (λ (A : Area). andThen (holdDir A I (dirPart path)) (siteIn (geoOf s) I k (lastName path))) (sym (area-is fit))
+        ∙ ap (λ (A : Area). andThen (holdDir A I (dirPart path)) (siteIn (geoOf s) I k (lastName path))) (sym (area-is (ok .fit)))
         ∙ ap (λ (l : List ℕ). andThen (holdDir (areaIn s) I l) (siteIn (geoOf s) I k (lastName path))) (sym (parts .dir))
         ∙ ap (λ (r : Reply Hold). andThen r (siteIn (geoOf s) I k (lastName path))) (sym held)
 

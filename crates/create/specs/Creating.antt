@@ -59,7 +59,8 @@ module _ (g : Geo) (I : List ℕ) where
 
   -- In the directory h, for a name that goes to the spot p: 9, or the site; damage on the way to the spot is 17.
   unfoldable pub siteAt : Hold → Spot → Reply Site
-  siteAt h p = given (spotNumber p) (given (when 9 (noRoom (needed p))) (accepted (record { dir = h .dir; spot = p; own = h .own })))
+  siteAt h p = given (spotNumber p) (given (when 9 (noRoom (needed p)))
+      (accepted (record { dir = h .dir; spot = p; own = h .own })))
 
   -- In the directory h, for the name x: 15, 7, then these.
   unfoldable pub siteIn : Kind → List ℕ → Hold → Reply Site

@@ -15,4 +15,6 @@ use Rattle.dir_entry.specs.Entry.{isDir}
 -- A directory with no level left is at depth 16.
 unfoldable pub treeRefusal : Geo → List ℕ → Kind → Name → Some → ℕ
 treeRefusal g free k n s =
-    firstOf (when 15 (isDir k && eqb (s .0) 0) ∷ (when 7 (any (holds n) (s .1)) ∷ (when 9 (ltb (length free) (toCreate (entryRoom g) n (s .1))) ∷ [])))
+    firstOf (when 15 (isDir k && eqb (s .0) 0) ∷
+    (when 7 (any (holds n) (s .1)) ∷
+    (when 9 (ltb (length free) (toCreate (entryRoom g) n (s .1))) ∷ [])))

@@ -1,5 +1,5 @@
-// Creating a file or a directory by its full path, on a volume that is opened and checked: refusals 8, 5, 6, 15, 7, 9 in this order, then the
-// stores of `create_store`.
+// Creating a file or a directory by its full path, on a volume that is opened and checked: refusals 8, 5, 6, 15, 7, 9 in this
+// order, then the stores of `create_store`.
 use block::Addr;
 use create_store::Spot;
 use dir::Holding;
@@ -13,9 +13,8 @@ ghost use mathlib.Core.Bool.{_&&_};
 ghost use Prim.Native.Nat.{_≤_};
 ghost use lib.Dec.{leb};
 ghost use lib.ListN.{length, take};
-ghost use Rattle.model.specs.Geometry.{countAt};
-ghost use Rattle.model.specs.Volume.{WellFormed, maxDepth};
-ghost use Rattle.super_block.specs.Super.{areaIn, mountOf, geoOf, Fit};
+ghost use Rattle.model.specs.Volume.{maxDepth};
+ghost use Rattle.super_block.specs.Super.{areaIn, geoOf, Ready};
 ghost use Rattle.dir_entry.specs.Entry.{isDir};
 ghost use Rattle.own_entry.specs.Own.{OwnIn};
 ghost use Rattle.create_store.specs.Create.{spotFor};
@@ -60,11 +59,10 @@ fn too_deep(kind: Kind, depth: u32) -> bool
 
 // The spot of a name of len bytes in the directory h: all that the stores need is known before the first of them.
 fn site_at(img: &[u8], s: SuperBlock, h: Holding, len: usize) -> Sited
-    requires { ⌜ Fit s (now img) ⌝ }
-    requires { ⌜ WellFormed (mountOf s) (now img) ⌝ }
-    requires { ⌜ s .blocks ≡ countAt (mountOf s) (now img) ⌝ }
+    requires { ⌜ Ready s (now img) ⌝ }
     requires { ⌜ len ≤ 255 ⌝ }
-    ensures { λ r. ⌜ sitedSays (holdOf h) r ≡ siteAt (geoOf s) (now (img .entry)) (holdOf h) (spotFor (areaIn s) (now (img .entry)) (h .dir .0) len) ⌝ }
+    ensures { λ r. ⌜ sitedSays (holdOf h) r ≡ siteAt (geoOf s) (now (img .entry)) (holdOf h)
+        (spotFor (areaIn s) (now (img .entry)) (h .dir .0) len) ⌝ }
     ensures { λ r. ⌜ SitedIn s (now (img .entry)) len r ⌝ }
 {
     let dir = h.dir;
@@ -81,9 +79,7 @@ fn site_at(img: &[u8], s: SuperBlock, h: Holding, len: usize) -> Sited
 
 // The site of a new name in the directory h.
 fn site_in(img: &[u8], s: SuperBlock, h: Holding, kind: Kind, name: &[u8]) -> Sited
-    requires { ⌜ Fit s (now img) ⌝ }
-    requires { ⌜ WellFormed (mountOf s) (now img) ⌝ }
-    requires { ⌜ s .blocks ≡ countAt (mountOf s) (now img) ⌝ }
+    requires { ⌜ Ready s (now img) ⌝ }
     requires { ⌜ length (now name) ≤ 255 ⌝ }
     ensures { λ r. ⌜ sitedSays (holdOf h) r ≡ siteIn (geoOf s) (now (img .entry)) kind (now (name .entry)) (holdOf h) ⌝ }
     ensures { λ r. ⌜ SitedIn s (now (img .entry)) (length (now (name .entry))) r ⌝ }
@@ -109,13 +105,13 @@ fn create_in(
     name: &[u8],
     time: u64,
 ) -> Created
-    requires { ⌜ Fit s (now img) ⌝ }
-    requires { ⌜ WellFormed (mountOf s) (now img) ⌝ }
-    requires { ⌜ s .blocks ≡ countAt (mountOf s) (now img) ⌝ }
+    requires { ⌜ Ready s (now img) ⌝ }
     requires { ⌜ length (now name) ≤ 255 ⌝ }
     requires { ⌜ OwnIn (s .size) (now img) (h .own) ⌝ }
-    ensures { λ r. ⌜ createdSays r ≡ freshOf (geoOf s) (now (img .entry)) (siteIn (geoOf s) (now (img .entry)) kind (now (name .entry)) (holdOf h)) ⌝ }
-    ensures { λ _. ⌜ now (img .exit) ≡ imageAt (geoOf s) (now (img .entry)) kind (now (name .entry)) time (siteIn (geoOf s) (now (img .entry)) kind (now (name .entry)) (holdOf h)) ⌝ }
+    ensures { λ r. ⌜ createdSays r ≡ freshOf (geoOf s) (now (img .entry))
+        (siteIn (geoOf s) (now (img .entry)) kind (now (name .entry)) (holdOf h)) ⌝ }
+    ensures { λ _. ⌜ now (img .exit) ≡ imageAt (geoOf s) (now (img .entry)) kind (now (name .entry)) time
+        (siteIn (geoOf s) (now (img .entry)) kind (now (name .entry)) (holdOf h)) ⌝ }
 {
     let sited = site_in(img, s, h, kind, name);
     match sited {
@@ -138,9 +134,7 @@ pub fn create(
     kind: Kind,
     time: u64,
 ) -> Created
-    requires { ⌜ Fit s (now img) ⌝ }
-    requires { ⌜ WellFormed (mountOf s) (now img) ⌝ }
-    requires { ⌜ s .blocks ≡ countAt (mountOf s) (now img) ⌝ }
+    requires { ⌜ Ready s (now img) ⌝ }
     requires { ⌜ len ≤ length (now full) ⌝ }
     requires { ⌜ length (now full) ≤ pathLimit ⌝ }
     ensures { λ r. ⌜ createdSays r ≡ createdOn (geoOf s) (now (img .entry)) kind (take len (now (full .entry))) ⌝ }

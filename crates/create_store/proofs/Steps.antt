@@ -9,7 +9,7 @@ use lib.Seq.{take-all}
 use Rattle.wire.specs.Be.{splice}
 use Rattle.wire.proofs.Numbers.{length-splice}
 use Rattle.block.specs.declared.Addr.{Addr}
-use Rattle.block.specs.Block.{Area, BlockSize, linked, Off, Kept}
+use Rattle.block.specs.Block.{Area, linked, Off, Kept}
 use Rattle.block.proofs.Blocks.{linked-inside, linked-kept}
 use Rattle.model.specs.Tree.{Name}
 use Rattle.model.specs.Geometry.{areaOf, Geo, blockSize, dataAt, Sound}
@@ -106,11 +106,7 @@ length-entered g I s r p k name time h q =
 
 -- ==== what the code needs and gives
 
--- the linked block that code makes of the struct's size has a size that blocks have
-pub made-known : {z : ℕ} (s : SuperBlock) (I : List ℕ) → Fit s I → z ≡ s .size → BlockSize z
-made-known s I f e = subst BlockSize (sym e) (f .known)
-
--- and lies in each image of that length
+-- the linked block that code makes lies in each image of that length
 pub still-inside : {B z m : ℕ} (a : ℕ) (I J : List ℕ) → z ≡ B → m ≡ a → B * a + B ≤ length I → length J ≡ length I
     → z * m + z ≤ length J
 still-inside a I J e f h l = linked-inside a e f (omega arith)

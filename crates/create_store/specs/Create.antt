@@ -53,7 +53,8 @@ spotFrom A I len (suc k) a =
 abbrev pub spotFor : Area → List ℕ → ℕ → ℕ → Spot
 spotFor A I dir len = spotFrom A I len (A .end - A .first) dir
 
--- The same on a directory of the tree, z being the block before: its first block with room, at the end of its entries, else after its last one.
+-- The same on a directory of the tree, z being the block before: its first block with room, at the end of its entries,
+-- else after its last one.
 unfoldable pub spotOn : {X : Type 0} → ℕ → Name → ℕ → List (Block X) → Spot
 spotOn cap n z [] = After (record { 0 = z })
 spotOn cap n z (b ∷ bs) = pick (hasRoom cap n b) (In (placed (b .at) (used (b .entries)))) (spotOn cap n (b .at) bs)
@@ -95,7 +96,8 @@ module _ (g : Geo) where
   -- C9: the image with the entry's block taken, and the entry at its place.
   unfoldable pub entered : List ℕ → Place → Kind → Name → ℕ → List ℕ
   entered I p k name time =
-      splice (blockTaken I) (placeAt (blockSize g) (p .block .0) (p .offset)) (headBytes (newHead k (fresh g I) time (length name)) ++ name)
+      splice (blockTaken I) (placeAt (blockSize g) (p .block .0) (p .offset))
+      (headBytes (newHead k (fresh g I) time (length name)) ++ name)
 
   -- C9, C13: the image after a create in the directory whose first block is dir, its own entry renewed; and the entry's block.
   unfoldable pub inserted : List ℕ → ℕ → Spot → Own → Kind → Name → ℕ → List ℕ

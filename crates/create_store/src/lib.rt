@@ -106,7 +106,9 @@ fn grow(img: &mut [u8], s: SuperBlock, last: Addr) -> Addr
     requires { ⌜ Fit s (now img) ⌝ }
     requires { ⌜ Room (geoOf s) (now img) 1 ⌝ }
     requires { ⌜ s .size * last .0 + s .size ≤ length (now img) ⌝ }
-    ensures { λ r. ⌜ (now (img .exit) ≡ linked (s .size) (blockTaken (geoOf s) (now (img .entry))) (last .0) (fresh (geoOf s) (now (img .entry)))) × (r .0 ≡ fresh (geoOf s) (now (img .entry))) ⌝ }
+    ensures { λ r. ⌜ (now (img .exit) ≡ linked (s .size) (blockTaken (geoOf s) (now (img .entry)))
+        (last .0) (fresh (geoOf s) (now (img .entry))))
+        × (r .0 ≡ fresh (geoOf s) (now (img .entry))) ⌝ }
 {
     let a = take_block(img, s);
     LinkedBlock::new(s.size, last).set_next_addr(img, a);
@@ -118,7 +120,8 @@ fn open_place(img: &mut [u8], s: SuperBlock, spot: Spot, len: usize) -> Place
     requires { ⌜ Fit s (now img) ⌝ }
     requires { ⌜ Room (geoOf s) (now img) (needed spot) ⌝ }
     requires { ⌜ SpotIn (areaIn s) len spot ⌝ }
-    ensures { λ r. ⌜ (now (img .exit) ≡ opened (geoOf s) (now (img .entry)) spot) × (r ≡ placeIn (geoOf s) (now (img .entry)) spot) ⌝ }
+    ensures { λ r. ⌜ (now (img .exit) ≡ opened (geoOf s) (now (img .entry)) spot)
+        × (r ≡ placeIn (geoOf s) (now (img .entry)) spot) ⌝ }
 {
     match spot {
         Spot::In(p) => p,
@@ -141,7 +144,8 @@ fn store_entry(img: &mut [u8], size: u32, p: Place, e: DirEntry, name: &[u8])
     requires { ⌜ BlockSize size ⌝ }
     requires { ⌜ size * p .block .0 + size ≤ length (now img) ⌝ }
     requires { ⌜ p .offset + header + length (now name) ≤ size - 5 ⌝ }
-    ensures { λ _. ⌜ now (img .exit) ≡ splice (now (img .entry)) (placeAt size (p .block .0) (p .offset)) (headBytes e ++ now (name .entry)) ⌝ }
+    ensures { λ _. ⌜ now (img .exit) ≡ splice (now (img .entry)) (placeAt size (p .block .0) (p .offset))
+        (headBytes e ++ now (name .entry)) ⌝ }
 {
     let b = p.block;
     let at = dir_entry::place(size, b, p.offset);
@@ -156,7 +160,8 @@ fn enter(img: &mut [u8], s: SuperBlock, p: Place, kind: Kind, name: &[u8], time:
     requires { ⌜ s .size * p .block .0 + s .size ≤ length (now img) ⌝ }
     requires { ⌜ p .offset + header + length (now name) ≤ s .size - 5 ⌝ }
     requires { ⌜ length (now name) ≤ 255 ⌝ }
-    ensures { λ r. ⌜ (now (img .exit) ≡ entered (geoOf s) (now (img .entry)) p kind (now (name .entry)) time) × (r .0 ≡ fresh (geoOf s) (now (img .entry))) ⌝ }
+    ensures { λ r. ⌜ (now (img .exit) ≡ entered (geoOf s) (now (img .entry)) p kind (now (name .entry)) time)
+        × (r .0 ≡ fresh (geoOf s) (now (img .entry))) ⌝ }
 {
     let a = take_block(img, s);
     let e = DirEntry {
@@ -186,7 +191,8 @@ pub fn insert(
     requires { ⌜ SpotIn (areaIn s) (length (now name)) spot ⌝ }
     requires { ⌜ length (now name) ≤ 255 ⌝ }
     requires { ⌜ OwnIn (s .size) (now img) own ⌝ }
-    ensures { λ r. ⌜ (now (img .exit) ≡ inserted (geoOf s) (now (img .entry)) (dir .0) spot own kind (now (name .entry)) time) × (r .0 ≡ insertedAt (geoOf s) (now (img .entry)) spot) ⌝ }
+    ensures { λ r. ⌜ (now (img .exit) ≡ inserted (geoOf s) (now (img .entry)) (dir .0) spot own kind (now (name .entry)) time)
+        × (r .0 ≡ insertedAt (geoOf s) (now (img .entry)) spot) ⌝ }
 {
     let p = open_place(img, s, spot, name.len());
     let a = enter(img, s, p, kind, name, time);

@@ -96,11 +96,11 @@ found-begins A I a x e p f = go (either (inArea A I a))
     go (inr t) = let w : found.Damaged ≡ found.At e p = sym (ap (findIn x) (chain-out A I (A .end - A .first) a t)) ∙ f in let z : _≡_ {A = ℕ} 0 1 = cc in absurd (omega arith)
 
 -- The entry stands in a block of the data and ends there, in a directory of the data.
-pub record Ready (g : Geo) (I : List ℕ) (d : Doomed) : Type 0 where
+pub record Removable (g : Geo) (I : List ℕ) (d : Doomed) : Type 0 where
   pub begins : d .dir < g .n
   pub lies : Lies (areaOf g) I (d .entry) (d .place)
 
-pub doomed-ready : (g : Geo) (I l : List ℕ) (d : Doomed) → DoomedBy g I l d → Ready g I d
+pub doomed-ready : (g : Geo) (I l : List ℕ) (d : Doomed) → DoomedBy g I l d → Removable g I d
 doomed-ready g I l d b =
     let i = found-item (areaOf g) I (b .hold .dir) (lastName l) (d .entry) (d .place) (b .entry) in
     let t = slot-stands (blockSize g) I (d .place .block .0) (d .place .offset) (d .entry) (i .stands) in

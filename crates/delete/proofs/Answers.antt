@@ -15,7 +15,7 @@ use Rattle.model.proofs.Replies.{given-yes, given-no, and-then-ok, and-then-no}
 use Rattle.block.specs.declared.Addr.{Addr}
 use Rattle.block.specs.Block.{Area}
 use Rattle.super_block.specs.declared.SuperBlock.{SuperBlock}
-use Rattle.super_block.specs.Super.{areaIn, geoOf, Fit}
+use Rattle.super_block.specs.Super.{areaIn, geoOf, Fit, Ready}
 use Rattle.super_block.proofs.Fits.{area-is}
 use Rattle.dir_entry.specs.declared.Kind.the-variants.{Dir, File, Device}
 use Rattle.dir_entry.specs.declared.DirEntry.{DirEntry}
@@ -43,7 +43,7 @@ use Rattle.delete.specs.Deleting.{Doomed, hasEntries, doomedAt, doomedIn
 use Rattle.delete.specs.Post.{doomsSays}
 use Rattle.delete.specs.declared.Dooms.{Dooms}
 use Rattle.delete.specs.declared.Dooms.the-variants as dooms
-use Rattle.delete.proofs.Accepted.{Ready, doomed-by, doomed-ready}
+use Rattle.delete.proofs.Accepted.{Removable, doomed-by, doomed-ready}
 
 -- ---- an entry that has entries
 
@@ -120,30 +120,30 @@ module _ (s : SuperBlock) (I full : List ℕ) (len : ℕ) (f : Fit s I) (ps : Pa
 -- ---- the whole
 
 -- what the stores ask of the entry to delete
-module _ (s : SuperBlock) (I l : List ℕ) (f : Fit s I) (m : Dooms) (q : doomsSays m ≡ doomedOf (geoOf s) I l) where
+module _ (s : SuperBlock) (I l : List ℕ) (ok : Ready s I) (m : Dooms) (q : doomsSays m ≡ doomedOf (geoOf s) I l) where
   module _ (d : Addr) (e : DirEntry) (p : Place) (o : Own) (k : m ≡ dooms.At d e p o) where
     accepts : doomedOf (geoOf s) I l ≡ accepted (record { dir = d .0; entry = e; place = p; own = o })
     accepts = sym q ∙ ap doomsSays k
 
-    ready : Ready (geoOf s) I (record { dir = d .0; entry = e; place = p; own = o })
-    ready = doomed-ready (geoOf s) I l _ (doomed-by (geoOf s) I l _ accepts)
+    removable : Removable (geoOf s) I (record { dir = d .0; entry = e; place = p; own = o })
+    removable = doomed-ready (geoOf s) I l _ (doomed-by (geoOf s) I l _ accepts)
 
     pub begins-in : d .0 < s .blocks
-    begins-in = ready .begins
+    begins-in = removable .begins
 
     pub lies-from : s .area .0 ≤ p .block .0
-    lies-from = rw (f .area) (ready .lies .from)
+    lies-from = rw (ok .fit .area) (removable .lies .from)
 
     pub lies-below : p .block .0 < s .blocks
-    lies-below = ready .lies .below
+    lies-below = removable .lies .below
 
     pub lies-ends : p .offset + header + e .len ≤ s .size - 5
-    lies-ends = rw (f .size) (ready .lies .ends)
+    lies-ends = rw (ok .fit .size) (removable .lies .ends)
 
     pub own-inside : OwnIn (s .size) I o
     own-inside =
         let b = doomed-by (geoOf s) I l _ accepts in
-        subst (OwnIn (s .size) I) (sym (b .own)) (hold-inside s I f _ (b .hold) (hold-numbers s I f _ ∙ b .held))
+        subst (OwnIn (s .size) I) (sym (b .own)) (hold-inside s I (ok .fit) _ (b .hold) (hold-numbers s I (ok .fit) _ ∙ b .held))
 
     pub deleted-done : accepted tt ≡ deletedOn (geoOf s) I l
     unfolding deletedOn

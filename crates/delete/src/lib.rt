@@ -1,6 +1,6 @@
-// Deleting an entry by its full path, on a volume that is opened and checked: refusals 5, 6, 14 in this order, then the stores of `delete_store`.
-// All that may refuse is read before the first store, and the contracts hold on any opened image; on a volume they are the tree's delete
-// (proofs/OnVolume.antt). A path is the first bytes of a lent buffer, as the crate path leaves it.
+// Deleting an entry by its full path, on a volume that is opened and checked: refusals 5, 6, 14 in this order, then the stores
+// of `delete_store`. All that may refuse is read before the first store, and the contracts hold on any opened image; on a volume
+// they are the tree's delete (proofs/OnVolume.antt). A path is the first bytes of a lent buffer, as the crate path leaves it.
 use block::Addr;
 use dir::Holding;
 use dir::Holds;
@@ -14,7 +14,7 @@ use super_block::SuperBlock;
 ghost use mathlib.Core.Path.{_≡_};
 ghost use Prim.Native.Nat.{_≤_};
 ghost use lib.ListN.{length, take};
-ghost use Rattle.super_block.specs.Super.{geoOf, Fit};
+ghost use Rattle.super_block.specs.Super.{geoOf, Fit, Ready};
 ghost use Rattle.path.specs.Path.{pathLimit};
 ghost use Rattle.dir.specs.Post.{holdOf};
 ghost use Rattle.delete.specs.Deleting.{hasEntries, doomedAt, doomedIn, doomedOf, deletedOn, deletedImage};
@@ -91,7 +91,7 @@ fn doomed_of(img: &[u8], s: SuperBlock, full: &[u8], len: usize) -> Dooms
 
 // Deletes the entry at the full path full[..len]. Any refusal comes before the first store.
 pub fn delete(img: &mut [u8], s: SuperBlock, full: &[u8], len: usize, time: u64) -> Deleted
-    requires { ⌜ Fit s (now img) ⌝ }
+    requires { ⌜ Ready s (now img) ⌝ }
     requires { ⌜ len ≤ length (now full) ⌝ }
     requires { ⌜ length (now full) ≤ pathLimit ⌝ }
     ensures { λ r. ⌜ deletedSays r ≡ deletedOn (geoOf s) (now (img .entry)) (take len (now (full .entry))) ⌝ }

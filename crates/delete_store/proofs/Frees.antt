@@ -23,7 +23,7 @@ use Rattle.model.proofs.Entries.{next-shown}
 use Rattle.bitmap_block.specs.Bitmap.{mark, freed}
 use Rattle.bitmap_block.proofs.Stores.{Aside, aside-data, sound-kept, freed-kept, used-freed, top-freed, mark-freed, mark-freed-other}
 use Rattle.thm_walk.proofs.Walks.{in-area}
-use Rattle.delete_store.specs.Delete.{released, chainFreed}
+use Rattle.chain_store.specs.Chain.{released, chainFreed}
 
 -- the blocks of a list, one after another
 unfoldable pub allReleased : Geo → List ℕ → List ℕ → List ℕ

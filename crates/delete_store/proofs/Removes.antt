@@ -31,7 +31,8 @@ use Rattle.thm_walk.proofs.Parts.{Stored, Part, laid-part, part-find, stored-lo
 use Rattle.own_entry.specs.declared.Own.{Own}
 use Rattle.own_entry.specs.Own.{OwnOf, sumRenewed}
 use Rattle.own_entry.proofs.Renews.{Made, sub-blocks, sum-makes}
-use Rattle.delete_store.specs.Delete.{released, chainFreed, entryGone, removed}
+use Rattle.delete_store.specs.Delete.{entryGone, removed}
+use Rattle.chain_store.specs.Chain.{released, chainFreed}
 use Rattle.delete_store.proofs.Frees.{allReleased, chain-released, released-kept, released-block}
 use Rattle.delete_store.proofs.Sites.{Stays, Goes, delete-site}
 use Rattle.delete_store.proofs.BlockStays.{Without, stayed, stays-without, stays-is}

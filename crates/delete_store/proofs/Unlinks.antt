@@ -34,7 +34,8 @@ use Rattle.dir_entry.specs.Shown.{headOf}
 use Rattle.dir_entry.proofs.Shown.{head-weight}
 use Rattle.thm_walk.specs.Shown.{spotOf}
 use Rattle.thm_walk.proofs.Parts.{Stored, Part, stored-few, block-data, chain-after, block-next, stored-right, next-small, stored-tail}
-use Rattle.delete_store.specs.Delete.{cutOut, released, beforeFrom, unlinked, lessBare, entryGone}
+use Rattle.chain_store.specs.Chain.{released}
+use Rattle.delete_store.specs.Delete.{cutOut, beforeFrom, unlinked, lessBare, entryGone}
 use Rattle.delete_store.proofs.Moved.{cut-kept, cut-next, cut-shown}
 use Rattle.delete_store.proofs.Sites.{Goes}
 use Rattle.delete_store.proofs.BlockStays.{Without, dir-block, one-only}

@@ -6,12 +6,11 @@ use lib.ListN.{take, drop}
 use Rattle.wire.specs.Be.{splice, zeros}
 use Rattle.wire.specs.Pick.{pick, zeroFrom}
 use Rattle.block.specs.Block.{next, linked}
-use Rattle.model.specs.Geometry.{areaOf, Geo, blockSize, dataAt, usedCount}
-use Rattle.bitmap_block.specs.Bitmap.{freed}
+use Rattle.model.specs.Geometry.{Geo, blockSize, dataAt}
+use Rattle.chain_store.specs.Chain.{released, chainFreed}
 use Rattle.dir_entry.specs.declared.DirEntry.{DirEntry}
 use Rattle.dir_entry.specs.Entry.{header, placeAt}
 use Rattle.read_dir.specs.declared.Place.{Place}
-use Rattle.read_dir.specs.Walk.{inArea}
 use Rattle.own_entry.specs.declared.Own.{Own}
 use Rattle.own_entry.specs.Own.{sumRenewed}
 
@@ -25,17 +24,6 @@ after B o w = B - 4 - (o + w)
 unfoldable pub cutOut : ℕ → List ℕ → ℕ → ℕ → ℕ → List ℕ
 cutOut B I a o w =
     splice (splice I (placeAt B a o) (take (after B o w) (drop (placeAt B a o + w) I))) (placeAt B a o + after B o w) (zeros w)
-
--- ---- blocks given back
-
--- F7: block a of the data area is given back. (The count is 0 on no volume.)
-unfoldable pub released : Geo → List ℕ → ℕ → List ℕ
-released g I a = pick (eqb (usedCount g I) 0) I (freed g I (a - dataAt g))
-
--- C11: the entry's chain: the blocks from a on, at most k of them, each looked at before it is read.
-unfoldable pub chainFreed : Geo → List ℕ → ℕ → ℕ → List ℕ
-chainFreed g I zero a = I
-chainFreed g I (suc k) a = pick (inArea (areaOf g) I a) (chainFreed g (released g I a) k (next (blockSize g) I a)) I
 
 -- ---- a block that is emptied
 

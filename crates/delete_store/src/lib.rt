@@ -13,7 +13,8 @@ ghost use Rattle.block.specs.Block.{BlockSize};
 ghost use Rattle.super_block.specs.Super.{geoOf, Fit};
 ghost use Rattle.dir_entry.specs.Entry.{header};
 ghost use Rattle.own_entry.specs.Own.{OwnIn};
-ghost use Rattle.delete_store.specs.Delete.{cutOut, released, chainFreed, beforeFrom, unlinked, lessBare, entryGone, removed};
+ghost use Rattle.chain_store.specs.Chain.{chainFreed};
+ghost use Rattle.delete_store.specs.Delete.{cutOut, beforeFrom, unlinked, lessBare, entryGone, removed};
 
 // The w bytes at a place go: those after them in the block move down, and the block's end is zeroed.
 fn cut_out(img: &mut [u8], size: u32, p: Place, w: usize)
@@ -30,48 +31,12 @@ fn cut_out(img: &mut [u8], size: u32, p: Place, w: usize)
     wire::fill(img, at + after, w, 0);
 }
 
-// Gives block a of the data area back. A count of 0, which no volume has, cannot be lowered.
-fn release(img: &mut [u8], s: SuperBlock, a: Addr)
-    requires { ⌜ Fit s (now img) ⌝ }
-    requires { ⌜ s .area .0 ≤ a .0 ⌝ }
-    requires { ⌜ a .0 < s .blocks ⌝ }
-    ensures { λ _. ⌜ now (img .exit) ≡ released (geoOf s) (now (img .entry)) (a .0) ⌝ }
-{
-    if s.alloc_count(img) == 0 {
-        return;
-    }
-    let d = s.area;
-    let x = a.index(d);
-    bitmap_block::free(img, s, x);
-}
-
-// Frees the blocks of the chain from a on. Each next address is read before its block is freed.
-pub fn free_chain(img: &mut [u8], s: SuperBlock, a: Addr)
-    requires { ⌜ Fit s (now img) ⌝ }
-    ensures { λ _. ⌜ now (img .exit) ≡ chainFreed (geoOf s) (now (img .entry)) (s .blocks - s .area .0) (a .0) ⌝ }
-{
-    let d = s.area;
-    let mut b = a;
-    let mut left = s.blocks - d.0;
-    while 0 < left {
-        if b.0 < d.0 {
-            return;
-        }
-        if s.blocks <= b.0 {
-            return;
-        }
-        let next = LinkedBlock::new(s.size, b).next_addr(img);
-        release(img, s, b);
-        b = next;
-        left -= 1;
-    }
-}
-
 // The block before b in the chain from dir on. A chain without b ends at one of its blocks.
 fn before(img: &[u8], s: SuperBlock, dir: Addr, b: Addr) -> Addr
     requires { ⌜ Fit s (now img) ⌝ }
     requires { ⌜ dir .0 < s .blocks ⌝ }
-    ensures { λ r. ⌜ (r .0 ≡ beforeFrom (s .size) (s .blocks) (now (img .entry)) (s .blocks - s .area .0) (dir .0) (b .0)) × (r .0 < s .blocks) ⌝ }
+    ensures { λ r. ⌜ (r .0 ≡ beforeFrom (s .size) (s .blocks) (now (img .entry)) (s .blocks - s .area .0) (dir .0) (b .0))
+        × (r .0 < s .blocks) ⌝ }
 {
     let d = s.area;
     let mut a = dir;
@@ -101,7 +66,7 @@ fn unlink(img: &mut [u8], s: SuperBlock, dir: Addr, b: Addr)
     let to = LinkedBlock::new(s.size, b).next_addr(img);
     let last = before(img, s, dir, b);
     LinkedBlock::new(s.size, last).set_next_addr(img, to);
-    release(img, s, b);
+    chain_store::release(img, s, b);
 }
 
 // The same where b is not the first block and has no entry any more.
@@ -135,6 +100,15 @@ fn take_out(img: &mut [u8], s: SuperBlock, dir: Addr, e: DirEntry, p: Place)
     drop_bare(img, s, dir, b);
 }
 
+// Gives back the whole chain from a on.
+fn free_all(img: &mut [u8], s: SuperBlock, a: Addr)
+    requires { ⌜ Fit s (now img) ⌝ }
+    ensures { λ _. ⌜ now (img .exit) ≡ chainFreed (geoOf s) (now (img .entry)) (s .blocks - s .area .0) (a .0) ⌝ }
+{
+    let d = s.area;
+    chain_store::free_chain(img, s, a, s.blocks - d.0);
+}
+
 // Deletes the entry e, which stands at p in the directory that begins at block dir; that directory's own entry is
 // at `own`.
 pub fn remove(img: &mut [u8], s: SuperBlock, dir: Addr, e: DirEntry, p: Place, own: Own, time: u64)
@@ -148,6 +122,6 @@ pub fn remove(img: &mut [u8], s: SuperBlock, dir: Addr, e: DirEntry, p: Place, o
 {
     let a = e.addr;
     take_out(img, s, dir, e, p);
-    free_chain(img, s, a);
+    free_all(img, s, a);
     own_entry::renew_sum(img, s, dir, own, time);
 }

@@ -43,7 +43,8 @@ pub enum Holds {
     Refused(Refusal),
 }
 
-// The directory that the entry e at p stands for, in a directory at that depth. Its own entry is e, which the way leads over: it is kept.
+// The directory that the entry e at p stands for, in a directory at that depth. Its own entry is e, which the way
+// leads over: it is kept.
 fn directory(e: DirEntry, p: Place, depth: u32) -> Holds
     requires { ⌜ depth ≤ pathLimit ⌝ }
     ensures { λ r. ⌜ holdsSays r ≡ holdAt depth e p ⌝ }
@@ -100,7 +101,8 @@ fn descend(img: &[u8], s: SuperBlock, full: &[u8], first: usize, end: usize) -> 
     requires { ⌜ first ≤ end ⌝ }
     requires { ⌜ end ≤ length (now full) ⌝ }
     requires { ⌜ length (now full) ≤ pathLimit ⌝ }
-    ensures { λ r. ⌜ holdsSays r ≡ holdFrom (areaIn s) (now (img .entry)) (split (drop first (take end (now (full .entry))))) (rootHold (s .area .0)) ⌝ }
+    ensures { λ r. ⌜ holdsSays r ≡ holdFrom (areaIn s) (now (img .entry)) (split (drop first (take end (now (full .entry)))))
+        (rootHold (s .area .0)) ⌝ }
 {
     let mut at = first;
     let mut h = root(s);
@@ -155,7 +157,8 @@ pub fn open(img: &[u8], s: SuperBlock, full: &[u8], end: usize) -> Opened
 // The entry of that name in the directory at `dir`.
 fn find_in(img: &[u8], s: SuperBlock, dir: Addr, name: &[u8]) -> Located
     requires { ⌜ Fit s (now img) ⌝ }
-    ensures { λ r. ⌜ locatedSays r ≡ lookupIn (areaIn s) (now (img .entry)) (dir .0) (now (name .entry)) (λ e. accepted (held (dir .0) e)) ⌝ }
+    ensures { λ r. ⌜ locatedSays r ≡ lookupIn (areaIn s) (now (img .entry)) (dir .0) (now (name .entry))
+        (λ e. accepted (held (dir .0) e)) ⌝ }
 {
     let found = read_dir::lookup(img, s, dir, name);
     match found {

@@ -1,4 +1,5 @@
--- One directory entry: its fixed part, the rules by which a block's entries stop, and its bytes. B is the block size. Definitions alone.
+-- One directory entry: its fixed part, the rules by which a block's entries stop, and its bytes. B is the block size.
+-- Definitions alone.
 use mathlib.Core.Bool.{Bool, true, false}
 use mathlib.Core.List.{List, [], _∷_, _++_}
 use Prim.Native.Nat.{ℕ, _+_, _-_, _*_}
@@ -51,7 +52,7 @@ entryAt I at =
 unfoldable pub headBytes : DirEntry → List ℕ
 headBytes e = (kindByte (e .kind) ∷ (bytes 4 (e .addr .0) ++ bytes 4 (e .size))) ++ (bytes 8 (e .time) ++ (e .len ∷ []))
 
--- The byte of the image where offset o of block a's 508 data bytes stands.
+-- F8: the byte of the image where offset o of block a's data stands, in blocks of B bytes.
 abbrev pub placeAt : ℕ → ℕ → ℕ → ℕ
 placeAt B a o = B * a + 4 + o
 

@@ -1,3 +1,4 @@
 pub mod Handles
+pub mod Passing
 pub mod Post
 pub mod OnTree

@@ -11,16 +11,20 @@ use read_dir::ReadDir;
 use read_dir::Step;
 use super_block::SuperBlock;
 ghost use mathlib.Core.Path.{_≡_};
-ghost use mathlib.Core.Bool.{true, false};
+ghost use mathlib.Core.Bool.{true, false, _&&_};
 ghost use Prim.Native.Nat.{_+_, _-_, _*_, _≤_, _<_};
+ghost use lib.Dec.{eqb};
 ghost use lib.ListN.{length};
+ghost use Rattle.wire.specs.Be.{be};
 ghost use Rattle.wire.specs.Pick.{same};
 ghost use Rattle.block.specs.Block.{BlockSize};
 ghost use Rattle.dir_entry.specs.Entry.{isFile, header, placeAt, nameAt};
 ghost use Rattle.model.specs.Render.{padded};
 ghost use Rattle.super_block.specs.Super.{areaIn, Fit};
 ghost use Rattle.read_dir.specs.Walk.{walk};
+ghost use Rattle.read_dir.specs.Cursor.{Passed};
 ghost use Rattle.handle.specs.Handles.{nameOf, newHandle, staleFields, moved, target, within, placeIn, current, heldIn, currentIn};
+ghost use Rattle.handle.specs.Passing.{PassedUnlike};
 ghost use Rattle.handle.specs.Post.{answerNumber, SoughtIs, handleRefusal};
 
 // What an open file is known by. The name stands in the first len bytes.
@@ -95,6 +99,43 @@ pub fn name_array(name: &[u8]) -> [u8; 255]
     let mut all = [0u8; 255];
     wire::copy(&mut all, 0, name, 0, name.len());
     all
+}
+
+// Whether an entry can be a handle's by the length of its name, n, and its address: all that is read of most others.
+fn alike(img: &[u8], at: usize, n: usize, len: usize, own: Addr) -> bool
+    requires { ⌜ at + header ≤ length (now img) ⌝ }
+    ensures { λ r. ⌜ r ≡ (eqb n len && eqb (be 4 (now (img .entry)) (at + 1)) (own .0)) ⌝ }
+{
+    if n != len {
+        return false;
+    }
+    wire::get32(img, at + 1) == own.0
+}
+
+// Over the entries in the cursor's block that have another length or another address.
+fn pass_unlike(img: &[u8], s: SuperBlock, c: ReadDir, len: usize, own: Addr) -> ReadDir
+    requires { ⌜ Fit s (now img) ⌝ }
+    ensures { λ r. ⌜ PassedUnlike (areaIn s) (now (img .entry)) len (own .0) c r ⌝ }
+{
+    let b = c.block;
+    let d = s.area;
+    if b.0 < d.0 {
+        return c;
+    }
+    if s.blocks <= b.0 {
+        return c;
+    }
+    let mut o = c.offset;
+    loop {
+        let n = read_dir::entry_len(img, s.size, b, o);
+        if n == 0 {
+            return c.at(o);
+        }
+        if alike(img, dir_entry::place(s.size, b, o), n, len, own) {
+            return c.at(o);
+        }
+        o = o + DirEntry::HEADER + n;
+    }
 }
 
 impl Handle {
@@ -209,6 +250,16 @@ impl Handle {
         self.named(read_dir::name_of(img, size, e, p))
     }
 
+    // Over the entries in the cursor's block that are not the handle's by their length or their address.
+    fn pass_others(self, img: &[u8], s: SuperBlock, c: ReadDir) -> ReadDir
+        requires { ⌜ Fit s (now img) ⌝ }
+        requires { ⌜ self .len ≤ 255 ⌝ }
+        ensures { λ r. ⌜ Passed (areaIn s) (now (img .entry)) (currentIn self) c r ⌝ }
+    {
+        let own = self.addr;
+        pass_unlike(img, s, c, self.len, own)
+    }
+
     // The handle's entry in its directory, with its place.
     pub fn entry(self, img: &[u8], s: SuperBlock) -> Found
         requires { ⌜ Fit s (now img) ⌝ }
@@ -218,7 +269,7 @@ impl Handle {
         let dir = self.dir;
         let mut c = ReadDir::new(s, dir);
         loop {
-            match c.next(img, s) {
+            match self.pass_others(img, s, c).next(img, s) {
                 Step::Entry(e, p, d) => {
                     if self.current(img, s.size, e, p) {
                         return Found::At(e, p);

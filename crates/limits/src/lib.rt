@@ -1,4 +1,5 @@
-// What all calls share: the refusals with their numbers, the limits of a volume, how many blocks a file has and how many bytes a block.
+// What all calls share: the refusals with their numbers, the limits of a volume, how many blocks a file has
+// and how many bytes a block.
 use block::LinkedBlock;
 ghost use mathlib.Core.Path.{_≡_};
 ghost use Prim.Native.Nat.{_-_, _<_, min};

@@ -10,7 +10,8 @@ use Rattle.dir_entry.specs.declared.Kind.the-variants.{Dir, File, Device}
 abbrev pub decimal : ℕ → ℕ
 decimal d = 48 + d
 
--- A number in decimal: the digits of n / 10, where that is not 0, and then the last one. (The first number bounds them: n + 1 is enough.)
+-- A number in decimal: the digits of n / 10, where that is not 0, and then the last one. (The first number bounds them: n + 1 is
+-- enough.)
 unfoldable pub digitsWithin : ℕ → ℕ → List ℕ
 digitsWithin zero n = []
 digitsWithin (suc k) n = pick (ltb n 10) (decimal n ∷ []) (digitsWithin k (n / 10) ++ (decimal (n % 10) ∷ []))
@@ -36,7 +37,8 @@ ended w b = w ++ (b ∷ [])
 
 -- C16: the line of an entry. Each line ends with a newline.
 unfoldable pub lineOf : Kind → ℕ → ℕ → List ℕ → List ℕ
-lineOf k size time x = ended (letter k ∷ []) space ++ (ended (digits size) space ++ (ended (digits time) space ++ ended x newline))
+lineOf k size time x = ended (letter k ∷ []) space ++
+    (ended (digits size) space ++ (ended (digits time) space ++ ended x newline))
 
 -- C16: the line of a refusal.
 abbrev pub refusedWord : List ℕ

@@ -14,7 +14,7 @@ const SPACE: u8 = 32;
 const NEWLINE: u8 = 10;
 
 // The fixed part of a listing's record: kind 1, size 4, time 8, length 1.
-const RECORD: usize = 14;
+const RECORD: usize = read_dir::RECORD;
 
 fn letter(kind: Kind) -> u8
     ensures { λ r. ⌜ r ≡ Line·letter kind ⌝ }
@@ -65,7 +65,8 @@ fn put_digits(out: &mut [u8], at: usize, n: u64, k: usize)
 // Stores a number and the byte that ends it; answers the place after them.
 fn put_number(out: &mut [u8], at: usize, n: u64, end: u8) -> usize
     requires { ⌜ at + length (digits n) < length (now out) ⌝ }
-    ensures { λ r. ⌜ (now (out .exit) ≡ splice (now (out .entry)) at (ended (digits n) end)) × (r ≡ at + length (ended (digits n) end)) ⌝ }
+    ensures { λ r. ⌜ (now (out .exit) ≡ splice (now (out .entry)) at (ended (digits n) end))
+        × (r ≡ at + length (ended (digits n) end)) ⌝ }
 {
     let k = width(n);
     put_digits(out, at, n, k);
@@ -76,7 +77,8 @@ fn put_number(out: &mut [u8], at: usize, n: u64, end: u8) -> usize
 // Stores a word and the byte that ends it; answers the place after them.
 fn put_word(out: &mut [u8], at: usize, word: &[u8], end: u8) -> usize
     requires { ⌜ at + length (now word) < length (now out) ⌝ }
-    ensures { λ r. ⌜ (now (out .exit) ≡ splice (now (out .entry)) at (ended (now (word .entry)) end)) × (r ≡ at + length (ended (now (word .entry)) end)) ⌝ }
+    ensures { λ r. ⌜ (now (out .exit) ≡ splice (now (out .entry)) at (ended (now (word .entry)) end))
+        × (r ≡ at + length (ended (now (word .entry)) end)) ⌝ }
 {
     let k = word.len();
     wire::copy(out, at, word, 0, k);
@@ -139,7 +141,8 @@ fn next(records: &[u8], at: usize) -> usize
 fn record_line(out: &mut [u8], to: usize, records: &[u8], at: usize) -> usize
     requires { ⌜ nextAt (now records) at ≤ length (now records) ⌝ }
     requires { ⌜ to + 3 * (14 + getD (now records) (at + 13) 0) ≤ length (now out) ⌝ }
-    ensures { λ r. ⌜ (now (out .exit) ≡ splice (now (out .entry)) to (lineAt (now (records .entry)) at)) × (r ≡ to + length (lineAt (now (records .entry)) at)) ⌝ }
+    ensures { λ r. ⌜ (now (out .exit) ≡ splice (now (out .entry)) to (lineAt (now (records .entry)) at))
+        × (r ≡ to + length (lineAt (now (records .entry)) at)) ⌝ }
     ensures { λ r. ⌜ r ≤ to + 3 * (14 + getD (now (records .entry)) (at + 13) 0) ⌝ }
 {
     let kind = Kind::of(records[at]);

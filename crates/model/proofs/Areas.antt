@@ -26,7 +26,7 @@ size-known g len s =
     record { least = omega arith; most = omega arith }
 
 -- sound numbers are those of K and n
-pub sound-geo : (g : Geo) (len : ℕ) → Sound g len → g ≡ geo (mount (g .K)) (g .n)
+sound-geo : (g : Geo) (len : ℕ) → Sound g len → g ≡ geo (mount (g .K)) (g .n)
 sound-geo g len s = λ i. record { K = g .K; n = g .n; version = s .known .0 i; code = s .known .1 i }
 
 pub record Area (g : Geo) : Type 0 where

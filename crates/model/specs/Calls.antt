@@ -46,7 +46,8 @@ pub record DirAt (d : ℕ) (a : ℕ) (p : List Name) (t : Tree d) : Type 0 where
   pub there : find d p t ≡ some dir
   pub starts : blocksAt (dir .1) ≡ a
 
--- The path to the directory that starts at a, if a is one reached from the root: a directory is tried before those in it, in walking order.
+-- The path to the directory that starts at a, if a is one reached from the root: a directory is tried before those in it,
+-- in walking order.
 unfoldable pub among : {X : Type 0} → (X → Option (List Name)) → List (Entry X) → Option (List Name)
 among o [] = none
 among o (e ∷ es) = orElse (then (inside o (e .node)) (λ p. some (e .name ∷ p))) (among o es)
@@ -68,7 +69,7 @@ freeBlocks g d t = clearFrom (λ b. count b (blocks (blockSize g) d t)) (dataAt 
 
 -- ---- create
 
--- 507: where a block's entries end at the latest
+-- F10: where a block's entries end at the latest: 507 of 508 data bytes
 abbrev pub entryRoom : Geo → ℕ
 entryRoom g = blockSize g - 5
 
@@ -119,7 +120,8 @@ bareLeft B a next (e ∷ es) = []
 
 unfoldable pub leftoverLater : {X : Type 0} → ℕ → Name → List (Block X) → List Piece
 leftoverLater B n [] = []
-leftoverLater B n (b ∷ bs) = pick (holds n b) (bareLeft B (b .at) (blocksAt bs) (lessFirst (called n) (b .entries))) (leftoverLater B n bs)
+leftoverLater B n (b ∷ bs) = pick (holds n b) (bareLeft B (b .at) (blocksAt bs) (lessFirst (called n) (b .entries)))
+    (leftoverLater B n bs)
 
 unfoldable pub leftover : {X : Type 0} → ℕ → Name → List (Block X) → List Piece
 leftover B n [] = []
@@ -184,7 +186,9 @@ pub record TreeCreatesFile (g : Geo) (d : ℕ) (p : List Name) (n : Name) (now :
   pub vacant : Vacant d p n t
   pub name : GoodName n
   pub room : toCreate (entryRoom g) n (vacant .dir .1) ≤ length (freeBlocks g d t)
-  pub makes : Makes g d (created d (entryRoom g) p n now (dirBlock (freeBlocks g d t)) 0 (emptyCell g (entryBlock g n (vacant .dir .1) (freeBlocks g d t)) ∷ []) t) [] I J
+  pub makes : Makes g d (created d (entryRoom g) p n now (dirBlock (freeBlocks g d t)) 0
+      (emptyCell g (entryBlock g n (vacant .dir .1) (freeBlocks g d t)) ∷ [])
+      t) [] I J
 
 -- C10, S6: create a directory: not 8, 5/6, 15, 7, 9.
 pub record TreeCreatesDir (g : Geo) (d : ℕ) (p : List Name) (n : Name) (now : ℕ) (t : Tree d) (I J : List ℕ) : Type 0 where
@@ -192,7 +196,8 @@ pub record TreeCreatesDir (g : Geo) (d : ℕ) (p : List Name) (n : Name) (now : 
   pub name : GoodName n
   pub shallow : 1 ≤ vacant .dir .0
   pub room : toCreate (entryRoom g) n (vacant .dir .1) ≤ length (freeBlocks g d t)
-  pub makes : Makes g d (createdDir d (entryRoom g) p n now (dirBlock (freeBlocks g d t)) (entryBlock g n (vacant .dir .1) (freeBlocks g d t)) t) [] I J
+  pub makes : Makes g d (createdDir d (entryRoom g) p n now (dirBlock (freeBlocks g d t))
+      (entryBlock g n (vacant .dir .1) (freeBlocks g d t)) t) [] I J
 
 -- C11, S6: delete: not 5/6, 14.
 pub record TreeDeletes (g : Geo) (d : ℕ) (p : List Name) (n : Name) (now : ℕ) (t : Tree d) (I J : List ℕ) : Type 0 where
@@ -201,7 +206,8 @@ pub record TreeDeletes (g : Geo) (d : ℕ) (p : List Name) (n : Name) (now : ℕ
   pub makes : Makes g d (deleted d p n now t) (leftover (blockSize g) n (occupied .dir .1)) I J
 
 -- C12, S6: write: not 13, 11 (the file is there, and the position in it), 10, 9.
-pub record TreeWrites (g : Geo) (d : ℕ) (p : List Name) (n : Name) (now c : ℕ) (buf : List ℕ) (t : Tree d) (I J : List ℕ) : Type 0 where
+pub record TreeWrites (g : Geo) (d : ℕ) (p : List Name) (n : Name) (now c : ℕ) (buf : List ℕ) (t : Tree d)
+    (I J : List ℕ) : Type 0 where
   pub size : ℕ
   pub time : ℕ
   pub cells : List Cell

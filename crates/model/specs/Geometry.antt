@@ -1,4 +1,5 @@
--- 3. The numbers of a volume: where superblock, bitmap and data are, how far allocation looks, and refusals 1, 2 and 3. Definitions alone.
+-- 3. The numbers of a volume: where superblock, bitmap and data are, how far allocation looks, and refusals 1, 2 and 3.
+-- Definitions alone.
 use mathlib.Core.Path.{_≡_}
 use mathlib.Core.Bool.{Bool, not, _||_}
 use mathlib.Core.List.{List, [], _∷_, _++_}
@@ -142,8 +143,8 @@ openRefusal M I =
     firstOf (when 2 (badCode M) ∷ (when 1 (badImage M (length I)) ∷ (when 2 (badMark M I)
     ∷ (when 3 (badCount (geoAt M I) (length I)) ∷ []))))
 
--- C1, O2: format asks nothing of what stands in block K, and n is the image's number of blocks; so it gives 2 for the caller's size
--- code alone.
+-- C1, O2: format asks nothing of what stands in block K, and n is the image's number of blocks; so it gives 2 for the caller's
+-- size code alone.
 abbrev pub formatGeo : Mount → ℕ → Geo
 formatGeo M len = geo M (len / codeSize (M .code))
 

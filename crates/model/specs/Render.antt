@@ -14,7 +14,8 @@ pub record Piece : Type 0 where
   pub at : ℕ
   pub full : List ℕ
 
--- What a directory's entry and the volume show of a subdirectory: its first address, its size, and the pieces of all that is in it.
+-- What a directory's entry and the volume show of a subdirectory: its first address, its size, and the pieces of
+-- all that is in it.
 pub record View (X : Type 0) : Type 0 where
   pub from : X → ℕ
   pub size : X → ℕ
@@ -51,7 +52,8 @@ sizeOf v (sub x) = v .size x
 
 unfoldable pub entryBytes : {X : Type 0} → View X → Entry X → List ℕ
 entryBytes v e =
-    (kindOf (e .node) ∷ (bytes 4 (addressOf v (e .node)) ++ bytes 4 (sizeOf v (e .node)))) ++ (bytes 8 (e .time) ++ (length (e .name) ∷ e .name))
+    (kindOf (e .node) ∷ (bytes 4 (addressOf v (e .node)) ++ bytes 4 (sizeOf v (e .node))))
+    ++ (bytes 8 (e .time) ++ (length (e .name) ∷ e .name))
 
 unfoldable pub entriesBytes : {X : Type 0} → View X → List (Entry X) → List ℕ
 entriesBytes v [] = []
@@ -75,7 +77,8 @@ entryPieces v (e ∷ es) = nodePieces v (e .node) ++ entryPieces v es
 unfoldable pub dirPieces : {X : Type 0} → ℕ → View X → List (Block X) → List Piece
 dirPieces B v [] = []
 dirPieces B v (b ∷ bs) =
-    record { at = b .at; full = bytes 4 (blocksAt bs) ++ padded (B - 4) (entriesBytes v (b .entries)) } ∷ (entryPieces v (b .entries) ++ dirPieces B v bs)
+    record { at = b .at; full = bytes 4 (blocksAt bs) ++ padded (B - 4) (entriesBytes v (b .entries)) }
+    ∷ (entryPieces v (b .entries) ++ dirPieces B v bs)
 
 unfoldable pub view : ℕ → (d : ℕ) → View (Below d)
 view B zero = record { from = λ x. absurd x; size = λ x. absurd x; pieces = λ x. absurd x }

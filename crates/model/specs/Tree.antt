@@ -123,7 +123,8 @@ fill h b = record { at = b .at; entries = h (b .entries) }
 -- C9: the entry goes to the first block where it ends at cap or before, else to a new block w behind the last one.
 unfoldable pub insert : {X : Type 0} → ℕ → ℕ → Entry X → List (Block X) → List (Block X)
 insert cap w e [] = record { at = w; entries = e ∷ [] } ∷ []
-insert cap w e (b ∷ bs) = pick (leb (used (b .entries) + weight e) cap) (fill (λ es. es ++ (e ∷ [])) b ∷ bs) (b ∷ insert cap w e bs)
+insert cap w e (b ∷ bs) = pick (leb (used (b .entries) + weight e) cap) (fill (λ es. es ++ (e ∷ [])) b ∷ bs)
+    (b ∷ insert cap w e bs)
 
 -- C12, C13: the entry of that name becomes h of it.
 unfoldable pub change : {X : Type 0} → Name → (Entry X → Entry X) → List (Block X) → List (Block X)

@@ -24,7 +24,8 @@ OwnIn B I (At p) = (B * p .block .0 + B ≤ length I) × (p .offset + header ≤
 -- C13: the own entry with size z in its bytes 5 to 8 and time k in 9 to 16; the root has none.
 abbrev pub ownRenewed : ℕ → List ℕ → Own → ℕ → ℕ → List ℕ
 ownRenewed B I Root z k = I
-ownRenewed B I (At p) z k = splice (splice I (placeAt B (p .block .0) (p .offset) + 5) (bytes 4 z)) (placeAt B (p .block .0) (p .offset) + 9) (bytes 8 k)
+ownRenewed B I (At p) z k = splice (splice I (placeAt B (p .block .0) (p .offset) + 5) (bytes 4 z))
+    (placeAt B (p .block .0) (p .offset) + 9) (bytes 8 k)
 
 -- C13: the new sum is that of the directory whose first block is dir, as it is now. (A volume's directory has one.)
 abbrev pub ownSummed : ℕ → List ℕ → Own → ℕ → Summed → List ℕ

@@ -28,7 +28,8 @@ realPath cwd p = pick (startsSlash p) p (cwd ++ (pick (endsSlash cwd) [] (slash 
 
 -- R4: the working directory is looked at only where the path needs it
 unfoldable pub badPath : List ℕ → List ℕ → Bool
-badPath cwd p = (not (startsSlash p) && not (startsSlash cwd)) || (ltb pathLimit (length (realPath cwd p)) || not (isText (realPath cwd p)))
+badPath cwd p = (not (startsSlash p) && not (startsSlash cwd))
+    || (ltb pathLimit (length (realPath cwd p)) || not (isText (realPath cwd p)))
 
 abbrev pub pathRefusal : List ℕ → List ℕ → ℕ
 pathRefusal cwd p = when 4 (badPath cwd p)

@@ -1,4 +1,5 @@
--- What the functions give: the full path of a call, the places of its parts, and the pieces of a directory part. Definitions alone.
+-- What the functions give: the full path of a call, the places of its parts, and the pieces of a directory part.
+-- Definitions alone.
 use mathlib.Core.Path.{_≡_}
 use mathlib.Core.Bool.{Bool, true, false}
 use mathlib.Core.List.{List, [], _∷_}
@@ -49,7 +50,8 @@ pub record FirstIs (full : List ℕ) (end r : ℕ) : Type 0 where
   pub high : r ≤ end
   pub rest : drop r (take end full) ≡ unled (take end full)
 
--- Where the first piece of the bytes from `at` to `end` ends: they are that piece alone, or that piece and after a slash the other pieces.
+-- Where the first piece of the bytes from `at` to `end` ends: they are that piece alone, or that piece and after a slash
+-- the other pieces.
 pub record PieceIs (full : List ℕ) (at end e : ℕ) : Type 0 where
   pub low : at ≤ e
   pub high : e ≤ end

@@ -1,4 +1,5 @@
-// Paths: the full path of a call, its directory part and its last name as places in the bytes, and the pieces of a directory part.
+// Paths: the full path of a call, its directory part and its last name as places in the bytes, and the pieces of a
+// directory part.
 // Everything is tested before the first byte is written, so a refusal leaves the buffer as it was.
 ghost use mathlib.Core.Path.{_≡_};
 ghost use mathlib.Core.Bool.{false, not, _||_};
@@ -68,7 +69,8 @@ fn fits(a: usize, gap: usize, b: usize) -> bool
 // A path that starts with a slash is full as it stands.
 fn plain(full: &mut [u8], path: &[u8]) -> Real
     requires { ⌜ length (now full) ≡ pathLimit ⌝ }
-    ensures { λ r. ⌜ PathIs (ltb pathLimit (length (now (path .entry))) || not (isText (now (path .entry)))) (now (path .entry)) (now (full .entry)) (now (full .exit)) r ⌝ }
+    ensures { λ r. ⌜ PathIs (ltb pathLimit (length (now (path .entry))) || not (isText (now (path .entry))))
+        (now (path .entry)) (now (full .entry)) (now (full .exit)) r ⌝ }
 {
     let n = path.len();
     if PATH_LIMIT < n {
@@ -84,7 +86,8 @@ fn plain(full: &mut [u8], path: &[u8]) -> Real
 // The working directory, the slashes and the path, one after the other.
 fn join(full: &mut [u8], cwd: &[u8], gap: usize, path: &[u8])
     requires { ⌜ length (now cwd) + (gap + length (now path)) ≤ length (now full) ⌝ }
-    ensures { λ _. ⌜ now (full .exit) ≡ splice (now (full .entry)) 0 (now (cwd .entry) ++ (replicate gap slash ++ now (path .entry))) ⌝ }
+    ensures { λ _. ⌜ now (full .exit) ≡ splice (now (full .entry)) 0
+        (now (cwd .entry) ++ (replicate gap slash ++ now (path .entry))) ⌝ }
 {
     let n = cwd.len();
     wire::copy(full, 0, cwd, 0, n);

@@ -7,12 +7,61 @@ use read_dir::ReadDir;
 use read_dir::Step;
 use super_block::SuperBlock;
 ghost use mathlib.Core.Path.{_≡_};
-ghost use Prim.Native.Nat.{ℕ};
+ghost use Prim.Native.Nat.{ℕ, _+_, _*_, _≤_, _<_};
+ghost use lib.ListN.{length, getD};
+ghost use Rattle.block.specs.Block.{BlockSize};
+ghost use Rattle.dir_entry.specs.Entry.{isDir, kindAt, placeAt};
 ghost use Rattle.model.specs.Tree.{Tree};
 ghost use Rattle.model.specs.Volume.{Laid, maxDepth};
 ghost use Rattle.model.specs.Calls.{pathTo};
 ghost use Rattle.super_block.specs.Super.{areaIn, geoOf, Fit};
 ghost use Rattle.reached.specs.Reach.{onDir, reaches, hasPath};
+ghost use Rattle.reached.specs.Passing.{PassedFiles, SteppedDir};
+
+// Whether the entry at an offset of a block is a directory's.
+fn is_dir(img: &[u8], size: u32, b: Addr, o: usize) -> bool
+    requires { ⌜ BlockSize size ⌝ }
+    requires { ⌜ size * b .0 + size ≤ length (now img) ⌝ }
+    requires { ⌜ o + 22 < size ⌝ }
+    ensures { λ r. ⌜ r ≡ isDir (kindAt (getD (now (img .entry)) (placeAt size (b .0) o) 0)) ⌝ }
+{
+    let at = dir_entry::place(size, b, o);
+    img[at] == 0
+}
+
+// Over the entries in the cursor's block that are no directory's: of them only the kind and the length are read.
+fn pass_files(img: &[u8], s: SuperBlock, c: ReadDir) -> ReadDir
+    requires { ⌜ Fit s (now img) ⌝ }
+    ensures { λ r. ⌜ PassedFiles (areaIn s) (now (img .entry)) c r ⌝ }
+{
+    let b = c.block;
+    let d = s.area;
+    if b.0 < d.0 {
+        return c;
+    }
+    if s.blocks <= b.0 {
+        return c;
+    }
+    let mut o = c.offset;
+    loop {
+        let n = read_dir::entry_len(img, s.size, b, o);
+        if n == 0 {
+            return c.at(o);
+        }
+        if is_dir(img, s.size, b, o) {
+            return c.at(o);
+        }
+        o = o + DirEntry::HEADER + n;
+    }
+}
+
+// The next entry that matters here: a directory's, or the first of another block.
+fn next_dir(img: &[u8], s: SuperBlock, c: ReadDir) -> Step
+    requires { ⌜ Fit s (now img) ⌝ }
+    ensures { λ r. ⌜ SteppedDir (areaIn s) (now (img .entry)) c r ⌝ }
+{
+    pass_files(img, s, c).next(img, s)
+}
 
 // Whether the directory target is the one at dir, or one below it by at most depth levels. A walk that ends in damage has
 // no more entries.
@@ -29,7 +78,7 @@ fn dir_reaches(img: &[u8], s: SuperBlock, target: Addr, depth: u32, dir: Addr) -
     let below = depth - 1;
     let mut c = ReadDir::new(s, dir);
     loop {
-        match c.next(img, s) {
+        match next_dir(img, s, c) {
             Step::Entry(e, _, d) => {
                 if entry_reaches(img, s, target, below, e) {
                     return true;
@@ -62,7 +111,8 @@ fn entry_reaches(img: &[u8], s: SuperBlock, target: Addr, depth: u32, e: DirEntr
 pub fn reached(img: &[u8], s: SuperBlock, target: Addr) -> bool
     requires { ⌜ Fit s (now img) ⌝ }
     ensures { λ r. ⌜ r ≡ reaches (areaIn s) (now (img .entry)) (target .0) maxDepth (s .area .0) ⌝ }
-    ensures { λ r. ⌜ ((t : Tree maxDepth) (u : ℕ) → Laid (geoOf s) (now (img .entry)) maxDepth t u → r ≡ hasPath (pathTo maxDepth (target .0) t)) ⌝ }
+    ensures { λ r. ⌜ ((t : Tree maxDepth) (u : ℕ) → Laid (geoOf s) (now (img .entry)) maxDepth t u
+        → r ≡ hasPath (pathTo maxDepth (target .0) t)) ⌝ }
 {
     let d = s.area;
     dir_reaches(img, s, target, limits::MAX_DEPTH, d)

@@ -17,7 +17,7 @@ use Rattle.super_block.specs.declared.SuperBlock.{SuperBlock}
 use Rattle.super_block.specs.Super.{areaIn, Fit}
 use Rattle.super_block.proofs.Fits.{placed, fit-inside}
 use Rattle.read_dir.specs.Walk.{Walk, finished, damaged, walk}
-use Rattle.read_dir.specs.Cursor.{start, cursorWalk, onStep, StepIn, Lies, Stepped, items}
+use Rattle.read_dir.specs.Cursor.{start, cursorWalk, onStep, StepIn, Lies, Stepped, items, Passed}
 use Rattle.read_dir.specs.Finds.{findIn, sumFrom, recordOf, skip, listFrom, recordsFrom}
 use Rattle.read_dir.specs.declared.ReadDir.{ReadDir}
 use Rattle.read_dir.specs.declared.Place.{Place}
@@ -60,11 +60,18 @@ module _ (A : Area) (I : List ℕ) (c : ReadDir) (m : Step) (w : Stepped A I c m
   unfolding items
   step-less e p d g = omega (arith, ap items (gave (step.Entry e p d) g))
 
+  -- and fewer than before those that were passed over
+  pub passed-less : {X : Type 0} (f : Walk → X) (c₁ : ReadDir) (e : DirEntry) (p : Place) (d : ReadDir) → Passed A I f c₁ c
+      → m ≡ step.Entry e p d → items (cursorWalk A I d) < items (cursorWalk A I c₁)
+  passed-less f c₁ e p d q g = omega (arith, step-less e p d g, q .fewer)
+
   -- ---- lookup
 
-  module _ (name : List ℕ) (c₀ : ReadDir) (inv : findIn name (cursorWalk A I c) ≡ findIn name (cursorWalk A I c₀)) where
+  -- the step is made past entries of other names, which were passed over from c₁ on
+  module _ (name : List ℕ) (c₀ c₁ : ReadDir) (q : Passed A I (findIn name) c₁ c)
+      (inv : findIn name (cursorWalk A I c₁) ≡ findIn name (cursorWalk A I c₀)) where
     finds : (x : Step) → m ≡ x → findIn name (cursorWalk A I c₀) ≡ findIn name (onStep A I x)
-    finds x g = sym inv ∙ ap (findIn name) (gave x g)
+    finds x g = sym inv ∙ sym (q .says) ∙ ap (findIn name) (gave x g)
 
     pub find-again : (e : DirEntry) (p : Place) (d : ReadDir) (t : Bool) → m ≡ step.Entry e p d
         → t ≡ same (nameAt I (placeAt (A .size) (p .block .0) (p .offset)) (e .len)) name → t ≡ false → findIn name (cursorWalk A I d) ≡ findIn name (cursorWalk A I c₀)

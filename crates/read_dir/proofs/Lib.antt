@@ -1,5 +1,6 @@
 pub mod Unroll
 pub mod Moves
+pub mod Passes
 pub mod Sizes
 pub mod Frames
 pub mod Items

@@ -107,7 +107,7 @@ module _ (A : Area) (I : List ℕ) where
   MoveIn move.Damaged = Unit {0}
 
   module _ (c : ReadDir) (z : 0 < c .left) (h : A .first ≤ c .block .0) (l : c .block .0 < A .end) where
-    over-walks : (e : DirEntry) → slotAt (A .size) I (c .block .0) (c .offset) ≡ slot.Entry e → cursorWalk A I c ≡ onMove (overMove c e)
+    pub over-walks : (e : DirEntry) → slotAt (A .size) I (c .block .0) (c .offset) ≡ slot.Entry e → cursorWalk A I c ≡ onMove (overMove c e)
     over-walks e p = go (either (eqb (e .addr .0) 0))
       where
         go : (eqb (e .addr .0) 0 ≡ true) ⊎ (eqb (e .addr .0) 0 ≡ false) → cursorWalk A I c ≡ onMove (overMove c e)

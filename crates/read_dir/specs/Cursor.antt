@@ -20,12 +20,16 @@ use Rattle.read_dir.specs.declared.Step.the-variants as step
 
 -- ---- one move
 
--- The cursor at a directory's first entry; the cursor past an entry; the place of the entry that it stands at.
+-- The cursor at a directory's first entry; the cursor past an entry, and at another offset; the place of the entry
+-- that it stands at.
 abbrev pub start : Area → Addr → ReadDir
 start A a = record { block = a; offset = 0; left = A .end - (A .first) }
 
 abbrev pub past : ReadDir → DirEntry → ReadDir
 past c e = record { block = c .block; offset = c .offset + header + e .len; left = c .left }
+
+abbrev pub atOffset : ReadDir → ℕ → ReadDir
+atOffset c o = record { block = c .block; offset = o; left = c .left }
 
 abbrev pub here : ReadDir → Place
 here c = record { block = c .block; offset = c .offset }
@@ -57,7 +61,8 @@ module _ (A : Area) (I : List ℕ) where
   unfoldable pub restFrom : ℕ → ℕ → ℕ → Walk
   restFrom zero a o = damaged
   restFrom (suc k) a o =
-      pick (inArea A I a) (entriesFrom A I (A .size) a o (pick (eqb (next (A .size) I a) 0) finished (chainFrom A I k (next (A .size) I a)))) damaged
+      pick (inArea A I a) (entriesFrom A I (A .size) a o
+      (pick (eqb (next (A .size) I a) 0) finished (chainFrom A I k (next (A .size) I a)))) damaged
 
   abbrev pub cursorWalk : ReadDir → Walk
   cursorWalk c = restFrom (c .left) (c .block .0) (c .offset)
@@ -66,7 +71,8 @@ module _ (A : Area) (I : List ℕ) where
 
   -- The item that a step gives, and what remains from the cursor past it.
   abbrev pub onStep : Step → Walk
-  onStep (step.Entry e p c) = item e (p .block .0) (p .offset) (nameAt I (placeAt (A .size) (p .block .0) (p .offset)) (e .len)) (cursorWalk c)
+  onStep (step.Entry e p c) = item e (p .block .0) (p .offset) (nameAt I (placeAt (A .size) (p .block .0) (p .offset)) (e .len))
+      (cursorWalk c)
   onStep step.End = finished
   onStep step.Damaged = damaged
 
@@ -90,3 +96,15 @@ unfoldable pub items : Walk → ℕ
 items (item e a o x w) = suc (items w)
 items finished = 0
 items damaged = 0
+
+-- ---- past entries that do not matter
+
+-- The length of a slot's name, 0 where there is no entry.
+abbrev pub lenOf : Slot → ℕ
+lenOf (slot.Entry e) = e .len
+lenOf slot.Stop = 0
+
+-- Cursor d is further on than c, past entries that f passes over: it says the same of what remains, and no more entries remain.
+pub record Passed (A : Area) (I : List ℕ) {X : Type 0} (f : Walk → X) (c d : ReadDir) : Type 0 where
+  pub says : f (cursorWalk A I d) ≡ f (cursorWalk A I c)
+  pub fewer : items (cursorWalk A I d) ≤ items (cursorWalk A I c)

@@ -45,7 +45,9 @@ skip (suc i) damaged = damaged
 -- C6: records go in while they are together strictly shorter than the buffer; cap is its length,
 -- b the bytes so far and i the number reached. O12: it ends at the first record that does not fit.
 unfoldable pub listFrom : ℕ → ℕ → ℕ → Walk → Listed
-listFrom cap b i (item e a o x w) = pick (ltb (b + (14 + e .len)) cap) (listFrom cap (b + (14 + e .len)) (i + 1) w) (listed.Records b i)
+listFrom cap b i (item e a o x w) = pick (ltb (b + (14 + e .len)) cap)
+    (listFrom cap (b + (14 + e .len)) (i + 1) w)
+    (listed.Records b i)
 listFrom cap b i finished = listed.Records b i
 listFrom cap b i damaged = listed.Damaged
 

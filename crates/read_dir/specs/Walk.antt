@@ -40,7 +40,8 @@ module _ (A : Area) (I : List ℕ) where
   -- the chain from block a on, of which k blocks may be read.
   unfoldable pub chainFrom : ℕ → ℕ → Walk
   chainFrom zero a = damaged
-  chainFrom (suc k) a = pick (inArea a) (entriesFrom (A .size) a 0 (pick (eqb (next (A .size) I a) 0) finished (chainFrom k (next (A .size) I a)))) damaged
+  chainFrom (suc k) a = pick (inArea a) (entriesFrom (A .size) a 0
+      (pick (eqb (next (A .size) I a) 0) finished (chainFrom k (next (A .size) I a)))) damaged
 
   -- The walk of the directory whose first block is a.
   abbrev pub walk : ℕ → Walk

@@ -11,14 +11,22 @@ ghost use lib.ListN.{length};
 ghost use Rattle.wire.specs.Be.{splice};
 ghost use Rattle.wire.specs.Pick.{same};
 ghost use Rattle.block.specs.Block.{BlockSize};
-ghost use Rattle.dir_entry.specs.Entry.{header, placeAt, nameAt};
+ghost use Rattle.dir_entry.specs.Entry.{header, placeAt, nameAt, slotAt};
 ghost use Rattle.super_block.specs.Super.{areaIn, Fit};
 ghost use Rattle.read_dir.specs.Walk.{walk};
 ghost use Rattle.read_dir.specs.Cursor.{start, hopMove, overMove, moveAt, cursorWalk, Stepped, items};
+ghost use Rattle.read_dir.specs.Cursor.{atOffset, lenOf, Passed};
 ghost use Rattle.read_dir.specs.Finds.{findIn, sumFrom, recordOf, skip, listFrom, recordsFrom, onListed};
 
 // The bytes of a record before the name.
-const RECORD: usize = 14;
+pub const RECORD: usize = 14;
+
+// A byte as a count, with its bound: what a cast in place would leave to the caller.
+fn wide(x: u8) -> usize
+    ensures { λ r. ⌜ (r ≡ x) × (r < 256) ⌝ }
+{
+    x as usize
+}
 
 // Where reading goes on, and how many blocks of the chain may still be read, this one counted.
 pub struct ReadDir {
@@ -77,6 +85,14 @@ impl ReadDir {
             offset: 0,
             left: s.blocks - d.0,
         }
+    }
+
+    // At another offset of its block.
+    pub fn at(mut self, o: usize) -> ReadDir
+        ensures { λ r. ⌜ r ≡ atOffset self o ⌝ }
+    {
+        self.offset = o;
+        self
     }
 
     // From a block whose entries have stopped: to the next one, unless there is none.
@@ -180,13 +196,75 @@ pub fn named(img: &[u8], size: u32, e: DirEntry, p: Place, name: &[u8]) -> bool
     requires { ⌜ BlockSize size ⌝ }
     requires { ⌜ size * p .block .0 + size ≤ length (now img) ⌝ }
     requires { ⌜ p .offset + header + e .len ≤ size - 5 ⌝ }
-    ensures { λ r. ⌜ r ≡ same (nameAt (now (img .entry)) (placeAt size (p .block .0) (p .offset)) (e .len)) (now (name .entry)) ⌝ }
+    ensures { λ r. ⌜ r ≡ same (nameAt (now (img .entry)) (placeAt size (p .block .0) (p .offset)) (e .len))
+        (now (name .entry)) ⌝ }
 {
     let x = name_of(img, size, e, p);
     if x.len() != name.len() {
         return false;
     }
     wire::same_bytes(x, 0, name)
+}
+
+// The length of the name at an offset of a block, 0 where the block's entries stop: all that must be read of an entry to
+// go over it.
+pub fn entry_len(img: &[u8], size: u32, b: Addr, o: usize) -> usize
+    requires { ⌜ BlockSize size ⌝ }
+    requires { ⌜ size * b .0 + size ≤ length (now img) ⌝ }
+    ensures { λ r. ⌜ r ≡ lenOf (slotAt size (now (img .entry)) (b .0) o) ⌝ }
+{
+    let capacity = LinkedBlock::new(size, b).capacity() as usize;
+    if capacity - DirEntry::HEADER <= o {
+        return 0;
+    }
+    let at = dir_entry::place(size, b, o);
+    if 2 < img[at] {
+        return 0;
+    }
+    let n = wide(img[at + 17]);
+    if capacity - 1 < o + DirEntry::HEADER + n {
+        return 0;
+    }
+    n
+}
+
+// Whether the name of n bytes at an offset of a block is that one.
+fn named_at(img: &[u8], size: u32, b: Addr, o: usize, n: usize, name: &[u8]) -> bool
+    requires { ⌜ BlockSize size ⌝ }
+    requires { ⌜ size * b .0 + size ≤ length (now img) ⌝ }
+    requires { ⌜ o + header + n ≤ size - 5 ⌝ }
+    ensures { λ r. ⌜ r ≡ same (nameAt (now (img .entry)) (placeAt size (b .0) o) n) (now (name .entry)) ⌝ }
+{
+    if n != name.len() {
+        return false;
+    }
+    wire::same_bytes(img, dir_entry::place(size, b, o) + DirEntry::HEADER, name)
+}
+
+// Over the entries of other names in the cursor's block. Neither their address nor their size or time is read.
+fn pass_others(img: &[u8], s: SuperBlock, c: ReadDir, name: &[u8]) -> ReadDir
+    requires { ⌜ Fit s (now img) ⌝ }
+    ensures { λ r. ⌜ Passed (areaIn s) (now (img .entry)) (findIn (now (name .entry))) c r ⌝ }
+{
+    let b = c.block;
+    let d = s.area;
+    if b.0 < d.0 {
+        return c;
+    }
+    if s.blocks <= b.0 {
+        return c;
+    }
+    let mut o = c.offset;
+    loop {
+        let n = entry_len(img, s.size, b, o);
+        if n == 0 {
+            return c.at(o);
+        }
+        if named_at(img, s.size, b, o, n, name) {
+            return c.at(o);
+        }
+        o = o + DirEntry::HEADER + n;
+    }
 }
 
 // The first entry of that name in the directory that begins at block dir.
@@ -196,7 +274,7 @@ pub fn lookup(img: &[u8], s: SuperBlock, dir: Addr, name: &[u8]) -> Found
 {
     let mut c = ReadDir::new(s, dir);
     loop {
-        match c.next(img, s) {
+        match pass_others(img, s, c, name).next(img, s) {
             Step::Entry(e, p, d) => {
                 if named(img, s.size, e, p, name) {
                     return Found::At(e, p);
@@ -280,7 +358,8 @@ fn put_record(buf: &mut [u8], at: usize, img: &[u8], size: u32, e: DirEntry, p: 
     requires { ⌜ BlockSize size ⌝ }
     requires { ⌜ size * p .block .0 + size ≤ length (now img) ⌝ }
     requires { ⌜ p .offset + header + e .len ≤ size - 5 ⌝ }
-    ensures { λ _. ⌜ now (buf .exit) ≡ splice (now (buf .entry)) at (recordOf e (nameAt (now (img .entry)) (placeAt size (p .block .0) (p .offset)) (e .len))) ⌝ }
+    ensures { λ _. ⌜ now (buf .exit) ≡ splice (now (buf .entry)) at
+        (recordOf e (nameAt (now (img .entry)) (placeAt size (p .block .0) (p .offset)) (e .len))) ⌝ }
 {
     let k = e.kind;
     let b = p.block;
@@ -295,7 +374,8 @@ fn put_record(buf: &mut [u8], at: usize, img: &[u8], size: u32, e: DirEntry, p: 
 // The records from a cursor, while they fit.
 fn fill(img: &[u8], s: SuperBlock, from: ReadDir, buf: &mut [u8])
     requires { ⌜ Fit s (now img) ⌝ }
-    ensures { λ _. ⌜ now (buf .exit) ≡ splice (now (buf .entry)) 0 (recordsFrom (length (now (buf .entry))) 0 (cursorWalk (areaIn s) (now (img .entry)) from)) ⌝ }
+    ensures { λ _. ⌜ now (buf .exit) ≡ splice (now (buf .entry)) 0 (recordsFrom (length (now (buf .entry))) 0
+        (cursorWalk (areaIn s) (now (img .entry)) from)) ⌝ }
 {
     let cap = buf.len();
     let mut c = from;
@@ -322,7 +402,9 @@ fn fill(img: &[u8], s: SuperBlock, from: ReadDir, buf: &mut [u8])
 pub fn list(img: &[u8], s: SuperBlock, dir: Addr, i: u32, buf: &mut [u8]) -> Listed
     requires { ⌜ Fit s (now img) ⌝ }
     ensures { λ r. ⌜ r ≡ listFrom (length (now (buf .entry))) 0 i (skip i (walk (areaIn s) (now (img .entry)) (dir .0))) ⌝ }
-    ensures { λ r. ⌜ now (buf .exit) ≡ onListed r (recordsFrom (length (now (buf .entry))) 0 (skip i (walk (areaIn s) (now (img .entry)) (dir .0)))) (now (buf .entry)) ⌝ }
+    ensures { λ r. ⌜ now (buf .exit) ≡ onListed r
+        (recordsFrom (length (now (buf .entry))) 0 (skip i (walk (areaIn s) (now (img .entry)) (dir .0))))
+        (now (buf .entry)) ⌝ }
 {
     let c = seek(img, s, dir, i);
     match measure(img, s, c, i, buf.len()) {

@@ -5,13 +5,14 @@ use Prim.Native.Nat.{ℕ, suc, _+_, _-_, _*_, _≤_, _<_}
 use native.Mathlib.Nat.{mul-suc, mul-add, mul-comm, mul-le-mul-left}
 use native.Mathlib.Omega.{arith}
 use lib.ListN.{length}
-use Rattle.model.specs.Geometry.{Mount, Geo, blockSize, areaOf, geo, geoAt, formatGeo, Sound, openRefusal, formatRefusal, countAt}
+use Rattle.block.specs.Block.{BlockSize}
+use Rattle.model.specs.Geometry.{Mount, Geo, blockSize, mapAt, areaOf, geo, geoAt, formatGeo, Sound, openRefusal, formatRefusal}
 use Rattle.model.proofs.Areas.{size-known, area, few}
 use Rattle.model.proofs.Opens.{opens-sound, format-sound}
-use Rattle.model.specs.Volume.{Volume, WellFormed, maxDepth}
+use Rattle.model.specs.Volume.{Volume, maxDepth}
 use Rattle.model.proofs.OneVolume.{well-formed-geo}
 use Rattle.super_block.specs.declared.SuperBlock.{SuperBlock}
-use Rattle.super_block.specs.Super.{mountOf, geoOf, areaIn, superBlock, Fit}
+use Rattle.super_block.specs.Super.{mountOf, geoOf, areaIn, superBlock, Fit, Ready}
 
 -- the superblock and the block behind it are in the image
 top-in : (g : Geo) (len : ℕ) → Sound g len → blockSize g * g .K + 2 * blockSize g ≤ len
@@ -97,6 +98,14 @@ placed {s} {I} f =
 pub area-is : {s : SuperBlock} {I : List ℕ} → Fit s I → areaIn s ≡ areaOf (geoOf s)
 area-is {s} f = λ i. record { size = f .size i; first = f .area i; end = s .blocks }
 
+-- the bitmap begins where the definitions have it,
+pub from-is : {s : SuperBlock} {I : List ℕ} {at : ℕ} → Fit s I → at ≡ s .size * s .bitmap .0 → at ≡ blockSize (geoOf s) * mapAt (geoOf s)
+from-is {s} f e = e ∙ ap (λ (a : ℕ). s .size * a) (f .bitmap) ∙ ap (λ (z : ℕ). z * mapAt (geoOf s)) (f .size)
+
+-- what has the struct's size has a size that blocks have,
+pub made-known : {z : ℕ} (s : SuperBlock) (I : List ℕ) → Fit s I → z ≡ s .size → BlockSize z
+made-known s I f e = subst BlockSize (sym e) (f .known)
+
 -- there is a data area,
 pub area-inside : {s : SuperBlock} {I : List ℕ} → Fit s I → s .area .0 ≤ s .blocks
 area-inside f = omega (arith, placed f .some-data)
@@ -116,6 +125,10 @@ geo-is : {s : SuperBlock} {I : List ℕ} → Fit s I → geo (mountOf s) (s .blo
 geo-is {s} f = λ i. record { K = s .addr .0; n = s .blocks; version = sym (f .sound .known .0) i; code = s .code }
 
 -- The volume of a checked image, by the struct's own numbers.
-pub well-volume : (s : SuperBlock) (I : List ℕ) → Fit s I → (w : WellFormed (mountOf s) I) → s .blocks ≡ countAt (mountOf s) I → Volume (geoOf s) I maxDepth (w .tree)
-well-volume s I f w b =
-    subst (λ (g : Geo). Volume g I maxDepth (w .tree)) (well-formed-geo (mountOf s) I w ∙ ap (geo (mountOf s)) (sym b) ∙ geo-is f) (w .volume)
+pub ready-volume : (s : SuperBlock) (I : List ℕ) (r : Ready s I) → Volume (geoOf s) I maxDepth (r .well .tree)
+ready-volume s I r =
+    let w = r .well in
+    subst (λ (g : Geo). Volume g I maxDepth (w .tree)) (well-formed-geo (mountOf s) I w ∙ ap (geo (mountOf s)) (sym (r .count)) ∙ geo-is (r .fit)) (w .volume)
+
+pub ready-fit : (s : SuperBlock) (I : List ℕ) → Ready s I → Fit s I
+ready-fit s I r = r .fit

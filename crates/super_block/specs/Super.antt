@@ -6,7 +6,8 @@ use lib.ListN.{length}
 use Rattle.wire.specs.Be.{bytes, splice}
 use Rattle.block.specs.Block.{Area, BlockSize}
 use Rattle.limits.specs.Refusals.{refusalNumber}
-use Rattle.model.specs.Geometry.{Mount, Geo, blockSize, mapAt, dataAt, reach, geoAt, superBytes, Sound, openRefusal, formatRefusal, formatGeo}
+use Rattle.model.specs.Geometry.{Mount, Geo, blockSize, mapAt, dataAt, reach, countAt, geoAt, superBytes, Sound, openRefusal, formatRefusal, formatGeo}
+use Rattle.model.specs.Volume.{WellFormed}
 use Rattle.super_block.specs.declared.SuperBlock.{SuperBlock}
 use Rattle.super_block.specs.declared.Opened.{Opened}
 use Rattle.super_block.specs.declared.Opened.the-variants.{At, Refused}
@@ -46,6 +47,12 @@ pub record Fit (s : SuperBlock) (I : List ℕ) : Type 0 where
   -- what follows for the struct's own products: superblock and bitmap begin, and all blocks lie, in the image
   pub inside : s .size * s .blocks ≤ length I
   pub top : s .size * s .addr .0 + 2 * s .size ≤ length I
+
+-- O8: and the image is well formed, with that superblock: what a passed check gives and create, delete and write require.
+pub record Ready (s : SuperBlock) (I : List ℕ) : Type 0 where
+  pub fit : Fit s I
+  pub well : WellFormed (mountOf s) I
+  pub count : s .blocks ≡ countAt (mountOf s) I
 
 -- R1 to R3: reading gives the first of them that holds, or the numbers that the image's superblock says.
 abbrev pub OpenedIs : Mount → List ℕ → Opened → Type 0

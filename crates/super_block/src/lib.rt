@@ -12,7 +12,7 @@ ghost use Rattle.super_block.specs.Super.{geoOf, superBlock, Fit, Opened
 const MAX_IMAGE: usize = 4_294_967_296;
 
 // The indexes whose bits one bitmap block holds.
-pub const BITMAP_SIZE: u32 = 4096;
+const BITMAP_SIZE: u32 = 4096;
 
 // The version and the size code that are known.
 const VERSION: u8 = 2;

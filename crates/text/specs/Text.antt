@@ -1,4 +1,5 @@
--- P7: text is well-formed UTF-8 by RFC 3629, without bytes below 0x20 and without 0x7F. A name is text without `/`. Definitions alone.
+-- P7: text is well-formed UTF-8 by RFC 3629, without bytes below 0x20 and without 0x7F. A name is text without `/`.
+-- Definitions alone.
 use mathlib.Core.Bool.{Bool, true, false, not, _||_, _&&_}
 use mathlib.Core.List.{List, [], _∷_}
 use Prim.Native.Nat.{ℕ}

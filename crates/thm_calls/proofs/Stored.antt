@@ -36,8 +36,9 @@ use Rattle.create_store.specs.declared.Spot.{Spot}
 use Rattle.create_store.specs.declared.Spot.the-variants as spot
 use Rattle.create_store.specs.Create.{newHead, opened, placeIn, entered, inserted}
 use Rattle.create_store.specs.Create.{blockTaken as withFresh}
-use Rattle.delete_store.specs.Delete.{after, cutOut, released, chainFreed, beforeFrom, unlinked, lessBare, entryGone, removed}
-use Rattle.write_store.specs.Write.{hop, grown, extended, dropped, cutAfter, resized, poured, spread, wrote}
+use Rattle.delete_store.specs.Delete.{after, cutOut, beforeFrom, unlinked, lessBare, entryGone, removed}
+use Rattle.chain_store.specs.Chain.{released, chainFreed}
+use Rattle.write_store.specs.Write.{hop, grown, extended, cutAfter, resized, poured, spread, wrote}
 
 -- ---- lists
 
@@ -249,21 +250,15 @@ module _ (g : Geo) where
   bytes-extended zero I b last = b
   bytes-extended (suc k) I b last = bytes-extended k (grown g I last) (bytes-grown I b last) (fresh g I)
 
-  bytes-dropped : (k : ℕ) (I : List ℕ) → Bytes I → (a : ℕ) → Bytes (dropped g I a k)
-  unfolding dropped
-  bytes-dropped zero I b a = b
-  bytes-dropped (suc k) I b a =
-      bytes-dropped k (freed g I (a - dataAt g)) (bytes-freed I b (a - dataAt g)) (next (blockSize g) I a)
-
   bytes-resized : (I : List ℕ) → Bytes I → (a old new : ℕ) → Bytes (resized g I a old new)
   unfolding resized cutAfter
   bytes-resized I b a old new =
       let B : ℕ = blockSize g in
       let last : ℕ = hop B I (new - 1) a in
       bytes-pick (ltb old new) (extended g I (hop B I (old - 1) a) (new - old))
-      (linked B (dropped g I (next B I last) (old - new)) last 0)
+      (linked B (chainFreed g I (old - new) (next B I last)) last 0)
       (bytes-extended (new - old) I b (hop B I (old - 1) a))
-      (bytes-linked (dropped g I (next B I last) (old - new)) (bytes-dropped (old - new) I b (next B I last)) last 0)
+      (bytes-linked (chainFreed g I (old - new) (next B I last)) (bytes-chain (old - new) I b (next B I last)) last 0)
 
   bytes-poured : (k : ℕ) (I : List ℕ) → Bytes I → (a o : ℕ) (vs : List ℕ) → Bytes vs → Bytes (poured (blockSize g) I a o vs k)
   unfolding poured

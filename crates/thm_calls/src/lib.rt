@@ -1,1 +1,2 @@
-// On a well-formed volume the answers of the reading calls are the tree's, and what a changing call leaves is the volume of the changed tree: theorems alone, no code.
+// On a well-formed volume the answers of the reading calls are the tree's, and what a changing call leaves is the volume of the
+// changed tree: theorems alone, no code.

@@ -15,7 +15,7 @@ unfoldable pub onEntry : {X A : Type 0} → (X → Reply A) → Option (Entry X)
 onEntry f none = refused 5
 onEntry f (some e) = onNode f (e .node)
 
--- What the names of a path lead to from a directory of d levels: 5 where one is missing, 6 where it is no directory's.
+-- P4: what the names of a path lead to from a directory of d levels: 5 where one is missing, 6 where it is no directory's.
 unfoldable pub wayTo : (d : ℕ) → List Name → Tree d → Reply Some
 wayTo d [] t = accepted (d, t)
 wayTo zero (n ∷ p) t = onEntry (λ x. absurd x) (lookup n t)

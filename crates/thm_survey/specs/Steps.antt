@@ -52,4 +52,5 @@ module _ (A : Area) (I : List ℕ) where
   -- The same, where an entry gives its size.
   unfoldable pub subCheck : ℕ → ℕ → ℕ → List ℕ → Option (List ℕ)
   subCheck d a size seen =
-      then (seenOf (openDir a seen)) (λ s. pick (isTotal size (sumFrom 0 (walk A I a))) (through (entryCheck d) (walk A I a) s) none)
+      then (seenOf (openDir a seen)) (λ s. pick (isTotal size (sumFrom 0 (walk A I a)))
+      (through (entryCheck d) (walk A I a) s) none)

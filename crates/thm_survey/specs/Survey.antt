@@ -1,4 +1,5 @@
--- The check of W2 to W4 as a function on the bytes of any image: the tree that stands at an address, or nothing. Definitions alone.
+-- The check of W2 to W4 as a function on the bytes of any image: the tree that stands at an address, or nothing.
+-- Definitions alone.
 -- A is the data area: the size of its blocks, its first address and the volume's end.
 use mathlib.Core.Bool.{Bool, true, false, not, _&&_}
 use mathlib.Core.Option.{Option, none, some}
@@ -71,7 +72,8 @@ rawsFrom B I zero a o = none
 rawsFrom B I (suc f) a o =
     onSlot (slotAt B I a o)
     (λ e. pick (passes e (nameAt I (placeAt B a o) (e .len)))
-    (then (rawsFrom B I f a (o + header + e .len)) (λ rs. some (record { head = e; name = nameAt I (placeAt B a o) (e .len) } ∷ rs))) none)
+    (then (rawsFrom B I f a (o + header + e .len))
+    (λ rs. some (record { head = e; name = nameAt I (placeAt B a o) (e .len) } ∷ rs))) none)
     (pick (zeroFrom I (placeAt B a o) (B - 4 - o)) (some []) none)
 
 module _ (A : Area) (I : List ℕ) where
@@ -102,32 +104,42 @@ module _ (A : Area) (I : List ℕ) where
   laterOf zero a seen = pick (eqb a 0) (some (record { found = []; seen = seen })) none
   laterOf (suc k) a seen =
       pick (eqb a 0) (some (record { found = []; seen = seen }))
-      (then (claim a seen) (λ s. then (rawsFrom (A .size) I (A .size) a 0) (λ rs. pick (hasSome rs) (withFound (λ bs. record { at = a; raws = rs } ∷ bs) (laterOf k (next (A .size) I a) s)) none)))
+      (then (claim a seen)
+      (λ s. then (rawsFrom (A .size) I (A .size) a 0)
+      (λ rs. pick (hasSome rs) (withFound (λ bs. record { at = a; raws = rs } ∷ bs)
+      (laterOf k (next (A .size) I a) s)) none)))
 
   unfoldable pub blocksOf : ℕ → List ℕ → Option (Claimed (List RawBlock))
   blocksOf a seen =
-      then (claim a seen) (λ s. then (rawsFrom (A .size) I (A .size) a 0) (λ rs. withFound (λ bs. record { at = a; raws = rs } ∷ bs) (laterOf (A .end - A .first - 1) (next (A .size) I a) s)))
+      then (claim a seen)
+      (λ s. then (rawsFrom (A .size) I (A .size) a 0)
+      (λ rs. withFound (λ bs. record { at = a; raws = rs } ∷ bs) (laterOf (A .end - A .first - 1) (next (A .size) I a) s)))
 
   -- ---- what the entries stand for; `below` is the check of a subdirectory, and `size` its sum
 
   module _ {X : Type 0} (below : ℕ → List ℕ → Option (Claimed X)) (size : X → ℕ) where
     -- W4: the size in a directory's entry is its sum
     unfoldable pub subOf : DirEntry → List ℕ → Option (Claimed (Node X))
-    subOf e seen = then (below (e .addr .0) seen) (λ c. pick (eqb (e .size) (size (c .found))) (some (record { found = sub (c .found); seen = c .seen })) none)
+    subOf e seen = then (below (e .addr .0) seen)
+        (λ c. pick (eqb (e .size) (size (c .found))) (some (record { found = sub (c .found); seen = c .seen })) none)
 
     unfoldable pub nodeOf : Kind → DirEntry → List ℕ → Option (Claimed (Node X))
     nodeOf kind.Dir e seen = subOf e seen
-    nodeOf kind.File e seen = pick (leb (e .size) fileLimit) (withFound (file (e .size)) (cellsOf (blocksFor (A .size) (e .size)) (e .addr .0) seen)) none
+    nodeOf kind.File e seen = pick (leb (e .size) fileLimit)
+        (withFound (file (e .size)) (cellsOf (blocksFor (A .size) (e .size)) (e .addr .0) seen)) none
     nodeOf kind.Device e seen = withFound (device (e .size)) (chainOf (A .end - A .first) (e .addr .0) seen)
 
     unfoldable pub entriesOf : List Raw → List ℕ → Option (Claimed (List (Entry X)))
     entriesOf [] seen = some (record { found = []; seen = seen })
     entriesOf (r ∷ rs) seen =
-        then (nodeOf (r .head .kind) (r .head) seen) (λ c. withFound (λ es. record { name = r .name; time = r .head .time; node = c .found } ∷ es) (entriesOf rs (c .seen)))
+        then (nodeOf (r .head .kind) (r .head) seen)
+        (λ c. withFound (λ es. record { name = r .name; time = r .head .time; node = c .found } ∷ es)
+        (entriesOf rs (c .seen)))
 
     unfoldable pub dirOf : List RawBlock → List ℕ → Option (Claimed (List (Block X)))
     dirOf [] seen = some (record { found = []; seen = seen })
-    dirOf (b ∷ bs) seen = then (entriesOf (b .raws) seen) (λ c. withFound (λ cs. record { at = b .at; entries = c .found } ∷ cs) (dirOf bs (c .seen)))
+    dirOf (b ∷ bs) seen = then (entriesOf (b .raws) seen)
+        (λ c. withFound (λ cs. record { at = b .at; entries = c .found } ∷ cs) (dirOf bs (c .seen)))
 
     -- A directory: its blocks, its names, then its entries.
     unfoldable pub checkDir : ℕ → List ℕ → Option (Claimed (List (Block X)))

@@ -2,7 +2,7 @@
 use mathlib.Core.Path.{_≡_, refl, sym, ap, _∙_}
 use mathlib.Core.List.{List, [], _∷_, _++_, append-assoc, append-nil}
 use Prim.Native.Nat.{ℕ, zero, suc, _+_, _-_, _*_, _/_, _%_, _^_, _≤_, _<_}
-use native.Mathlib.Nat.{add-zero, zero-add, add-suc, suc-add, add-assoc, pow-suc, pow-succ', div-one, div-lt-iff-lt-mul, div-div-eq-div-mul}
+use native.Mathlib.Nat.{add-zero, zero-add, add-suc, suc-add, add-assoc, pow-zero, pow-suc, pow-succ', div-one, div-lt-iff-lt-mul, div-div-eq-div-mul}
 use native.Mathlib.Decide.{decLt}
 use native.Mathlib.Omega.{arith}
 use native.Mathlib.Numerals.{add-one}
@@ -77,6 +77,19 @@ be-none l at = refl
 pub be-more : (n : ℕ) (l : List ℕ) (at : ℕ) → be (n + 1) l at ≡ be n l at * 256 + getD l (at + n) 0
 unfolding be
 be-more n l at = rw add-one
+
+-- a number of two parts side by side
+be-add : (m n : ℕ) (l : List ℕ) (at : ℕ) → be (m + n) l at ≡ be m l at * 256 ^ n + be n l (at + m)
+unfolding be
+be-add m zero l at = rw (add-zero, pow-zero) (omega arith)
+be-add m (suc n) l at =
+    let e : at + (m + n) ≡ at + m + n = omega arith in
+    rw (add-suc, pow-suc, be-add m n l at, e) (omega arith)
+
+-- eight bytes of two halves
+pub be-halves : (l : List ℕ) (at n a b : ℕ) → n ≡ 8 → (a ≡ be 4 l at) × (a < 256 ^ 4) → (b ≡ be 4 l (at + 4)) × (b < 256 ^ 4)
+    → (a * 4294967296 + b ≡ be n l at) × (a * 4294967296 + b < 256 ^ n)
+be-halves l at n a b e p q = rw e (omega (arith, be-add 4 4 l at), omega arith)
 
 -- ---- bytes
 

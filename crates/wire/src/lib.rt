@@ -1,7 +1,9 @@
 // Bytes of a lent slice: big-endian numbers at a place, and runs of bytes filled, copied and moved.
-// Every store is a `splice` of the list of bytes, and every number read is a `be`; their laws are in proofs/Laws.antt.
+// Every store is a `splice` of the list of bytes, and every number read is a `be`; their laws are in proofs/Numbers.antt.
 ghost use mathlib.Core.Path.{_≡_};
+ghost use mathlib.Core.Bool.{_&&_};
 ghost use Prim.Native.Nat.{_+_, _≤_, _<_, _^_};
+ghost use lib.Dec.{eqb};
 ghost use lib.ListN.{length, take, drop, replicate};
 ghost use Rattle.wire.specs.Be.{be, bytes, splice};
 ghost use Rattle.wire.specs.Pick.{same, zeroFrom};
@@ -13,8 +15,8 @@ fn wide(x: u8) -> u64
     x as u64
 }
 
-// The number in the n bytes at `at`, highest byte first, at any width up to 8.
-pub fn get(s: &[u8], at: usize, n: usize) -> u64
+// The number in the n bytes at `at`, byte by byte.
+fn digits(s: &[u8], at: usize, n: usize) -> u64
     requires { ⌜ at + n ≤ length (now s) ⌝ }
     requires { ⌜ n ≤ 8 ⌝ }
     ensures { λ r. ⌜ (r ≡ be n (now (s .entry)) at) × (r < 256 ^ n) ⌝ }
@@ -26,6 +28,19 @@ pub fn get(s: &[u8], at: usize, n: usize) -> u64
         i += 1;
     }
     v
+}
+
+// The number in the n bytes at `at`, highest byte first, at any width up to 8. Eight bytes are two halves, since the
+// compiler sees that four bytes in a row, or two halves, are one load, and that eight bytes are it does not see.
+pub fn get(s: &[u8], at: usize, n: usize) -> u64
+    requires { ⌜ at + n ≤ length (now s) ⌝ }
+    requires { ⌜ n ≤ 8 ⌝ }
+    ensures { λ r. ⌜ (r ≡ be n (now (s .entry)) at) × (r < 256 ^ n) ⌝ }
+{
+    if n == 8 {
+        return digits(s, at, 4) * 4294967296 + digits(s, at + 4, 4);
+    }
+    digits(s, at, n)
 }
 
 // The four-byte number at `at`.
@@ -87,8 +102,33 @@ pub fn move_down(s: &mut [u8], at: usize, gap: usize, n: usize)
     }
 }
 
-// Whether the bytes of t stand in s from `at` on.
-pub fn same_bytes(s: &[u8], at: usize, t: &[u8]) -> bool
+// Whether a test that held so far holds of one pair of bytes more. A loop over it has no way out but its end, and only
+// such a loop does the compiler turn into one over many bytes at a time.
+fn still(ok: bool, x: u8, y: u8) -> bool
+    ensures { λ r. ⌜ r ≡ (ok && eqb x y) ⌝ }
+{
+    if x != y {
+        return false;
+    }
+    ok
+}
+
+// Whether the bytes of t stand in s from `at` on: for many bytes, all of which are looked at.
+fn same_run(s: &[u8], at: usize, t: &[u8]) -> bool
+    requires { ⌜ at + length (now t) ≤ length (now s) ⌝ }
+    ensures { λ r. ⌜ r ≡ same (take (length (now (t .entry))) (drop at (now (s .entry)))) (now (t .entry)) ⌝ }
+{
+    let mut ok = true;
+    let mut i: usize = 0;
+    while i < t.len() {
+        ok = still(ok, s[at + i], t[i]);
+        i += 1;
+    }
+    ok
+}
+
+// The same for few bytes, as those of a name: most names differ soon.
+fn same_word(s: &[u8], at: usize, t: &[u8]) -> bool
     requires { ⌜ at + length (now t) ≤ length (now s) ⌝ }
     ensures { λ r. ⌜ r ≡ same (take (length (now (t .entry))) (drop at (now (s .entry)))) (now (t .entry)) ⌝ }
 {
@@ -102,17 +142,27 @@ pub fn same_bytes(s: &[u8], at: usize, t: &[u8]) -> bool
     true
 }
 
+// Whether the bytes of t stand in s from `at` on.
+pub fn same_bytes(s: &[u8], at: usize, t: &[u8]) -> bool
+    requires { ⌜ at + length (now t) ≤ length (now s) ⌝ }
+    ensures { λ r. ⌜ r ≡ same (take (length (now (t .entry))) (drop at (now (s .entry)))) (now (t .entry)) ⌝ }
+{
+    if t.len() < 64 {
+        return same_word(s, at, t);
+    }
+    same_run(s, at, t)
+}
+
 // Whether n bytes from `at` on are zero.
 pub fn zero_bytes(s: &[u8], at: usize, n: usize) -> bool
     requires { ⌜ at + n ≤ length (now s) ⌝ }
     ensures { λ r. ⌜ r ≡ zeroFrom (now (s .entry)) at n ⌝ }
 {
+    let mut ok = true;
     let mut i: usize = 0;
     while i < n {
-        if s[at + i] != 0 {
-            return false;
-        }
+        ok = still(ok, s[at + i], 0);
         i += 1;
     }
-    true
+    ok
 }

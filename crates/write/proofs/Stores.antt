@@ -7,11 +7,9 @@ use lib.ListN.{length}
 use Rattle.model.specs.Answers.{accepted, refused, andThen}
 use Rattle.limits.specs.Refusals.{refusalNumber}
 use Rattle.limits.specs.declared.Refusal.{Refusal}
-use Rattle.model.specs.Geometry.{countAt}
-use Rattle.model.specs.Volume.{WellFormed}
 use Rattle.super_block.specs.declared.SuperBlock.{SuperBlock}
-use Rattle.super_block.specs.Super.{mountOf, geoOf, Fit}
-use Rattle.super_block.proofs.Fits.{well-volume}
+use Rattle.super_block.specs.Super.{geoOf, Ready}
+use Rattle.super_block.proofs.Fits.{ready-volume}
 use Rattle.dir_entry.specs.declared.DirEntry.{DirEntry}
 use Rattle.read_dir.specs.declared.Place.{Place}
 use Rattle.write_store.specs.Write.{wrote, CanWrite}
@@ -26,11 +24,9 @@ use Rattle.write.proofs.Targets.{accepted-can}
 module _ (s : SuperBlock) (I : List ℕ) (h : Handle) (buf : List ℕ) (r : Targeted) (er : targetedSays r ≡ targetOf (geoOf s) I h (length buf)) where
   -- ---- before the stores
 
-  module _ (f : Fit s I) (w : WellFormed (mountOf s) I) (b : s .blocks ≡ countAt (mountOf s) I) (e : DirEntry) (p : Place)
-      (q : r ≡ targeted.At e p) where
+  module _ (ok : Ready s I) (e : DirEntry) (p : Place) (q : r ≡ targeted.At e p) where
     pub store-can : CanWrite (geoOf s) I e p (h .position) (length buf)
-    store-can =
-        accepted-can (geoOf s) I (w .tree) (well-volume s I f w b) h buf (record { entry = e; place = p }) (sym er ∙ ap targetedSays q)
+    store-can = accepted-can (geoOf s) I (ok .well .tree) (ready-volume s I ok) h buf (record { entry = e; place = p }) (sym er ∙ ap targetedSays q)
 
     pub store-end : h .position + length buf ≤ 2147483647
     store-end = store-can .limit

@@ -66,7 +66,8 @@ module _ (g : Geo) (I : List ℕ) where
 
 -- H5: the handle after an accepted write of len bytes: the file ends at its position
 abbrev pub grownHandle : Handle → ℕ → Handle
-grownHandle h len = record { dir = h .dir; name = h .name; len = h .len; addr = h .addr; size = h .position + len; position = h .position + len }
+grownHandle h len =
+    record { dir = h .dir; name = h .name; len = h .len; addr = h .addr; size = h .position + len; position = h .position + len }
 
 -- C12, H6: the byte count and the new handle; a refused write hands back the very handle.
 abbrev pub handleAfter : {A : Type 0} → Handle → ℕ → Reply A → Handle

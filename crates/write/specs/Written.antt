@@ -27,7 +27,9 @@ targetedSays (targeted.Refused r) = refused (refusalNumber r)
 
 -- O11: the last two refusals, 10 and 9, or the target
 abbrev pub fitsAt : Geo → List ℕ → Handle → ℕ → DirEntry → Place → Reply Target
-fitsAt g I h len e p = given (when 10 (tooLong h len)) (given (when 9 (noRoom g I h len)) (accepted (record { entry = e; place = p })))
+fitsAt g I h len e p =
+    given (when 10 (tooLong h len))
+    (given (when 9 (noRoom g I h len)) (accepted (record { entry = e; place = p })))
 
 -- C12: the answer, the handle and the image after a write of buf, where the image was I and is J.
 pub record WriteIs (g : Geo) (h : Handle) (buf : List ℕ) (time : ℕ) (I J : List ℕ) (r : CountedOut) : Type 0 where

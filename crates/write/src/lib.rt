@@ -11,9 +11,7 @@ use super_block::SuperBlock;
 ghost use mathlib.Core.Path.{_≡_};
 ghost use mathlib.Core.Bool.{true, false};
 ghost use Prim.Native.Nat.{_+_, _-_, _≤_, _<_};
-ghost use Rattle.model.specs.Geometry.{countAt};
-ghost use Rattle.model.specs.Volume.{WellFormed};
-ghost use Rattle.super_block.specs.Super.{mountOf, geoOf, Fit};
+ghost use Rattle.super_block.specs.Super.{geoOf, Fit, Ready};
 ghost use Rattle.write.specs.Writing.{tooLong, unreached, noRoom, targetOf, grownHandle};
 ghost use Rattle.write.specs.Written.{targetedSays, fitsAt, WriteIs};
 
@@ -107,11 +105,10 @@ fn grown(mut h: Handle, len: u32) -> Handle
     h
 }
 
-// The file becomes its bytes before the position, and the buffer. Refused by 13, 11, 10 or 9, or the handle past what was written.
+// The file becomes its bytes before the position, and the buffer. Refused by 13, 11, 10 or 9, or the handle past
+// what was written.
 pub fn write(h: Handle, img: &mut [u8], s: SuperBlock, buf: &[u8], time: u64) -> CountedOut
-    requires { ⌜ Fit s (now img) ⌝ }
-    requires { ⌜ WellFormed (mountOf s) (now img) ⌝ }
-    requires { ⌜ s .blocks ≡ countAt (mountOf s) (now img) ⌝ }
+    requires { ⌜ Ready s (now img) ⌝ }
     ensures { λ r. ⌜ WriteIs (geoOf s) h (now (buf .entry)) time (now (img .entry)) (now (img .exit)) r ⌝ }
 {
     let targeted = target_of(h, img, s, buf.len());

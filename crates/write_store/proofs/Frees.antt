@@ -10,7 +10,7 @@ use Rattle.block.specs.Block.{cell, next, linked, Off, Kept}
 use Rattle.block.proofs.Blocks.{kept-refl, kept-trans, kept-less}
 use Rattle.model.specs.Tree.{Cell}
 use Rattle.model.specs.Render.{cellsAt, cellPieces, count, Shows, ShowsAll}
-use Rattle.model.specs.Geometry.{Geo, blockSize, dataAt, mapBits, superBytes, usedCount, Sound}
+use Rattle.model.specs.Geometry.{areaOf, Geo, blockSize, dataAt, mapBits, superBytes, usedCount, Sound}
 use Rattle.model.specs.Volume.{All, GoodCell}
 use Rattle.model.specs.Calls.{places}
 use Rattle.model.proofs.Areas.{few, size-large, block-inside}
@@ -20,7 +20,11 @@ use Rattle.model.proofs.Owns.{shows-kept}
 use Rattle.model.proofs.Lists.{all-left, all-right}
 use Rattle.bitmap_block.specs.Bitmap.{mark, freed}
 use Rattle.bitmap_block.proofs.Stores.{index-in, sound-kept, Aside, aside-data, freed-kept, used-freed, top-freed, mark-freed, mark-freed-other}
-use Rattle.write_store.specs.Write.{dropped, cutAfter, HeldCells}
+use Rattle.write_store.specs.Write.{cutAfter, HeldCells}
+use Rattle.chain_store.specs.Chain.{released, chainFreed}
+use Rattle.thm_walk.proofs.Walks.{in-area}
+use Rattle.wire.proofs.Picks.{pick-true, pick-false}
+use borrow.Author.Tests.{ne-eqb}
 use Rattle.write_store.proofs.Cells.{count-places, count-cell, count-no-cell, block-long, tail-shows, back-shows, relinked, count-last}
 use Rattle.write_store.proofs.Grows.{link-kept, link-mark, link-top}
 use Rattle.write_store.proofs.Hops.{next-cell}
@@ -55,13 +59,17 @@ held-back g I xs ys h =
 
 -- ---- blocks freed
 
-dropped-none : (g : Geo) (I : List ℕ) (a : ℕ) → dropped g I a 0 ≡ I
-unfolding dropped
-dropped-none g I a = refl
+freed-none : (g : Geo) (I : List ℕ) (a : ℕ) → chainFreed g I 0 a ≡ I
+unfolding chainFreed
+freed-none g I a = refl
 
-dropped-more : (g : Geo) (I : List ℕ) (a k : ℕ) → dropped g I a (suc k) ≡ dropped g (freed g I (a - dataAt g)) (next (blockSize g) I a) k
-unfolding dropped
-dropped-more g I a k = refl
+-- a block of the data, where the count is not 0
+freed-more : (g : Geo) (I : List ℕ) (a k : ℕ) → (dataAt g ≤ a) × (a < g .n) → 0 < usedCount g I
+    → chainFreed g I (suc k) a ≡ chainFreed g (freed g I (a - dataAt g)) k (next (blockSize g) I a)
+unfolding chainFreed released
+freed-more g I a k h u =
+    pick-true _ _ (in-area (areaOf g) I a h)
+    ∙ ap (λ (J : List ℕ). chainFreed g J k (next (blockSize g) I a)) (pick-false _ _ (ne-eqb (usedCount g I) 0 (λ z. omega arith)))
 
 -- What has changed: the marks of the blocks ys, and the used count.
 pub record Dropped (g : Geo) (I J : List ℕ) (ys : List Cell) : Type 0 where
@@ -131,9 +139,11 @@ module _ (g : Geo) (I : List ℕ) (s : Sound g (length I)) (y : Cell) (ys : List
             count-cell i y ys,
           )
 
-  first : dropped g I (cellsAt (y ∷ ys)) (suc (length ys)) ≡ dropped g F (cellsAt ys) (length ys)
+  first : 0 < usedCount g I → chainFreed g I (suc (length ys)) (cellsAt (y ∷ ys)) ≡ chainFreed g F (length ys) (cellsAt ys)
   unfolding F cellsAt
-  first = dropped-more g I (y .at) (length ys) ∙ ap (λ (a : ℕ). dropped g (freed g I (y .at - dataAt g)) a (length ys)) (unfold cellsAt in next-cell g I s y ys (h .range) (h .shown))
+  first u =
+      freed-more g I (y .at) (length ys) here u
+      ∙ ap (chainFreed g (freed g I (y .at - dataAt g)) (length ys)) (unfold cellsAt in next-cell g I s y ys (h .range) (h .shown))
 
   dropped-step : (J : List ℕ) → suc (length ys) ≤ usedCount g I → usedCount g I ≤ g .n → Dropped g F J ys → Dropped g I J (y ∷ ys)
   unfolding F
@@ -149,9 +159,9 @@ module _ (g : Geo) (I : List ℕ) (s : Sound g (length I)) (y : Cell) (ys : List
       }
 
 module _ (g : Geo) where
-  dropped-is : (ys : List Cell) (I : List ℕ) → Sound g (length I) → HeldCells g I ys → length ys ≤ usedCount g I → usedCount g I ≤ g .n → Dropped g I (dropped g I (cellsAt ys) (length ys)) ys
+  dropped-is : (ys : List Cell) (I : List ℕ) → Sound g (length I) → HeldCells g I ys → length ys ≤ usedCount g I → usedCount g I ≤ g .n → Dropped g I (chainFreed g I (length ys) (cellsAt ys)) ys
   dropped-is [] I s h l u =
-      subst (λ (L : List ℕ). Dropped g I L []) (sym (dropped-none g I (cellsAt [])))
+      subst (λ (L : List ℕ). Dropped g I L []) (sym (freed-none g I (cellsAt [])))
       (record {
         kept = kept-refl I;
         marks = λ x q. omega (arith, count-no-cell (dataAt g + x));
@@ -159,7 +169,7 @@ module _ (g : Geo) where
       })
   dropped-is (y ∷ ys) I s h l u =
       let ih = dropped-is ys (F g I s y ys h) (free-sound g I s y ys h) (free-held g I s y ys h) (omega (arith, free-used g I s y ys h u)) (omega (arith, free-used g I s y ys h u)) in
-      subst (λ (L : List ℕ). Dropped g I L (y ∷ ys)) (sym (first g I s y ys h)) (dropped-step g I s y ys h _ l u ih)
+      subst (λ (L : List ℕ). Dropped g I L (y ∷ ys)) (sym (first g I s y ys h (omega arith))) (dropped-step g I s y ys h _ l u ih)
 
 -- ---- a chain cut after block c
 
@@ -177,7 +187,7 @@ module _ (g : Geo) (I : List ℕ) (s : Sound g (length I)) (xs : List Cell) (c :
   cells = held-back g I xs (c ∷ ys) h
 
   D : List ℕ
-  D = dropped g I (cellsAt ys) (length ys)
+  D = chainFreed g I (length ys) (cellsAt ys)
 
   D-is : Dropped g I D ys
   unfolding D
@@ -188,7 +198,7 @@ module _ (g : Geo) (I : List ℕ) (s : Sound g (length I)) (xs : List Cell) (c :
 
   cut-at : cutAfter g I (c .at) (length ys) ≡ linked (blockSize g) D (c .at) 0
   unfolding cutAfter D
-  cut-at = ap (λ (a : ℕ). linked (blockSize g) (dropped g I a (length ys)) (c .at) 0) (next-cell g I s c ys (cells .range) (cells .shown))
+  cut-at = ap (λ (a : ℕ). linked (blockSize g) (chainFreed g I (length ys) a) (c .at) 0) (next-cell g I s c ys (cells .range) (cells .shown))
 
   J : List ℕ
   J = linked (blockSize g) D (c .at) 0

@@ -29,10 +29,6 @@ unfolding hop
 hop-add B I zero i a = ap (λ (x : ℕ). hop B I x a) (let e : 0 + i ≡ i = omega arith in e)
 hop-add B I (suc k) i a = ap (λ (x : ℕ). hop B I x a) (let e : suc k + i ≡ suc (k + i) = omega arith in e) ∙ hop-add B I k i (next B I a)
 
-pub hop-last : (B : ℕ) (I : List ℕ) (k a : ℕ) → 1 ≤ k → next B I (hop B I (k - 1) a) ≡ hop B I k a
-unfolding hop
-hop-last B I k a h = sym (hop-add B I (k - 1) 1 a) ∙ (let e : k - 1 + 1 ≡ k = omega arith in ap (λ (x : ℕ). hop B I x a) e)
-
 -- every block of the data has the next address that it had
 abbrev pub SameNext : Geo → List ℕ → List ℕ → Type 0
 SameNext g I J = (b : ℕ) → dataAt g ≤ b → b < g .n → next (blockSize g) J b ≡ next (blockSize g) I b

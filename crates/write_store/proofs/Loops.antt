@@ -13,25 +13,26 @@ use lib.Seq.{take-all, drop-drop}
 use Rattle.wire.specs.Be.{splice}
 use Rattle.wire.proofs.Picks.{pick-true, pick-false}
 use Rattle.bits.specs.Bit.{AllSet}
-use Rattle.block.specs.Block.{next, linked, Kept}
+use Rattle.block.specs.Block.{next, linked}
 use Rattle.block.proofs.Blocks.{next-kept, splice-kept}
 use Rattle.model.specs.Render.{cellsAt}
-use Rattle.model.specs.Geometry.{Geo, blockSize, mapAt, dataAt, usedCount, Sound}
+use Rattle.model.specs.Geometry.{Geo, blockSize, mapAt, dataAt, Sound}
 use Rattle.model.specs.Volume.{blocksFor}
 use Rattle.super_block.specs.declared.SuperBlock.{SuperBlock}
 use Rattle.super_block.specs.Super.{geoOf, Fit}
 use Rattle.super_block.proofs.Fits.{placed, fit-long, fit-inside}
-use Rattle.bitmap_block.specs.Bitmap.{clears, taken, freed, Room, fresh}
+use Rattle.bitmap_block.specs.Bitmap.{clears, taken, Room, fresh}
 use Rattle.bitmap_block.proofs.Answers.{found-in}
-use Rattle.bitmap_block.proofs.Stores.{Aside, aside-data, freed-kept, used-freed, fresh-high}
+use Rattle.bitmap_block.proofs.Stores.{fresh-high}
+use Rattle.chain_store.specs.Chain.{chainFreed}
 use Rattle.dir_entry.specs.declared.DirEntry.{DirEntry}
 use Rattle.read_dir.specs.declared.Place.{Place}
 use Rattle.model.proofs.Contents.{blocks-enough}
 use Rattle.own_entry.specs.declared.Own.the-variants as own
 use Rattle.own_entry.specs.Own.{OwnIn, ownRenewed}
-use Rattle.write_store.specs.Write.{hop, Along, grown, extended, dropped, cutAfter, resized, poured, spread, wrote, Chained, Resizable, CanWrite}
-use Rattle.write_store.proofs.Hops.{hop-none, hop-more, hop-last, along-here, along-next, along-less, along-drop, along-kept, along-cells, SameNext}
-use Rattle.write_store.proofs.Resizes.{Outcome, resized-is}
+use Rattle.write_store.specs.Write.{hop, Along, grown, extended, cutAfter, resized, poured, spread, wrote, Chained, Resizable, CanWrite}
+use Rattle.write_store.proofs.Hops.{hop-none, hop-more, along-here, along-next, along-less, along-drop, along-kept, along-cells, SameNext}
+use Rattle.write_store.proofs.Resizes.{Outcome, resized-is, resized-same}
 use Rattle.write_store.proofs.Grows.{grown-kept, grown-room, grown-set}
 
 -- ---- along a chain: b is the block, and left are to be passed
@@ -40,9 +41,6 @@ step : {left : ℕ} → 0 < left → left ≡ suc (left - 1)
 step h = omega arith
 
 module _ (s : SuperBlock) (I : List ℕ) (b left : ℕ) (f : Fit s I) (h : 0 < left) (w : Along (geoOf s) I b left) where
-  pub chain-low : (d : ℕ) → d ≡ s .area .0 → d ≤ b
-  chain-low d e = omega (arith, along-here (geoOf s) I b left w h, f .area)
-
   -- z and m are the size and the address of the linked block that code makes
   pub chain-next : (z m to : ℕ) → z ≡ s .size → m ≡ b → to ≡ next z I m → Along (geoOf s) I to (left - 1)
   chain-next z m to d e q =
@@ -140,58 +138,6 @@ pub extend-ends : (g : Geo) (I L : List ℕ) (b left last k : ℕ) → extended 
 unfolding extended
 extend-ends g I L b left last k t h = let e : 0 ≡ left = omega arith in ap (extended g I b) e ∙ t
 
--- ---- blocks freed: left are to be freed from b on
-
-module _ (s : SuperBlock) (I : List ℕ) (b left : ℕ) (f : Fit s I) (h : 0 < left) (w : Along (geoOf s) I b left) (x : ℕ) (d : ℕ) (q : d ≡ s .area .0) (e : x ≡ b - d) where
-  pub free-in : s .area .0 + x < s .blocks
-  free-in = omega (arith, along-here (geoOf s) I b left w h, f .area)
-
-  index : x ≡ b - dataAt (geoOf s)
-  index = omega (arith, f .area)
-
-  free-data : dataAt (geoOf s) + x < s .blocks
-  free-data = omega (arith, free-in, f .area)
-
-  module _ (J : List ℕ) (j : J ≡ freed (geoOf s) I x) where
-    kept : Kept (blockSize (geoOf s)) (Aside (geoOf s)) I J
-    kept = subst (Kept (blockSize (geoOf s)) (Aside (geoOf s)) I) (sym j) (freed-kept (geoOf s) I (f .sound) x free-data)
-
-    pub free-fit : Fit s J
-    free-fit = fit-long (kept .size) f
-
-    pub free-long : (L : List ℕ) → length I ≡ length L → length J ≡ length L
-    free-long L p = kept .size ∙ p
-
-    pub free-along : (z m to : ℕ) → z ≡ s .size → m ≡ b → to ≡ next z I m → Along (geoOf s) J to (left - 1)
-    free-along z m to v p r =
-        let B = blockSize (geoOf s) in
-        let four : 4 ≤ B = omega (arith, f .known .least, f .size) in
-        along-kept (geoOf s) I J
-        (λ c l _. next-kept B (Aside (geoOf s)) I J kept c four (λ o _. aside-data (geoOf s) (length I) (f .sound) c o l))
-        (left - 1) to (chain-next s I b left f h w z m to v p r)
-
-    free-used : 0 < usedCount (geoOf s) I → usedCount (geoOf s) I ≤ s .blocks → usedCount (geoOf s) J ≡ usedCount (geoOf s) I - 1
-    free-used l u = ap (usedCount (geoOf s)) j ∙ used-freed (geoOf s) I (f .sound) x free-data (omega (arith, placed f .few))
-
-    pub free-enough : left ≤ usedCount (geoOf s) I → usedCount (geoOf s) I ≤ s .blocks → left - 1 ≤ usedCount (geoOf s) J
-    free-enough l u = omega (arith, free-used (omega arith) u)
-
-    pub free-few : left ≤ usedCount (geoOf s) I → usedCount (geoOf s) I ≤ s .blocks → usedCount (geoOf s) J ≤ s .blocks
-    free-few l u = omega (arith, free-used (omega arith) u)
-
-    pub free-more : (L : List ℕ) (a k z m to : ℕ) → z ≡ s .size → m ≡ b → to ≡ next z I m
-        → dropped (geoOf s) I b left ≡ dropped (geoOf s) L a k → dropped (geoOf s) J to (left - 1) ≡ dropped (geoOf s) L a k
-    unfolding dropped
-    free-more L a k z m to v p r t =
-        let u : to ≡ next (blockSize (geoOf s)) I b = r ∙ λ i. next ((v ∙ f .size) i) I (p i) in
-        (λ i. dropped (geoOf s) (j i) (u i) (left - 1))
-        ∙ ap (λ (y : ℕ). dropped (geoOf s) (freed (geoOf s) I y) (next (blockSize (geoOf s)) I b) (left - 1)) index
-        ∙ sym (ap (dropped (geoOf s) I b) (step h)) ∙ t
-
-pub free-ends : (g : Geo) (I L : List ℕ) (b left a k : ℕ) → dropped g I b left ≡ dropped g L a k → left ≤ 0 → I ≡ dropped g L a k
-unfolding dropped
-free-ends g I L b left a k t h = let e : 0 ≡ left = omega arith in ap (dropped g I b) e ∙ t
-
 -- ---- the bytes: left blocks are to be filled from b on, and i bytes are stored
 
 -- a run of a block has as many bytes as are left, or as the n that the block has room for
@@ -264,17 +210,13 @@ pour-ends B L a k buf I b at i left o t h = let e : 0 ≡ left = omega arith in 
 
 -- ---- the chain cut
 
-pub cut-along : (s : SuperBlock) (I : List ℕ) (last k z m a : ℕ) → Along (geoOf s) I (next (s .size) I last) k
-    → z ≡ s .size → m ≡ last → a ≡ next z I m → Along (geoOf s) I a k
-cut-along s I last k z m a w d e q = subst (λ (x : ℕ). Along (geoOf s) I x k) (sym (q ∙ λ i. next (d i) I (e i))) w
-
 -- z and m are the linked block that is read, y and p that which is stored in
 pub cut-is : (s : SuperBlock) (I J L : List ℕ) (last k z m a y p v : ℕ) → Fit s I → z ≡ s .size → m ≡ last → a ≡ next z I m
-    → J ≡ dropped (geoOf s) I a k → y ≡ s .size → p ≡ last → v ≡ 0 → L ≡ linked y J p v → L ≡ cutAfter (geoOf s) I last k
+    → J ≡ chainFreed (geoOf s) I k a → y ≡ s .size → p ≡ last → v ≡ 0 → L ≡ linked y J p v → L ≡ cutAfter (geoOf s) I last k
 unfolding cutAfter
 cut-is s I J L last k z m a y p v f ez em ea ej ey ep ev el =
     el ∙ (λ i. linked ((ey ∙ f .size) i) (ej i) (ep i) (ev i))
-    ∙ ap (λ (x : ℕ). linked (blockSize (geoOf s)) (dropped (geoOf s) I x k) last 0) (ea ∙ λ i. next ((ez ∙ f .size) i) I (em i))
+    ∙ ap (λ (x : ℕ). linked (blockSize (geoOf s)) (chainFreed (geoOf s) I k x) last 0) (ea ∙ λ i. next ((ez ∙ f .size) i) I (em i))
 
 -- ---- the chain resized
 
@@ -314,22 +256,13 @@ module _ (s : SuperBlock) (I : List ℕ) (a old new : ℕ) (f : Fit s I) (r : Re
     pub cuts-high : last < s .blocks
     cuts-high = omega (arith, hops (new - 1), whole .at (new - 1) (omega (arith, r .some-new)))
 
-    pub cuts-along : Along (geoOf s) I (next (s .size) I last) (old - new)
-    cuts-along =
-        let n : next (s .size) I last ≡ hop (blockSize (geoOf s)) I new a
-        = (λ i. next (f .size i) I ((e ∙ hops (new - 1)) i)) ∙ hop-last (blockSize (geoOf s)) I new a (r .some-new) in
-        subst (λ (x : ℕ). Along (geoOf s) I x (old - new)) (sym n) (along-drop (geoOf s) I a old new h whole)
-
-    pub cuts-enough : old - new ≤ usedCount (geoOf s) I
-    cuts-enough = omega (arith, r .enough)
-
-    pub cuts-few : usedCount (geoOf s) I ≤ s .blocks
-    cuts-few = omega (arith, r .room .count)
-
     pub cuts-is : (J : List ℕ) → J ≡ cutAfter (geoOf s) I last (old - new) → J ≡ resized (geoOf s) I a old new
     unfolding resized
     cuts-is J j =
         j ∙ ap (λ (x : ℕ). cutAfter (geoOf s) I x (old - new)) (e ∙ hops (new - 1)) ∙ sym (pick-false _ _ (le-ltb old new h))
+
+  pub stays-is : old ≡ new → I ≡ resized (geoOf s) I a old new
+  stays-is e = resized-same (geoOf s) I (f .sound) a old new (r .chain) (r .some-old) e
 
 -- ---- the buffer put in from byte c on
 

@@ -6,24 +6,28 @@ use native.Mathlib.Nat.{mul-zero, mul-suc, mul-add}
 use native.Mathlib.Decide.{decLt}
 use native.Mathlib.Omega.{arith}
 use borrow.Author.Tests.{lt-ltb, le-ltb}
-use lib.ListN.{length, take, length-append, length-replicate, replicate-append-replicate}
-use lib.Seq.{length-take-le, take-all, take-at, take-append-add}
-use Rattle.wire.specs.Be.{zeros}
+use lib.ListN.{length, getD, take, length-append, length-replicate, replicate-append-replicate}
+use lib.Seq.{length-take-le, take-all, take-at, take-append-add, ext-getD}
+use Rattle.wire.specs.Be.{zeros, bytes, splice}
+use Rattle.wire.proofs.Numbers.{length-splice, splice-before, splice-in, splice-after, length-bytes}
 use Rattle.wire.proofs.Picks.{pick-true, pick-false}
-use Rattle.block.specs.Block.{Kept}
+use Rattle.block.specs.Block.{linked, Kept}
 use Rattle.block.proofs.Blocks.{kept-less}
 use Rattle.model.specs.Tree.{Cell}
-use Rattle.model.specs.Render.{cellsAt, count, Shows}
+use Rattle.model.specs.Render.{cellsAt, cellPieces, count, Shows}
 use Rattle.model.specs.Geometry.{Geo, blockSize, dataAt, mapBits, superBytes, usedCount, Sound}
 use Rattle.model.specs.Volume.{All, GoodCell}
 use Rattle.model.specs.Calls.{places, stream}
+use Rattle.model.proofs.Areas.{size-large, block-inside}
+use Rattle.model.proofs.Commit.{shows-one}
 use Rattle.model.proofs.Contents.{length-stream, length-places}
 use Rattle.model.proofs.Counts.{count-same, count-self}
 use Rattle.model.proofs.Lists.{all-left, length-none}
 use Rattle.bitmap_block.specs.Bitmap.{mark, clears, Room}
 use Rattle.bitmap_block.proofs.Stores.{Aside}
-use Rattle.write_store.specs.Write.{hop, extended, cutAfter, resized, HeldCells}
-use Rattle.write_store.proofs.Cells.{Front, front-of, places-append, count-places, count-cell, empties, places-empties, count-last}
+use Rattle.chain_store.specs.Chain.{chainFreed}
+use Rattle.write_store.specs.Write.{hop, extended, cutAfter, resized, HeldCells, Chained}
+use Rattle.write_store.proofs.Cells.{Front, front-of, places-append, count-places, count-cell, empties, places-empties, count-last, back-shows}
 use Rattle.write_store.proofs.Extends.{Extended, extended-held, extended-is}
 use Rattle.write_store.proofs.Frees.{cut-held, cut-kept, cut-marks, cut-top}
 use Rattle.write_store.proofs.Hops.{hop-cells}
@@ -221,3 +225,45 @@ resized-is g I s cs new h p q r l = go (decLt (length cs) new)
         subst (λ (L : List ℕ). Outcome g I L cs new) (sym (resized-more g I (cellsAt cs) (length cs) new a)) (grows a (front-of (length cs - 1) cs (omega arith)))
     go (no a) =
         subst (λ (L : List ℕ). Outcome g I L cs new) (sym (resized-less g I (cellsAt cs) (length cs) new (omega arith))) (cuts (omega arith) (front-of (new - 1) cs (omega arith)))
+
+-- ---- as many blocks as before: the last one's next address is 0 already
+
+-- a store of what stands there
+splice-shown : (I : List ℕ) (k : ℕ) (l : List ℕ) → k + length l ≤ length I → Shows I k l → splice I k l ≡ I
+splice-shown I k l h s = ext-getD 0 (splice I k l) I (length-splice I k l h) (λ i _. go i (decLt i k) (decLt i (k + length l)))
+  where
+    go : (i : ℕ) → Dec (i < k) → Dec (i < k + length l) → getD (splice I k l) i 0 ≡ getD I i 0
+    go i (yes p) q = splice-before I k l h i p
+    go i (no p) (yes q) =
+        let e : k + (i - k) ≡ i = omega arith in
+        let m : i - k < length l = omega arith in
+        subst (λ (j : ℕ). getD (splice I k l) j 0 ≡ getD I j 0) e (splice-in I k l h (i - k) m ∙ sym (s (i - k) m))
+    go i (no p) (no q) = splice-after I k l h i (omega arith)
+
+last-linked : (g : Geo) (I : List ℕ) → Sound g (length I) → (xs : List Cell) (c : Cell) → HeldCells g I (xs ++ (c ∷ []))
+    → linked (blockSize g) I (c .at) 0 ≡ I
+unfolding linked cellPieces cellsAt
+last-linked g I s xs c h =
+    let B : ℕ = blockSize g in
+    let high : c .at < g .n = h .range (c .at) (omega (arith, count-last (c .at) xs c, count-self (c .at))) .1 in
+    let shown : Shows I (B * c .at) (bytes 4 0 ++ c .body) = back-shows B I xs (c ∷ []) (h .shown) .0 in
+    splice-shown I (B * c .at) (bytes 4 0)
+    (omega (arith, length-bytes 4 0, size-large g, block-inside g (length I) s (c .at) high))
+    (shows-one I (B * c .at) (bytes 4 0) (c .body) shown)
+
+pub resized-same : (g : Geo) (I : List ℕ) → Sound g (length I) → (a old new : ℕ) → Chained g I a old → 1 ≤ old → old ≡ new
+    → I ≡ resized g I a old new
+unfolding cutAfter chainFreed
+resized-same g I s a old new c some e =
+    let cs = c .cells in
+    let f = front-of (new - 1) cs (omega (arith, c .long)) in
+    let none : f .back ≡ []
+    = length-none (f .back) (omega (arith, c .long, ap length (f .is), length-append (f .front) (f .cell ∷ f .back), f .long)) in
+    let k : cs ≡ f .front ++ (f .cell ∷ []) = f .is ∙ ap (λ (z : List Cell). f .front ++ (f .cell ∷ z)) none in
+    let z : hop (blockSize g) I (new - 1) a ≡ f .cell .at
+    = ap (hop (blockSize g) I (new - 1)) (sym (c .starts))
+    ∙ hops g I s cs (c .held) (new - 1) (f .front) (f .cell) [] k (f .long) in
+    let d : old - new ≡ 0 = omega arith in
+    sym (resized-less g I a old new (omega arith)
+    ∙ (λ i. cutAfter g I (z i) (d i))
+    ∙ last-linked g I s (f .front) (f .cell) (subst (HeldCells g I) k (c .held)))

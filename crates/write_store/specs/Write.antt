@@ -12,7 +12,8 @@ use Rattle.model.specs.Render.{cellsAt, cellPieces, count, ShowsAll}
 use Rattle.model.specs.Geometry.{Geo, blockSize, dataAt, usedCount}
 use Rattle.model.specs.Volume.{All, GoodCell, fileLimit, blocksFor}
 use Rattle.model.specs.Calls.{places}
-use Rattle.bitmap_block.specs.Bitmap.{mark, taken, freed, Room, fresh}
+use Rattle.bitmap_block.specs.Bitmap.{mark, taken, Room, fresh}
+use Rattle.chain_store.specs.Chain.{chainFreed}
 use Rattle.dir_entry.specs.Entry.{header, placeAt}
 use Rattle.dir_entry.specs.declared.DirEntry.{DirEntry}
 use Rattle.read_dir.specs.declared.Place.{Place}
@@ -43,19 +44,16 @@ extended g I last (suc k) = extended g (grown g I last) (fresh g I) k
 
 -- ---- blocks freed
 
--- k blocks of the chain from a on are given back; each one's next address is read first.
-unfoldable pub dropped : Geo → List ℕ → ℕ → ℕ → List ℕ
-dropped g I a zero = I
-dropped g I a (suc k) = dropped g (freed g I (a - dataAt g)) (next (blockSize g) I a) k
-
 -- C12: the blocks that are not needed any more, k of them behind block `last`, which ends its chain then.
 unfoldable pub cutAfter : Geo → List ℕ → ℕ → ℕ → List ℕ
-cutAfter g I last k = linked (blockSize g) (dropped g I (next (blockSize g) I last) k) last 0
+cutAfter g I last k = linked (blockSize g) (chainFreed g I k (next (blockSize g) I last)) last 0
 
 -- The chain from a on with `new` blocks for its `old`.
 unfoldable pub resized : Geo → List ℕ → ℕ → ℕ → ℕ → List ℕ
 resized g I a old new =
-    pick (ltb old new) (extended g I (hop (blockSize g) I (old - 1) a) (new - old)) (cutAfter g I (hop (blockSize g) I (new - 1) a) (old - new))
+    pick (ltb old new)
+    (extended g I (hop (blockSize g) I (old - 1) a) (new - old))
+    (cutAfter g I (hop (blockSize g) I (new - 1) a) (old - new))
 
 -- ---- the bytes
 
@@ -74,12 +72,15 @@ spread B I a c vs m = poured B I (hop B I (c / (B - 4)) a) (c % (B - 4)) vs (m -
 unfoldable pub wrote : Geo → List ℕ → DirEntry → Place → ℕ → List ℕ → ℕ → List ℕ
 wrote g I e p c vs time =
     ownRenewed (blockSize g)
-    (spread (blockSize g) (resized g I (e .addr .0) (blocksFor (blockSize g) (e .size)) (blocksFor (blockSize g) (c + length vs))) (e .addr .0) c vs (blocksFor (blockSize g) (c + length vs)))
+    (spread (blockSize g)
+    (resized g I (e .addr .0) (blocksFor (blockSize g) (e .size)) (blocksFor (blockSize g) (c + length vs)))
+    (e .addr .0) c vs (blocksFor (blockSize g) (c + length vs)))
     (own.At p) (c + length vs) time
 
 -- ---- what it asks
 
--- W2, W4 and W5 of one chain: the image shows these blocks with their next addresses, 0 in the last; each is whole, in D..n-1 and marked, none is there twice.
+-- W2, W4 and W5 of one chain: the image shows these blocks with their next addresses, 0 in the last; each is whole, in D..n-1
+-- and marked, none is there twice.
 pub record HeldCells (g : Geo) (I : List ℕ) (cells : List Cell) : Type 0 where
   pub shown : ShowsAll (blockSize g) I (cellPieces cells)
   pub whole : All (GoodCell (blockSize g)) cells

@@ -1,4 +1,5 @@
-// The stores of a write, the writing half of file.rs: blocks added or freed, the buffer along the chain, size and time into the entry.
+// The stores of a write, the writing half of file.rs: blocks added or freed,
+// the buffer along the chain, size and time into the entry.
 // Every store is a function of specs/ on the list of bytes; that they are the edit of `model` is proved in proofs/Writes.antt.
 use block::Addr;
 use block::Index;
@@ -11,12 +12,12 @@ ghost use Prim.Native.Nat.{_+_, _-_, _*_, _/_, _≤_, _<_, min};
 ghost use lib.ListN.{length, take, drop};
 ghost use Rattle.wire.specs.Be.{splice};
 ghost use Rattle.bits.specs.Bit.{AllSet};
-ghost use Rattle.block.specs.Block.{BlockSize, next};
-ghost use Rattle.model.specs.Geometry.{blockSize, mapAt, dataAt, usedCount};
+ghost use Rattle.block.specs.Block.{BlockSize};
+ghost use Rattle.model.specs.Geometry.{blockSize, mapAt, dataAt};
 ghost use Rattle.super_block.specs.Super.{geoOf, Fit};
 ghost use Rattle.dir_entry.specs.Entry.{placeAt};
 ghost use Rattle.bitmap_block.specs.Bitmap.{fresh, Room};
-ghost use Rattle.write_store.specs.Write.{hop, Along, grown, extended, dropped, cutAfter, resized, poured, spread, wrote, Resizable, CanWrite};
+ghost use Rattle.write_store.specs.Write.{hop, Along, grown, extended, cutAfter, resized, poured, spread, wrote, Resizable, CanWrite};
 
 // The address k links after a.
 fn follow(img: &[u8], s: SuperBlock, a: Addr, k: u32) -> Addr
@@ -39,7 +40,8 @@ fn grow(img: &mut [u8], s: SuperBlock, last: Addr, from: Index) -> Index
     requires { ⌜ Room (geoOf s) (now img) 1 ⌝ }
     requires { ⌜ AllSet (now img) (blockSize (geoOf s) * mapAt (geoOf s)) 0 (from .0) ⌝ }
     requires { ⌜ last .0 < s .blocks ⌝ }
-    ensures { λ r. ⌜ (now (img .exit) ≡ grown (geoOf s) (now (img .entry)) (last .0)) × (dataAt (geoOf s) + r .0 ≡ fresh (geoOf s) (now (img .entry))) ⌝ }
+    ensures { λ r. ⌜ (now (img .exit) ≡ grown (geoOf s) (now (img .entry)) (last .0))
+        × (dataAt (geoOf s) + r .0 ≡ fresh (geoOf s) (now (img .entry))) ⌝ }
 {
     let d = s.area;
     let x = bitmap_block::alloc(img, s, from);
@@ -66,43 +68,26 @@ fn extend(img: &mut [u8], s: SuperBlock, last: Addr, k: u32)
     }
 }
 
-// Gives back k blocks of the chain from a on.
-fn free_chain(img: &mut [u8], s: SuperBlock, a: Addr, k: u32)
-    requires { ⌜ Fit s (now img) ⌝ }
-    requires { ⌜ Along (geoOf s) (now img) (a .0) k ⌝ }
-    requires { ⌜ (k ≤ usedCount (geoOf s) (now img)) × (usedCount (geoOf s) (now img) ≤ s .blocks) ⌝ }
-    ensures { λ _. ⌜ now (img .exit) ≡ dropped (geoOf s) (now (img .entry)) (a .0) k ⌝ }
-{
-    let d = s.area;
-    let mut b = a;
-    let mut left = k;
-    while 0 < left {
-        let then = LinkedBlock::new(s.size, b).next_addr(img);
-        bitmap_block::free(img, s, b.index(d));
-        b = then;
-        left -= 1;
-    }
-}
-
 // Gives back the k blocks after the last one, which ends its chain then.
 fn cut(img: &mut [u8], s: SuperBlock, last: Addr, k: u32)
     requires { ⌜ Fit s (now img) ⌝ }
     requires { ⌜ last .0 < s .blocks ⌝ }
-    requires { ⌜ Along (geoOf s) (now img) (next (s .size) (now img) (last .0)) k ⌝ }
-    requires { ⌜ (k ≤ usedCount (geoOf s) (now img)) × (usedCount (geoOf s) (now img) ≤ s .blocks) ⌝ }
     ensures { λ _. ⌜ now (img .exit) ≡ cutAfter (geoOf s) (now (img .entry)) (last .0) k ⌝ }
 {
     let a = LinkedBlock::new(s.size, last).next_addr(img);
-    free_chain(img, s, a, k);
+    chain_store::free_chain(img, s, a, k);
     LinkedBlock::new(s.size, last).set_next_addr(img, Addr(0));
 }
 
-// The chain from a on gets `new` blocks for its `old`.
+// The chain from a on gets `new` blocks for its `old`. Where they are as many nothing is stored and no block looked at.
 fn resize(img: &mut [u8], s: SuperBlock, a: Addr, old: u32, new: u32)
     requires { ⌜ Fit s (now img) ⌝ }
     requires { ⌜ Resizable (geoOf s) (now img) (a .0) old new ⌝ }
     ensures { λ _. ⌜ now (img .exit) ≡ resized (geoOf s) (now (img .entry)) (a .0) old new ⌝ }
 {
+    if old == new {
+        return;
+    }
     if old < new {
         let last = follow(img, s, a, old - 1);
         extend(img, s, last, new - old);
@@ -118,7 +103,8 @@ fn put_run(img: &mut [u8], size: u32, b: Addr, at: usize, buf: &[u8], i: usize) 
     requires { ⌜ at < size - 4 ⌝ }
     requires { ⌜ i ≤ length (now buf) ⌝ }
     requires { ⌜ size * b .0 + size ≤ length (now img) ⌝ }
-    ensures { λ r. ⌜ (now (img .exit) ≡ splice (now (img .entry)) (placeAt size (b .0) at) (take (size - 4 - at) (drop i (now (buf .entry)))))
+    ensures { λ r. ⌜ (now (img .exit) ≡ splice (now (img .entry)) (placeAt size (b .0) at)
+        (take (size - 4 - at) (drop i (now (buf .entry)))))
         × (r ≡ min (length (now (buf .entry)) - i) (size - 4 - at)) ⌝ }
 {
     let capacity = (size - LinkedBlock::LINK) as usize;

@@ -1,6 +1,6 @@
 use borrow.Author.Needs.{needs}
 use Rattle.call_read.proofs.Paths.{array-long, path-refused, path-fits, path-short}
-use Rattle.call_change.proofs.Changes.{image-refused, ready-fit, ready-well, ready-count, create-refused, create-done, create-image}
+use Rattle.call_change.proofs.Changes.{image-refused, create-refused, create-done, create-image}
 use Rattle.call_change.proofs.create_dir_path.Statement.{statement}
 use Rattle.call_change.proofs.create_dir_path.Tie as tie
 use Rattle.call_change.proofs.create_dir_path.Reads as reads
@@ -34,7 +34,7 @@ slice-aggregate-create c = search needs
 
 -- src/lib.rt:513:9
 create-requires : tie.Need-create-requires
-create-requires c κs = (search (ready-fit, needs), (search (ready-well, needs), (search (ready-count, needs), (search (path-fits, array-long), search (path-short, array-long)))))
+create-requires c κs = (search needs, (search (path-fits, array-long), search (path-short, array-long)))
 
 -- src/lib.rt:515:26
 enum-known-created : tie.Need-enum-known-created

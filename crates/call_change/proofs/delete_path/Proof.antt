@@ -1,6 +1,6 @@
 use borrow.Author.Needs.{needs}
 use Rattle.call_read.proofs.Paths.{array-long, path-refused, path-fits, path-short}
-use Rattle.call_change.proofs.Changes.{image-refused, ready-fit, delete-refused, delete-done, delete-image}
+use Rattle.call_change.proofs.Changes.{image-refused, delete-refused, delete-done, delete-image}
 use Rattle.call_change.proofs.delete_path.Statement.{statement}
 use Rattle.call_change.proofs.delete_path.Tie as tie
 use Rattle.call_change.proofs.delete_path.Reads as reads
@@ -34,7 +34,7 @@ slice-aggregate-delete c = search needs
 
 -- src/lib.rt:458:9
 delete-requires : tie.Need-delete-requires
-delete-requires c κs = (search (ready-fit, needs), (search (path-fits, array-long), search (path-short, array-long)))
+delete-requires c κs = (search needs, (search (path-fits, array-long), search (path-short, array-long)))
 
 -- src/lib.rt:460:26
 enum-known-deleted : tie.Need-enum-known-deleted

@@ -1,6 +1,6 @@
 use borrow.Author.Needs.{needs}
 use Rattle.model.specs.Steps.{Bytes}
-use Rattle.call_change.proofs.Changes.{ready, ready-fit, ready-well, ready-count, write-no, write-yes}
+use Rattle.call_change.proofs.Changes.{ready, write-no, write-yes}
 use Rattle.call_change.proofs.write.Statement.{statement}
 use Rattle.call_change.proofs.write.Tie as tie
 use Rattle.call_change.proofs.write.Reads as reads
@@ -24,7 +24,7 @@ enum-known-checked-2 c = search needs
 write-requires : tie.Need-write-requires
 write-requires c κs =
     let all : Bytes (c .before .before .before .before .before .before .before .before .before .before .before .before .args .img .now) = λ i. c .before .before .before .before .before .before .before .before .before .before .before .slice-known .given i .fits in
-    (search (ready-fit, ready, all, needs), (search (ready-well, ready, all, needs), search (ready-count, ready, all, needs)))
+    search (ready, all, needs)
 
 -- src/lib.rt:561:1
 same-length : tie.Need-same-length

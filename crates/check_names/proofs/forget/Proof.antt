@@ -1,13 +1,4 @@
-use lib.ListN.{length}
-use Rattle.check_names.proofs.Along.{forget-start, forget-again, forget-end, forget-bad}
-use Rattle.check_names.specs.Filter.{Only}
-use Rattle.check_names.specs.Names.{namesIn}
-use Rattle.read_dir.proofs.Along.{entry-inside, entry-ends, step-less}
-use Rattle.read_dir.specs.Cursor.{cursorWalk, items}
-use borrow.Author.Needs.{needs}
-use mathlib.Core.Path.{_≡_, refl}
-use Rattle.super_block.proofs.Fits.{area-inside}
-use Rattle.super_block.specs.Super.{areaIn}
+use Rattle.check_names.proofs.Marks.{clear-filled}
 use Rattle.check_names.proofs.forget.Statement.{statement}
 use Rattle.check_names.proofs.forget.Tie as tie
 use Rattle.check_names.proofs.forget.Reads as reads
@@ -17,12 +8,24 @@ use Rattle.check_names.proofs.wipe.Reads as wipe-reads
 use Rattle.read_dir.proofs.ReadDir.new.Reads as new-reads
 use Rattle.read_dir.proofs.ReadDir.next.Reads as next-reads
 use Rattle.read_dir.proofs.name_of.Reads as name-of-reads
+use Rattle.wire.proofs.fill.Reads as fill-reads
+use lib.ListN.{length}
+use Rattle.check_names.proofs.Along.{forget-start, forget-again, forget-end, forget-bad}
+use Rattle.check_names.specs.Filter.{Only}
+use Rattle.check_names.specs.Names.{namesIn}
+use Rattle.read_dir.proofs.Along.{entry-inside, entry-ends}
+use Rattle.read_dir.specs.Cursor.{cursorWalk}
+use borrow.Author.Needs.{needs}
+use mathlib.Core.Path.{_≡_, refl}
+use Rattle.super_block.proofs.Fits.{area-inside}
+use Rattle.super_block.specs.Super.{areaIn}
 
 abbrev Inv-loop : tie.InvT-loop
-Inv-loop img s filter₀ c₀ filter c = Only filter (namesIn (cursorWalk (areaIn s) img c)) × (length filter ≡ length filter₀)
+Inv-loop img s filter₀ c₀ left₀ filter c left =
+    Only filter (namesIn (cursorWalk (areaIn s) img c)) × (length filter ≡ length filter₀)
 
 abbrev μ-loop : tie.MeasureT-loop
-μ-loop img s filter₀ c₀ filter c = items (cursorWalk (areaIn s) img c)
+μ-loop img s filter₀ c₀ left₀ filter c left = left
 
 -- src/lib.rt:166:9
 new-requires : tie.Need-new-requires Inv-loop μ-loop
@@ -52,9 +55,13 @@ hash-requires c κs = search needs
 wipe-requires : tie.Need-wipe-requires Inv-loop μ-loop
 wipe-requires c κs = search needs
 
+-- src/lib.rt:196:17
+sub-left : tie.Need-sub-left Inv-loop μ-loop
+sub-left c = search needs
+
 -- src/lib.rt:167:5
 loop-less : tie.Need-loop-less Inv-loop μ-loop
-loop-less c = search step-less
+loop-less c = search needs
 
 -- src/lib.rt:167:5
 loop-again : tie.Need-loop-again Inv-loop μ-loop
@@ -84,6 +91,18 @@ same-length-2 c = search needs
 returns-2 : tie.Need-returns-2 Inv-loop μ-loop
 returns-2 c = search forget-bad
 
+-- src/lib.rt:202:5
+fill-requires : tie.Need-fill-requires Inv-loop μ-loop
+fill-requires c κs = search needs
+
+-- src/lib.rt:183:1
+same-length-3 : tie.Need-same-length-3 Inv-loop μ-loop
+same-length-3 c = search needs
+
+-- src/lib.rt:183:1
+returns-3 : tie.Need-returns-3 Inv-loop μ-loop
+returns-3 c = search (clear-filled, needs)
+
 pub forget-spec : {M : Type 1} → statement M
 forget-spec =
     tie.close
@@ -97,6 +116,7 @@ forget-spec =
     name-of-requires
     hash-requires
     wipe-requires
+    sub-left
     loop-less
     loop-again
     enum-told
@@ -104,4 +124,7 @@ forget-spec =
     returns
     enum-told-2
     same-length-2
-    returns-2)
+    returns-2
+    fill-requires
+    same-length-3
+    returns-3)

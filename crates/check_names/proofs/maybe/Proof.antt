@@ -1,26 +1,31 @@
-use Rattle.check_names.proofs.Marks.{maybe-low, maybe-both}
+use Rattle.check_names.proofs.Marks.{maybe-so, maybe-not}
 use borrow.Author.Needs.{needs}
 use Rattle.check_names.proofs.maybe.Statement.{statement}
 use Rattle.check_names.proofs.maybe.Tie as tie
 use Rattle.check_names.proofs.maybe.Reads as reads
 use Rattle.check_names.proofs.maybe.Lts as lts
-use Rattle.bits.proofs.bit_at.Reads as bit-at-reads
+use Rattle.check_names.proofs.pair.Reads as pair-reads
+use Rattle.check_names.proofs.turn.Reads as turn-reads
 
--- src/lib.rt:68:9
-bit-at-requires : tie.Need-bit-at-requires
-bit-at-requires c κs = search needs
+-- src/lib.rt:85:8
+pair-requires : tie.Need-pair-requires
+pair-requires c κs = search needs
 
--- src/lib.rt:70:9
+-- src/lib.rt:86:13
+turn-requires : tie.Need-turn-requires
+turn-requires c κs = search needs
+
+-- src/lib.rt:87:9
+pair-requires-2 : tie.Need-pair-requires-2
+pair-requires-2 c κs = search needs
+
+-- src/lib.rt:87:9
 returns : tie.Need-returns
-returns c = search (maybe-low, needs)
+returns c = search (maybe-so, needs)
 
--- src/lib.rt:72:9
-bit-at-requires-2 : tie.Need-bit-at-requires-2
-bit-at-requires-2 c κs = search needs
-
--- src/lib.rt:64:1
+-- src/lib.rt:81:1
 returns-2 : tie.Need-returns-2
-returns-2 c = search (maybe-both, needs)
+returns-2 c = search (maybe-not, needs)
 
 pub maybe-spec : {M : Type 1} → statement M
-maybe-spec = tie.close (tie.spec bit-at-requires returns bit-at-requires-2 returns-2)
+maybe-spec = tie.close (tie.spec pair-requires turn-requires pair-requires-2 returns returns-2)

@@ -4,23 +4,29 @@ use Rattle.check_names.proofs.note.Statement.{statement}
 use Rattle.check_names.proofs.note.Tie as tie
 use Rattle.check_names.proofs.note.Reads as reads
 use Rattle.check_names.proofs.note.Lts as lts
-use Rattle.bits.proofs.set_bit.Reads as set-bit-reads
+use Rattle.check_names.proofs.set_pair.Reads as set-pair-reads
+use Rattle.check_names.proofs.turn.Reads as turn-reads
 
--- src/lib.rt:81:5
-set-bit-requires : tie.Need-set-bit-requires
-set-bit-requires c κs = search needs
+-- src/lib.rt:97:9
+turn-requires : tie.Need-turn-requires
+turn-requires c κs = search needs
 
--- src/lib.rt:82:5
-set-bit-requires-2 : tie.Need-set-bit-requires-2
-set-bit-requires-2 c κs = search needs
+-- src/lib.rt:98:5
+set-pair-requires : tie.Need-set-pair-requires
+set-pair-requires c κs = search needs
 
--- src/lib.rt:77:1
+-- src/lib.rt:99:5
+set-pair-requires-2 : tie.Need-set-pair-requires-2
+set-pair-requires-2 c κs = search needs
+
+-- src/lib.rt:93:1
 same-length : tie.Need-same-length
 same-length c = search needs
 
--- src/lib.rt:77:1
+-- src/lib.rt:93:1
 returns : tie.Need-returns
 returns c = search (noted-twice, needs)
 
 pub note-spec : {M : Type 1} → statement M
-note-spec = tie.close (tie.spec set-bit-requires set-bit-requires-2 same-length returns)
+note-spec =
+    tie.close (tie.spec turn-requires set-pair-requires set-pair-requires-2 same-length returns)

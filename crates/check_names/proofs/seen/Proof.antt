@@ -1,4 +1,3 @@
-use Rattle.check_names.proofs.Marks.{not-covered}
 use borrow.Author.Needs.{needs}
 use Rattle.check_names.proofs.seen.Statement.{statement}
 use Rattle.check_names.proofs.seen.Tie as tie
@@ -6,6 +5,7 @@ use Rattle.check_names.proofs.seen.Reads as reads
 use Rattle.check_names.proofs.seen.Lts as lts
 use Rattle.check_names.proofs.earlier.Reads as earlier-reads
 use Rattle.check_names.proofs.maybe.Reads as maybe-reads
+use Rattle.check_names.proofs.Marks.{not-covered}
 
 -- src/lib.rt:127:8
 maybe-requires : tie.Need-maybe-requires

@@ -1,5 +1,16 @@
+use Prim.Native.Nat.{_<_}
+use borrow.Author.Tests.{not-true, not-false}
+use Rattle.check_names.proofs.tested.Statement.{statement}
+use Rattle.check_names.proofs.tested.Tie as tie
+use Rattle.check_names.proofs.tested.Reads as reads
+use Rattle.check_names.proofs.tested.Lts as lts
+use Rattle.check_names.proofs.fresh.Reads as fresh-reads
+use Rattle.read_dir.proofs.ReadDir.new.Reads as new-reads
+use Rattle.read_dir.proofs.ReadDir.next.Reads as next-reads
+use Rattle.read_dir.proofs.name_of.Reads as name-of-reads
 use lib.ListN.{length}
-use Rattle.check_names.proofs.Along.{Met, met-start, met-within, tested-again, tested-hit, tested-end, tested-bad}
+use Rattle.check_names.proofs.Along.{Met, met-start, met-within}
+use Rattle.check_names.proofs.Along.{tested-again, tested-hit, tested-within, tested-end, tested-bad}
 use Rattle.read_dir.proofs.Along.{entry-inside, entry-ends, step-less, number-fits}
 use Rattle.read_dir.specs.Cursor.{cursorWalk, items}
 use Rattle.read_dir.specs.Walk.{walk}
@@ -7,22 +18,13 @@ use borrow.Author.Needs.{needs}
 use mathlib.Core.Path.{_≡_, refl}
 use Rattle.super_block.proofs.Fits.{area-inside}
 use Rattle.super_block.specs.Super.{areaIn}
-use Rattle.check_names.proofs.tested.Statement.{statement}
-use Rattle.check_names.proofs.tested.Tie as tie
-use Rattle.check_names.proofs.tested.Reads as reads
-use Rattle.check_names.proofs.tested.Lts as lts
-use Rattle.check_names.proofs.hash.Reads as hash-reads
-use Rattle.check_names.proofs.note.Reads as note-reads
-use Rattle.check_names.proofs.seen.Reads as seen-reads
-use Rattle.read_dir.proofs.ReadDir.new.Reads as new-reads
-use Rattle.read_dir.proofs.ReadDir.next.Reads as next-reads
-use Rattle.read_dir.proofs.name_of.Reads as name-of-reads
 
 abbrev Inv-loop : tie.InvT-loop
-Inv-loop img s dir filter₀ c₀ i₀ filter c i = Met filter i (walk (areaIn s) img (dir .0)) (cursorWalk (areaIn s) img c) × (length filter ≡ length filter₀)
+Inv-loop img s dir filter₀ m k c₀ i₀ filter c i =
+    Met filter m k i (walk (areaIn s) img (dir .0)) (cursorWalk (areaIn s) img c) × (length filter ≡ length filter₀) × (0 < m)
 
 abbrev μ-loop : tie.MeasureT-loop
-μ-loop img s dir filter₀ c₀ i₀ filter c i = items (cursorWalk (areaIn s) img c)
+μ-loop img s dir filter₀ m k c₀ i₀ filter c i = items (cursorWalk (areaIn s) img c)
 
 -- src/lib.rt:140:9
 new-requires : tie.Need-new-requires Inv-loop μ-loop
@@ -30,7 +32,7 @@ new-requires c κs = search area-inside
 
 -- src/lib.rt:142:5
 loop-holds : tie.Need-loop-holds Inv-loop μ-loop
-loop-holds c = (search met-start, refl)
+loop-holds c = (search met-start, refl, search needs)
 
 -- src/lib.rt:143:15
 next-requires : tie.Need-next-requires Inv-loop μ-loop
@@ -44,13 +46,9 @@ enum-known-e c = search needs
 name-of-requires : tie.Need-name-of-requires Inv-loop μ-loop
 name-of-requires c κs = (search needs, (search entry-inside, search entry-ends))
 
--- src/lib.rt:146:21
-hash-requires : tie.Need-hash-requires Inv-loop μ-loop
-hash-requires c κs = search needs
-
--- src/lib.rt:147:20
-seen-requires : tie.Need-seen-requires Inv-loop μ-loop
-seen-requires c κs = (search needs, (search needs, (search needs, search needs)))
+-- src/lib.rt:200:21
+fresh-requires : tie.Need-fresh-requires Inv-loop μ-loop
+fresh-requires c κs = (search needs, (search needs, (search needs, search needs)))
 
 -- src/lib.rt:148:21
 same-length : tie.Need-same-length Inv-loop μ-loop
@@ -58,11 +56,7 @@ same-length c = search needs
 
 -- src/lib.rt:148:21
 returns : tie.Need-returns Inv-loop μ-loop
-returns c = (search tested-hit, search met-within)
-
--- src/lib.rt:150:17
-note-requires : tie.Need-note-requires Inv-loop μ-loop
-note-requires c κs = search needs
+returns c = (search (tested-hit, not-true), search (tested-within, needs))
 
 -- src/lib.rt:151:21
 add-i : tie.Need-add-i Inv-loop μ-loop
@@ -74,7 +68,7 @@ loop-less c = search step-less
 
 -- src/lib.rt:142:5
 loop-again : tie.Need-loop-again Inv-loop μ-loop
-loop-again c = (search tested-again, search needs)
+loop-again c = (search (tested-again, not-false), search needs, search needs)
 
 -- src/lib.rt:154:26
 enum-told : tie.Need-enum-told Inv-loop μ-loop
@@ -111,11 +105,9 @@ tested-spec =
     next-requires
     enum-known-e
     name-of-requires
-    hash-requires
-    seen-requires
+    fresh-requires
     same-length
     returns
-    note-requires
     add-i
     loop-less
     loop-again

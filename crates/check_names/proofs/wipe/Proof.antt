@@ -1,38 +1,32 @@
 use Rattle.check_names.proofs.Marks.{wiped-twice}
-use lib.ListN.{length-set}
-use Prim.Native.Nat.{_/_, _%_}
-use native.Mathlib.Omega.{arith}
 use borrow.Author.Needs.{needs}
 use Rattle.check_names.proofs.wipe.Statement.{statement}
 use Rattle.check_names.proofs.wipe.Tie as tie
 use Rattle.check_names.proofs.wipe.Reads as reads
 use Rattle.check_names.proofs.wipe.Lts as lts
+use Rattle.check_names.proofs.turn.Reads as turn-reads
+use Rattle.check_names.proofs.wipe_pair.Reads as wipe-pair-reads
 
--- src/lib.rt:90:15
-cast-low : tie.Need-cast-low
-cast-low c = search needs
+-- src/lib.rt:107:9
+turn-requires : tie.Need-turn-requires
+turn-requires c κs = search needs
 
--- src/lib.rt:91:16
-cast-high : tie.Need-cast-high
-cast-high c = search needs
+-- src/lib.rt:108:5
+wipe-pair-requires : tie.Need-wipe-pair-requires
+wipe-pair-requires c κs = search needs
 
--- src/lib.rt:92:5
-slice-write-filter : tie.Need-slice-write-filter
-slice-write-filter c = search needs
+-- src/lib.rt:109:5
+wipe-pair-requires-2 : tie.Need-wipe-pair-requires-2
+wipe-pair-requires-2 c κs = search needs
 
--- src/lib.rt:93:5
-slice-write-filter-2 : tie.Need-slice-write-filter-2
-slice-write-filter-2 c = omega (arith, length-set (c .args .filter .now) (c .args .h % 131072 / 8) 0, c .fits .h .fits)
-
--- src/lib.rt:86:1
+-- src/lib.rt:103:1
 same-length : tie.Need-same-length
 same-length c = search needs
 
--- src/lib.rt:86:1
+-- src/lib.rt:103:1
 returns : tie.Need-returns
 returns c = search (wiped-twice, needs)
 
 pub wipe-spec : {M : Type 1} → statement M
 wipe-spec =
-    tie.close
-    (tie.spec cast-low cast-high slice-write-filter slice-write-filter-2 same-length returns)
+    tie.close (tie.spec turn-requires wipe-pair-requires wipe-pair-requires-2 same-length returns)

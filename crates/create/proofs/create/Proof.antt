@@ -1,5 +1,6 @@
 use Rattle.create.proofs.Sites.{path-bad, path-bad-leaves, short-name, path-refused, path-leaves, path-done, path-stored}
 use Rattle.dir.proofs.HoldLaws.{held-inside}
+use Rattle.super_block.proofs.Fits.{ready-fit}
 use borrow.Author.Needs.{needs}
 use Rattle.create.proofs.create.Statement.{statement}
 use Rattle.create.proofs.create.Tie as tie
@@ -29,7 +30,7 @@ returns : tie.Need-returns
 returns c = (search path-bad, search path-bad-leaves)
 
 hold-requires : tie.Need-hold-requires
-hold-requires c κs = search needs
+hold-requires c κs = search (ready-fit, needs)
 
 enum-known-held : tie.Need-enum-known-held
 enum-known-held c = search needs
@@ -50,7 +51,7 @@ create-in-requires : tie.Need-create-in-requires
 create-in-requires c κs =
     let pre = c .before .before .before .before .before .before .before .before .before .before .before .before .before .pre in
     let n = c .before .before .before .before .before .before .before .before .bad-name .ensures in
-    (pre .0, (pre .1 .0, (pre .1 .1 .0, (short-name _ _ n (c .before .before .before .before .before .before .before .if1 .left), search held-inside))))
+    (pre .0, (short-name _ _ n (c .before .before .before .before .before .before .before .if1 .left), search (held-inside, ready-fit)))
 
 same-length : tie.Need-same-length
 same-length c = search needs

@@ -1,4 +1,5 @@
 use Rattle.create.proofs.Sites.{create-refused, create-leaves, create-block, create-stores, asked-room, asked-spot}
+use Rattle.super_block.proofs.Fits.{ready-fit}
 use borrow.Author.Needs.{needs}
 use Rattle.create.proofs.create_in.Statement.{statement}
 use Rattle.create.proofs.create_in.Tie as tie
@@ -17,7 +18,7 @@ enum-known-sited-2 : tie.Need-enum-known-sited-2
 enum-known-sited-2 c = search needs
 
 insert-requires : tie.Need-insert-requires
-insert-requires c κs = (search needs, (search asked-room, (search asked-spot, (search needs, search needs))))
+insert-requires c κs = (search (ready-fit, needs), (search asked-room, (search asked-spot, (search needs, search needs))))
 
 same-length : tie.Need-same-length
 same-length c = search needs

@@ -1,4 +1,5 @@
 use Rattle.create.proofs.Sites.{site-damaged, site-full, site-free, spot-room, spot-in}
+use Rattle.super_block.proofs.Fits.{ready-fit}
 use borrow.Author.Needs.{needs}
 use Rattle.create.proofs.site_at.Statement.{statement}
 use Rattle.create.proofs.site_at.Tie as tie
@@ -9,7 +10,7 @@ use Rattle.create_store.proofs.blocks_needed.Reads as blocks-needed-reads
 use Rattle.create_store.proofs.spot_for.Reads as spot-for-reads
 
 spot-for-requires : tie.Need-spot-for-requires
-spot-for-requires c κs = search needs
+spot-for-requires c κs = search (ready-fit, needs)
 
 blocks-needed-requires : tie.Need-blocks-needed-requires
 blocks-needed-requires c κs = search needs
@@ -18,7 +19,7 @@ returns : tie.Need-returns
 returns c = (search site-damaged, tt)
 
 lacks-requires : tie.Need-lacks-requires
-lacks-requires c κs = search needs
+lacks-requires c κs = search (ready-fit, needs)
 
 returns-2 : tie.Need-returns-2
 returns-2 c = (search site-full, tt)

@@ -1,4 +1,5 @@
 use Rattle.create.proofs.Sites.{in-deep, in-exists, in-damaged, in-free}
+use Rattle.super_block.proofs.Fits.{ready-fit}
 use borrow.Author.Needs.{needs}
 use Rattle.create.proofs.site_in.Statement.{statement}
 use Rattle.create.proofs.site_in.Tie as tie
@@ -15,7 +16,7 @@ returns : tie.Need-returns
 returns c = (search in-deep, tt)
 
 lookup-requires : tie.Need-lookup-requires
-lookup-requires c κs = search needs
+lookup-requires c κs = search (ready-fit, needs)
 
 enum-told : tie.Need-enum-told
 enum-told c = search needs

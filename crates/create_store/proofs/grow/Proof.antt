@@ -1,4 +1,5 @@
-use Rattle.create_store.proofs.Steps.{made-known, still-inside, grow-image}
+use Rattle.create_store.proofs.Steps.{still-inside, grow-image}
+use Rattle.super_block.proofs.Fits.{made-known}
 use borrow.Author.Needs.{needs}
 use Rattle.create_store.proofs.grow.Statement.{statement}
 use Rattle.create_store.proofs.grow.Tie as tie

@@ -1,4 +1,4 @@
-use Rattle.create_store.proofs.Steps.{made-known}
+use Rattle.super_block.proofs.Fits.{made-known}
 use Rattle.create_store.proofs.Spots.{left-over, left-below, left-above, left-in, left-after, left-again}
 use Rattle.create_store.specs.Create.{spotFrom, spotFor}
 use mathlib.Core.Path.{_≡_, refl}

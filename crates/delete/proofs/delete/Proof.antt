@@ -1,4 +1,5 @@
 use Rattle.delete.proofs.Answers.{begins-in, lies-from, lies-below, lies-ends, own-inside, deleted-done, image-done, deleted-refused, image-refused}
+use Rattle.super_block.proofs.Fits.{ready-fit}
 use borrow.Author.Needs.{needs}
 use Rattle.delete.proofs.delete.Statement.{statement}
 use Rattle.delete.proofs.delete.Tie as tie
@@ -9,7 +10,7 @@ use Rattle.delete_store.proofs.remove.Reads as remove-reads
 
 -- src/lib.rt:117:9
 doomed-of-requires : tie.Need-doomed-of-requires
-doomed-of-requires c κs = search needs
+doomed-of-requires c κs = search (ready-fit, needs)
 
 -- src/lib.rt:119:20
 enum-known-dooms : tie.Need-enum-known-dooms
@@ -17,7 +18,7 @@ enum-known-dooms c = search needs
 
 -- src/lib.rt:120:13
 remove-requires : tie.Need-remove-requires
-remove-requires c κs = (search needs, (search begins-in, (search lies-from, (search lies-below, (search lies-ends, search own-inside)))))
+remove-requires c κs = (search (ready-fit, needs), (search begins-in, (search lies-from, (search lies-below, (search lies-ends, search own-inside)))))
 
 -- src/lib.rt:123:25
 enum-known-dooms-2 : tie.Need-enum-known-dooms-2

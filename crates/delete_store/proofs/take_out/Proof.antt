@@ -1,4 +1,5 @@
-use Rattle.delete_store.proofs.Answers.{still-fit, gone-is}
+use Rattle.delete_store.proofs.Answers.{gone-is}
+use Rattle.chain_store.proofs.Answers.{still-fit}
 use Rattle.super_block.proofs.Fits.{fit-inside}
 use borrow.Author.Needs.{needs}
 use Rattle.delete_store.proofs.take_out.Statement.{statement}

@@ -1,4 +1,5 @@
-use Rattle.delete_store.proofs.Answers.{still-fit, unlink-is}
+use Rattle.delete_store.proofs.Answers.{unlink-is}
+use Rattle.chain_store.proofs.Answers.{still-fit}
 use borrow.Author.Needs.{needs}
 use Rattle.delete_store.proofs.unlink.Statement.{statement}
 use Rattle.delete_store.proofs.unlink.Tie as tie
@@ -10,7 +11,7 @@ use Rattle.block.proofs.LinkedBlock.new.Reads as new-reads
 use Rattle.block.proofs.LinkedBlock.next_addr.Reads as next-addr-reads
 use Rattle.block.proofs.LinkedBlock.set_next_addr.Reads as set-next-addr-reads
 use Rattle.delete_store.proofs.before.Reads as before-reads
-use Rattle.delete_store.proofs.release.Reads as release-reads
+use Rattle.chain_store.proofs.release.Reads as release-reads
 
 -- src/lib.rt:101:14
 new-requires : tie.Need-new-requires

@@ -3,7 +3,7 @@ use mathlib.Core.Path.{_≡_, refl}
 use native.Mathlib.Omega.{arith}
 use borrow.Author.Needs.{needs}
 use Rattle.read_dir.specs.Cursor.{cursorWalk, items}
-use Rattle.read_dir.proofs.Along.{step-less}
+use Rattle.reached.proofs.Steps.{dir-less}
 use Rattle.reached.proofs.Steps.{rest, reach-here, reach-last, rest-again, rest-hit, rest-end, rest-bad, entry-file, entry-device, entry-down}
 use borrow.Fn.Kinds.{In}
 use borrow.Fn.PlainCycle.{Measures, is, falls, and}
@@ -16,7 +16,7 @@ use Rattle.reached.proofs.entry_reaches.Reads as entry-reaches
 use Rattle.reached.proofs.entry_reaches.Kinds as entry-reaches-kinds
 use Rattle.reached.proofs.+dir_reaches+entry_reaches.Lts-entry_reaches as entry-reaches-lts
 use Rattle.read_dir.proofs.ReadDir.new.Reads as new-reads
-use Rattle.read_dir.proofs.ReadDir.next.Reads as next-reads
+use Rattle.reached.proofs.next_dir.Reads as next-dir-reads
 use Rattle.reached.proofs.+dir_reaches+entry_reaches.{statement}
 use Rattle.reached.proofs.+dir_reaches+entry_reaches.Tie.{close}
 
@@ -56,8 +56,8 @@ dir-reaches-μ-loop img s target depth below c₀ c = items (cursorWalk (areaIn 
 dir-reaches-returns : (t : ℕ) → dir-reaches-lts.Need-returns (
   new-reads.Asked,
   new-reads.Learnt,
-  next-reads.Asked,
-  next-reads.Learnt,
+  next-dir-reads.Asked,
+  next-dir-reads.Learnt,
   entry-reaches-below t,
   entry-reaches.Post,
 ) (dir-reaches-at t) dir-reaches.Post dir-reaches-Inv-loop dir-reaches-μ-loop
@@ -67,8 +67,8 @@ dir-reaches-returns t c = search reach-here
 dir-reaches-returns-2 : (t : ℕ) → dir-reaches-lts.Need-returns-2 (
   new-reads.Asked,
   new-reads.Learnt,
-  next-reads.Asked,
-  next-reads.Learnt,
+  next-dir-reads.Asked,
+  next-dir-reads.Learnt,
   entry-reaches-below t,
   entry-reaches.Post,
 ) (dir-reaches-at t) dir-reaches.Post dir-reaches-Inv-loop dir-reaches-μ-loop
@@ -78,8 +78,8 @@ dir-reaches-returns-2 t c = search reach-last
 dir-reaches-sub-below : (t : ℕ) → dir-reaches-lts.Need-sub-below (
   new-reads.Asked,
   new-reads.Learnt,
-  next-reads.Asked,
-  next-reads.Learnt,
+  next-dir-reads.Asked,
+  next-dir-reads.Learnt,
   entry-reaches-below t,
   entry-reaches.Post,
 ) (dir-reaches-at t) dir-reaches.Post dir-reaches-Inv-loop dir-reaches-μ-loop
@@ -89,8 +89,8 @@ dir-reaches-sub-below t c = search needs
 dir-reaches-new-requires : (t : ℕ) → dir-reaches-lts.Need-new-requires (
   new-reads.Asked,
   new-reads.Learnt,
-  next-reads.Asked,
-  next-reads.Learnt,
+  next-dir-reads.Asked,
+  next-dir-reads.Learnt,
   entry-reaches-below t,
   entry-reaches.Post,
 ) (dir-reaches-at t) dir-reaches.Post dir-reaches-Inv-loop dir-reaches-μ-loop
@@ -100,30 +100,30 @@ dir-reaches-new-requires t c κs = search area-inside
 dir-reaches-loop-holds : (t : ℕ) → dir-reaches-lts.Need-loop-holds (
   new-reads.Asked,
   new-reads.Learnt,
-  next-reads.Asked,
-  next-reads.Learnt,
+  next-dir-reads.Asked,
+  next-dir-reads.Learnt,
   entry-reaches-below t,
   entry-reaches.Post,
 ) (dir-reaches-at t) dir-reaches.Post dir-reaches-Inv-loop dir-reaches-μ-loop
 dir-reaches-loop-holds t c = refl
 
 -- src/lib.rt:37:15
-dir-reaches-next-requires : (t : ℕ) → dir-reaches-lts.Need-next-requires (
+dir-reaches-next-dir-requires : (t : ℕ) → dir-reaches-lts.Need-next-dir-requires (
   new-reads.Asked,
   new-reads.Learnt,
-  next-reads.Asked,
-  next-reads.Learnt,
+  next-dir-reads.Asked,
+  next-dir-reads.Learnt,
   entry-reaches-below t,
   entry-reaches.Post,
 ) (dir-reaches-at t) dir-reaches.Post dir-reaches-Inv-loop dir-reaches-μ-loop
-dir-reaches-next-requires t c κs = search needs
+dir-reaches-next-dir-requires t c κs = search needs
 
 -- src/lib.rt:38:25
 dir-reaches-enum-known-e : (t : ℕ) → dir-reaches-lts.Need-enum-known-e (
   new-reads.Asked,
   new-reads.Learnt,
-  next-reads.Asked,
-  next-reads.Learnt,
+  next-dir-reads.Asked,
+  next-dir-reads.Learnt,
   entry-reaches-below t,
   entry-reaches.Post,
 ) (dir-reaches-at t) dir-reaches.Post dir-reaches-Inv-loop dir-reaches-μ-loop
@@ -133,8 +133,8 @@ dir-reaches-enum-known-e t c = search needs
 dir-reaches-entry-reaches-requires : (t : ℕ) → dir-reaches-lts.Need-entry-reaches-requires (
   new-reads.Asked,
   new-reads.Learnt,
-  next-reads.Asked,
-  next-reads.Learnt,
+  next-dir-reads.Asked,
+  next-dir-reads.Learnt,
   entry-reaches-below t,
   entry-reaches.Post,
 ) (dir-reaches-at t) dir-reaches.Post dir-reaches-Inv-loop dir-reaches-μ-loop
@@ -144,8 +144,8 @@ dir-reaches-entry-reaches-requires t c κs = (omega arith, search needs)
 dir-reaches-returns-3 : (t : ℕ) → dir-reaches-lts.Need-returns-3 (
   new-reads.Asked,
   new-reads.Learnt,
-  next-reads.Asked,
-  next-reads.Learnt,
+  next-dir-reads.Asked,
+  next-dir-reads.Learnt,
   entry-reaches-below t,
   entry-reaches.Post,
 ) (dir-reaches-at t) dir-reaches.Post dir-reaches-Inv-loop dir-reaches-μ-loop
@@ -155,19 +155,19 @@ dir-reaches-returns-3 t c = search rest-hit
 dir-reaches-loop-less : (t : ℕ) → dir-reaches-lts.Need-loop-less (
   new-reads.Asked,
   new-reads.Learnt,
-  next-reads.Asked,
-  next-reads.Learnt,
+  next-dir-reads.Asked,
+  next-dir-reads.Learnt,
   entry-reaches-below t,
   entry-reaches.Post,
 ) (dir-reaches-at t) dir-reaches.Post dir-reaches-Inv-loop dir-reaches-μ-loop
-dir-reaches-loop-less t c = search step-less
+dir-reaches-loop-less t c = search dir-less
 
 -- src/lib.rt:36:5
 dir-reaches-loop-again : (t : ℕ) → dir-reaches-lts.Need-loop-again (
   new-reads.Asked,
   new-reads.Learnt,
-  next-reads.Asked,
-  next-reads.Learnt,
+  next-dir-reads.Asked,
+  next-dir-reads.Learnt,
   entry-reaches-below t,
   entry-reaches.Post,
 ) (dir-reaches-at t) dir-reaches.Post dir-reaches-Inv-loop dir-reaches-μ-loop
@@ -177,8 +177,8 @@ dir-reaches-loop-again t c = search rest-again
 dir-reaches-enum-told : (t : ℕ) → dir-reaches-lts.Need-enum-told (
   new-reads.Asked,
   new-reads.Learnt,
-  next-reads.Asked,
-  next-reads.Learnt,
+  next-dir-reads.Asked,
+  next-dir-reads.Learnt,
   entry-reaches-below t,
   entry-reaches.Post,
 ) (dir-reaches-at t) dir-reaches.Post dir-reaches-Inv-loop dir-reaches-μ-loop
@@ -188,8 +188,8 @@ dir-reaches-enum-told t c = search needs
 dir-reaches-returns-4 : (t : ℕ) → dir-reaches-lts.Need-returns-4 (
   new-reads.Asked,
   new-reads.Learnt,
-  next-reads.Asked,
-  next-reads.Learnt,
+  next-dir-reads.Asked,
+  next-dir-reads.Learnt,
   entry-reaches-below t,
   entry-reaches.Post,
 ) (dir-reaches-at t) dir-reaches.Post dir-reaches-Inv-loop dir-reaches-μ-loop
@@ -199,8 +199,8 @@ dir-reaches-returns-4 t c = search rest-end
 dir-reaches-enum-told-2 : (t : ℕ) → dir-reaches-lts.Need-enum-told-2 (
   new-reads.Asked,
   new-reads.Learnt,
-  next-reads.Asked,
-  next-reads.Learnt,
+  next-dir-reads.Asked,
+  next-dir-reads.Learnt,
   entry-reaches-below t,
   entry-reaches.Post,
 ) (dir-reaches-at t) dir-reaches.Post dir-reaches-Inv-loop dir-reaches-μ-loop
@@ -210,8 +210,8 @@ dir-reaches-enum-told-2 t c = search needs
 dir-reaches-returns-5 : (t : ℕ) → dir-reaches-lts.Need-returns-5 (
   new-reads.Asked,
   new-reads.Learnt,
-  next-reads.Asked,
-  next-reads.Learnt,
+  next-dir-reads.Asked,
+  next-dir-reads.Learnt,
   entry-reaches-below t,
   entry-reaches.Post,
 ) (dir-reaches-at t) dir-reaches.Post dir-reaches-Inv-loop dir-reaches-μ-loop
@@ -270,8 +270,8 @@ pub +dir-reaches+entry-reaches-spec : {M : Type 1} → statement M
 +dir-reaches+entry-reaches-spec = close μ-dir-reaches μ-entry-reaches (λ t. dir-reaches-lts.spec (
   new-reads.Asked,
   new-reads.Learnt,
-  next-reads.Asked,
-  next-reads.Learnt,
+  next-dir-reads.Asked,
+  next-dir-reads.Learnt,
   entry-reaches-below t,
   entry-reaches.Post,
 )
@@ -284,7 +284,7 @@ pub +dir-reaches+entry-reaches-spec : {M : Type 1} → statement M
     (dir-reaches-sub-below t)
     (dir-reaches-new-requires t)
     (dir-reaches-loop-holds t)
-    (dir-reaches-next-requires t)
+    (dir-reaches-next-dir-requires t)
     (dir-reaches-enum-known-e t)
     (dir-reaches-entry-reaches-requires t)
     (dir-reaches-returns-3 t)

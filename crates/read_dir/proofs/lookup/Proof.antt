@@ -1,10 +1,3 @@
-use Rattle.read_dir.proofs.Along.{entry-inside, entry-ends, step-less, find-again, find-hit, find-none, find-bad}
-use Rattle.read_dir.specs.Finds.{findIn}
-use Rattle.read_dir.specs.Cursor.{cursorWalk, items}
-use borrow.Author.Needs.{needs}
-use mathlib.Core.Path.{_≡_, refl}
-use Rattle.super_block.proofs.Fits.{area-inside}
-use Rattle.super_block.specs.Super.{areaIn}
 use Rattle.read_dir.proofs.lookup.Statement.{statement}
 use Rattle.read_dir.proofs.lookup.Tie as tie
 use Rattle.read_dir.proofs.lookup.Reads as reads
@@ -12,6 +5,14 @@ use Rattle.read_dir.proofs.lookup.Lts as lts
 use Rattle.read_dir.proofs.ReadDir.new.Reads as new-reads
 use Rattle.read_dir.proofs.ReadDir.next.Reads as next-reads
 use Rattle.read_dir.proofs.named.Reads as named-reads
+use Rattle.read_dir.proofs.pass_others.Reads as pass-others-reads
+use Rattle.read_dir.proofs.Along.{entry-inside, entry-ends, passed-less, find-again, find-hit, find-none, find-bad}
+use Rattle.read_dir.specs.Finds.{findIn}
+use Rattle.read_dir.specs.Cursor.{cursorWalk, items}
+use borrow.Author.Needs.{needs}
+use mathlib.Core.Path.{_≡_, refl}
+use Rattle.super_block.proofs.Fits.{area-inside}
+use Rattle.super_block.specs.Super.{areaIn}
 
 abbrev Inv-loop : tie.InvT-loop
 Inv-loop img s name c₀ c = findIn name (cursorWalk (areaIn s) img c) ≡ findIn name (cursorWalk (areaIn s) img c₀)
@@ -26,6 +27,10 @@ new-requires c κs = search area-inside
 -- src/lib.rt:196:5
 loop-holds : tie.Need-loop-holds Inv-loop μ-loop
 loop-holds c = refl
+
+-- src/lib.rt:275:15
+pass-others-requires : tie.Need-pass-others-requires Inv-loop μ-loop
+pass-others-requires c κs = search needs
 
 -- src/lib.rt:197:15
 next-requires : tie.Need-next-requires Inv-loop μ-loop
@@ -45,7 +50,7 @@ returns c = search find-hit
 
 -- src/lib.rt:196:5
 loop-less : tie.Need-loop-less Inv-loop μ-loop
-loop-less c = search step-less
+loop-less c = search passed-less
 
 -- src/lib.rt:196:5
 loop-again : tie.Need-loop-again Inv-loop μ-loop
@@ -75,6 +80,7 @@ lookup-spec =
     μ-loop
     new-requires
     loop-holds
+    pass-others-requires
     next-requires
     enum-known-e
     named-requires

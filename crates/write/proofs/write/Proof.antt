@@ -1,10 +1,11 @@
 use Rattle.write.proofs.Stores.{store-can, store-end, store-few, write-refused, write-done}
+use Rattle.super_block.proofs.Fits.{ready-fit}
 use borrow.Author.Needs.{needs}
 use Rattle.write.proofs.write.Statement.{statement}
 use Rattle.write.proofs.write.Tie as tie
 
 target-of-requires : tie.Need-target-of-requires
-target-of-requires c κs = search needs
+target-of-requires c κs = search (ready-fit, needs)
 
 enum-known-targeted : tie.Need-enum-known-targeted
 enum-known-targeted c = search needs
@@ -13,7 +14,7 @@ enum-known-targeted-2 : tie.Need-enum-known-targeted-2
 enum-known-targeted-2 c = search needs
 
 write-requires : tie.Need-write-requires
-write-requires c κs = (search needs, search store-can)
+write-requires c κs = (search (ready-fit, needs), search store-can)
 
 cast-grown : tie.Need-cast-grown
 cast-grown c = search (store-few, needs)

@@ -1,4 +1,4 @@
-use Rattle.write_store.proofs.Loops.{cut-along, cut-is}
+use Rattle.write_store.proofs.Loops.{cut-is}
 use mathlib.Core.Path.{refl}
 use borrow.Author.Needs.{needs}
 use Rattle.block.proofs.Blocks.{linked-inside}
@@ -16,7 +16,7 @@ next-addr-requires c κs = (search needs, search (linked-inside, fit-inside))
 
 -- src/lib.rt:111:5
 free-chain-requires : tie.Need-free-chain-requires
-free-chain-requires c κs = (search needs, (search cut-along, search needs))
+free-chain-requires c κs = search needs
 
 -- src/lib.rt:112:5
 new-requires-2 : tie.Need-new-requires-2

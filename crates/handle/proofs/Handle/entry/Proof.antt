@@ -3,9 +3,9 @@ use borrow.Author.Needs.{needs}
 use Rattle.super_block.proofs.Fits.{area-inside}
 use Rattle.super_block.specs.Super.{areaIn}
 use Rattle.read_dir.specs.Cursor.{cursorWalk, items}
-use Rattle.read_dir.proofs.Along.{entry-inside, entry-ends, step-less}
+use Rattle.read_dir.proofs.Along.{entry-inside, entry-ends, passed-less}
 use Rattle.handle.specs.Handles.{currentIn}
-use Rattle.handle.proofs.Entries.{entry-again, entry-hit, entry-none, entry-bad}
+use Rattle.handle.proofs.Entries.{fit-size, entry-again, entry-hit, entry-none, entry-bad}
 use Rattle.handle.proofs.Handle.entry.Statement.{statement}
 use Rattle.handle.proofs.Handle.entry.Tie as tie
 
@@ -21,6 +21,9 @@ new-requires c κs = search area-inside
 loop-holds : tie.Need-loop-holds Inv-loop μ-loop
 loop-holds c = refl
 
+pass-others-requires : tie.Need-pass-others-requires Inv-loop μ-loop
+pass-others-requires c κs = search needs
+
 next-requires : tie.Need-next-requires Inv-loop μ-loop
 next-requires c κs = search needs
 
@@ -28,13 +31,13 @@ enum-known-e : tie.Need-enum-known-e Inv-loop μ-loop
 enum-known-e c = search needs
 
 current-requires : tie.Need-current-requires Inv-loop μ-loop
-current-requires c κs = (search needs, (search needs, (search entry-inside, search entry-ends)))
+current-requires c κs = (search needs, (search fit-size, (search entry-inside, search entry-ends)))
 
 returns : tie.Need-returns Inv-loop μ-loop
 returns c = search entry-hit
 
 loop-less : tie.Need-loop-less Inv-loop μ-loop
-loop-less c = search step-less
+loop-less c = search passed-less
 
 loop-again : tie.Need-loop-again Inv-loop μ-loop
 loop-again c = search entry-again
@@ -59,6 +62,7 @@ entry-spec =
     μ-loop
     new-requires
     loop-holds
+    pass-others-requires
     next-requires
     enum-known-e
     current-requires
