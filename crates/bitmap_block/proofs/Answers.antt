@@ -11,13 +11,13 @@ use Rattle.bits.specs.declared.Found.{Found}
 use Rattle.bits.specs.declared.Found.the-variants.{At, Nothing}
 use Rattle.block.specs.Block.{zeroed}
 use Rattle.block.proofs.Blocks.{zeroed-kept}
-use Rattle.model.specs.Geometry.{blockSize, mapAt, dataAt, reach, usedCount}
+use Rattle.model.specs.Geometry.{Geo, blockSize, mapAt, dataAt, reach, usedCount}
 use Rattle.model.specs.Calls.{clearFrom}
 use Rattle.model.proofs.Free.{LowestClear, lowest-clear, clear-lowest}
 use Rattle.super_block.specs.declared.SuperBlock.{SuperBlock}
-use Rattle.super_block.specs.Super.{geoOf, Fit}
+use Rattle.super_block.specs.Super.{geoOf, Fit, counted}
 use Rattle.super_block.proofs.Fits.{placed, from-is, fit-long, fit-inside}
-use Rattle.bitmap_block.specs.Bitmap.{mark, marked, clears}
+use Rattle.bitmap_block.specs.Bitmap.{mark, marked, clears, more, fewer}
 use Rattle.bitmap_block.proofs.Stores.{used-marked, length-half, used-half, length-marked, clears-first, first-in}
 
 -- the reach is small
@@ -117,3 +117,14 @@ module _ {s : SuperBlock} {I : List ℕ} (x : ℕ) (f : Fit s I) (h : s .area .0
 pub found-in : {s : SuperBlock} {I : List ℕ} (x : ℕ) → Fit s I → 1 ≤ length (clears (geoOf s) I) → dataAt (geoOf s) + x ≡ getD (clears (geoOf s) I) 0 0 → s .area .0 + x < s .blocks
 found-in {s} {I} x f h e =
     omega (arith, f .area, first-in (geoOf s) I (f .sound) x (drop 1 (clears (geoOf s) I)) (clears-first (geoOf s) I x h e))
+
+-- ---- the used count, as code stores it
+
+module _ (g : Geo) (I J : List ℕ) (u : ℕ) (e : u ≡ usedCount g I) where
+  pub more-is : J ≡ counted g I (u + 1) → J ≡ more g I
+  unfolding more
+  more-is h = h ∙ ap (λ (v : ℕ). counted g I (v + 1)) e
+
+  pub fewer-is : J ≡ counted g I (u - 1) → J ≡ fewer g I
+  unfolding fewer
+  fewer-is h = h ∙ ap (λ (v : ℕ). counted g I (v - 1)) e

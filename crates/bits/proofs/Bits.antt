@@ -2,14 +2,15 @@
 use mathlib.Core.Path.{_≡_, refl}
 use mathlib.Core.Logic.{_≢_}
 use mathlib.Core.List.{List}
-use Prim.Native.Nat.{ℕ, zero, suc, _+_, _-_, _/_, _%_, _≤_, _<_}
+use Prim.Native.Nat.{ℕ, zero, suc, _+_, _-_, _*_, _/_, _%_, _^_, _≤_, _<_}
 use native.Mathlib.Numerals.{add-one}
 use native.Mathlib.Decide.{ℕ-discrete, decLt}
 use native.Mathlib.Omega.{arith}
-use lib.ListN.{length, getD, length-set}
+use lib.Bits.{bitAnd, bitOr}
+use lib.ListN.{length, getD, set, length-set}
 use lib.Seq.{getD-set-same, getD-set-other}
 use Rattle.bits.specs.Bit.{bit, withBit, ones, AllSet}
-use Rattle.bits.proofs.Digits.{digit-lt, digit-with-same, digit-with-other, digit-of-zero, ones-of-255}
+use Rattle.bits.proofs.Digits.{mask, or-bit, and-not-bit, digit-lt, digit-with-same, digit-with-other, digit-of-zero, ones-of-255}
 
 -- ---- bit
 
@@ -28,6 +29,16 @@ unfolding bit
 bit-zero l from x e = rw e (digit-of-zero (x % 8))
 
 -- ---- a bit put in
+
+-- as code sets it and clears it
+pub bit-set : (l : List ℕ) (from x : ℕ) → set l (from + x / 8) (bitOr (getD l (from + x / 8) 0) ((1 * 2 ^ (x % 8)) % 256)) ≡ withBit l from x 1
+unfolding withBit
+bit-set l from x = rw (mask (x % 8) (omega arith), or-bit (getD l (from + x / 8) 0) (x % 8))
+
+pub bit-cleared : (l : List ℕ) (from x : ℕ) → getD l (from + x / 8) 0 < 256
+    → set l (from + x / 8) (bitAnd (getD l (from + x / 8) 0) (255 - (1 * 2 ^ (x % 8)) % 256)) ≡ withBit l from x 0
+unfolding withBit
+bit-cleared l from x h = rw (mask (x % 8) (omega arith), and-not-bit (getD l (from + x / 8) 0) (x % 8) h (omega arith))
 
 pub length-with : (l : List ℕ) (from x v : ℕ) → length (withBit l from x v) ≡ length l
 unfolding withBit

@@ -31,6 +31,11 @@ behind-fits a o s h e l = omega (arith, mul-le-mul-right a (s .most), s .most)
 pub linked-inside : {B z m n : ℕ} (a : ℕ) → z ≡ B → m ≡ a → B * a + B ≤ n → z * m + z ≤ n
 linked-inside a e f h = rw (e, f) h
 
+-- what code stores is the link
+pub linked-is : (B : ℕ) (I J : List ℕ) (a r to : ℕ) → r ≡ B * a → J ≡ splice I r (bytes 4 to) → J ≡ linked B I a to
+unfolding linked
+linked-is B I J a r to e h = h ∙ ap (λ (k : ℕ). splice I k (bytes 4 to)) e
+
 -- ---- Kept: the frame
 
 pub kept-refl : {B : ℕ} {P : ℕ → ℕ → Type 0} (I : List ℕ) → Kept B P I I

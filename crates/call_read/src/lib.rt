@@ -173,7 +173,7 @@ fn list_dir(img: &[u8], s: SuperBlock, a: Addr, i: u32, buf: &mut [u8]) -> Listi
         (recordsFrom (length (now (buf .entry))) 0 (skip i (walk (areaIn s) (now (img .entry)) (a .0)))) (now (buf .entry))
         (now (buf .exit)) r ⌝ }
 {
-    let l = read_dir::list(img, s, a, i, buf);
+    let l = dir_list::list(img, s, a, i, buf);
     match l {
         Listed::Records(bytes, next) => Listing::Records(bytes, next),
         Listed::Damaged => Listing::Refused(Refusal::Damaged),

@@ -25,7 +25,8 @@ use Rattle.read_dir.specs.declared.Step.the-variants as step
 use Rattle.read_dir.proofs.Along.{start-walk, count-again}
 use Rattle.read_dir.proofs.Sizes.{count-fits}
 use Rattle.check_names.specs.Names.{oneOf, namesIn, ends}
-use Rattle.check_names.specs.Filter.{hashOf, metIn, distinctIn, clear, notedIn, wiped, CoversPart, Only}
+use Rattle.name_filter.specs.Bits.{hashOf, wiped}
+use Rattle.check_names.specs.Filter.{metIn, distinctIn, clear, notedIn, CoversPart, Only}
 use Rattle.check_names.proofs.Among.{search-hit, search-miss, search-end, search-none, and-false}
 use Rattle.check_names.proofs.Parts.{part-hit, part-more}
 use Rattle.check_names.proofs.Marks.{clear-covers, clear-within, covers-more, within-more, within-all, within-wiped, within-none}

@@ -1,4 +1,3 @@
-pub mod Bytes
 pub mod Among
 pub mod Parts
 pub mod Marks

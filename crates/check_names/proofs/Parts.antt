@@ -15,7 +15,8 @@ use Rattle.super_block.specs.declared.SuperBlock.{SuperBlock}
 use Rattle.super_block.specs.Super.{Fit}
 use Rattle.model.specs.Tree.{Name}
 use Rattle.check_names.specs.Names.{oneOf, distinct}
-use Rattle.check_names.specs.Filter.{hashOf, partOf, metIn, distinctIn}
+use Rattle.name_filter.specs.Bits.{hashOf}
+use Rattle.check_names.specs.Filter.{partOf, metIn, distinctIn}
 use Rattle.check_names.proofs.Among.{not-so, and-false, none-of-none, one-cases, one-here, one-later, one-second, one-last}
 
 -- two tests that hold; a test that does not

@@ -12,23 +12,11 @@ ghost use lib.ListN.{length, take};
 ghost use Rattle.super_block.specs.Super.{areaIn, Fit};
 ghost use Rattle.read_dir.specs.Walk.{walk};
 ghost use Rattle.check_names.specs.Names.{oneOf, distinct, namesIn, ends};
-ghost use Rattle.check_names.specs.Filter.{hashOf, filterBytes, turned, clear, pairIn, withPair, lessPair};
-ghost use Rattle.check_names.specs.Filter.{filtered, noted, wiped, metIn, distinctIn, notedIn, Covers, CoversPart, Only};
-
-// The odd factor of the hash.
-const SPREAD: u64 = 2654435761;
-
-// What a hash stays below: it has 32 digits.
-const RANGE: u64 = 4294967296;
-
-// The remainder by it is the lowest 17 digits of a hash: one of the filter's 2^17 bits.
-const LOW: u32 = 131072;
-
-// The quotient by it is the highest 17: another.
-const HIGH: u32 = 32768;
+ghost use Rattle.check_names.specs.Filter.{clear, metIn, distinctIn, notedIn, Covers, CoversPart, Only};
+ghost use Rattle.name_filter.specs.Bits.{hashOf, filterBytes};
 
 // The bytes of the filter.
-const FILTER: usize = 16384;
+const FILTER: usize = name_filter::BYTES;
 
 // So many names are forgotten about as soon one by one as with the whole filter.
 const FEW: u32 = 96;
@@ -41,91 +29,6 @@ const PART: u32 = 131072;
 
 // What the bytes of a directory are counted to.
 const MANY: u32 = 268435456;
-
-// The hash of a name: its bytes one after the other, each added and then spread by an odd factor.
-fn hash(name: &[u8]) -> u32
-    ensures { λ r. ⌜ r ≡ hashOf (now (name .entry)) ⌝ }
-{
-    let mut h: u64 = 0;
-    let mut i: usize = 0;
-    while i < name.len() {
-        h = (h + (name[i] as u64)) * SPREAD % RANGE;
-        i += 1;
-    }
-    h as u32
-}
-
-// The hash with its digits turned by eight places: from it come two more bits.
-fn turn(h: u32) -> u32
-    ensures { λ r. ⌜ r ≡ turned h ⌝ }
-{
-    h / 256 + h % 256 * 16777216
-}
-
-// Whether the low and the high bit of a hash are set.
-fn pair(filter: &[u8], h: u32) -> bool
-    requires { ⌜ length (now filter) ≡ filterBytes ⌝ }
-    ensures { λ r. ⌜ r ≡ pairIn (now (filter .entry)) h ⌝ }
-{
-    let low = bits::bit_at(filter, 0, h % LOW);
-    if low == 0 {
-        return false;
-    }
-    let high = bits::bit_at(filter, 0, h / HIGH);
-    high == 1
-}
-
-// Sets them.
-fn set_pair(filter: &mut [u8], h: u32)
-    requires { ⌜ length (now filter) ≡ filterBytes ⌝ }
-    ensures { λ _. ⌜ now (filter .exit) ≡ withPair (now (filter .entry)) h ⌝ }
-{
-    bits::set_bit(filter, 0, h % LOW);
-    bits::set_bit(filter, 0, h / HIGH);
-}
-
-// Makes the two bytes zero in which they stand.
-fn wipe_pair(filter: &mut [u8], h: u32)
-    requires { ⌜ length (now filter) ≡ filterBytes ⌝ }
-    ensures { λ _. ⌜ now (filter .exit) ≡ lessPair (now (filter .entry)) h ⌝ }
-{
-    let low = (h % LOW / 8) as usize;
-    let high = (h / HIGH / 8) as usize;
-    filter[low] = 0;
-    filter[high] = 0;
-}
-
-// Whether all four bits of a hash are set.
-fn maybe(filter: &[u8], h: u32) -> bool
-    requires { ⌜ length (now filter) ≡ filterBytes ⌝ }
-    ensures { λ r. ⌜ r ≡ filtered (now (filter .entry)) h ⌝ }
-{
-    if pair(filter, h) {
-        let k = turn(h);
-        return pair(filter, k);
-    }
-    false
-}
-
-// Sets all four.
-fn note(filter: &mut [u8], h: u32)
-    requires { ⌜ length (now filter) ≡ filterBytes ⌝ }
-    ensures { λ _. ⌜ now (filter .exit) ≡ noted (now (filter .entry)) h ⌝ }
-{
-    let k = turn(h);
-    set_pair(filter, h);
-    set_pair(filter, k);
-}
-
-// Makes the bytes zero in which the four stand.
-fn wipe(filter: &mut [u8], h: u32)
-    requires { ⌜ length (now filter) ≡ filterBytes ⌝ }
-    ensures { λ _. ⌜ now (filter .exit) ≡ wiped (now (filter .entry)) h ⌝ }
-{
-    let k = turn(h);
-    wipe_pair(filter, h);
-    wipe_pair(filter, k);
-}
 
 // Whether a name is one of the first i of the directory that begins at block dir: the search itself.
 fn earlier(img: &[u8], s: SuperBlock, dir: Addr, i: u32, name: &[u8]) -> bool
@@ -158,7 +61,7 @@ fn seen(img: &[u8], s: SuperBlock, dir: Addr, filter: &[u8], i: u32, name: &[u8]
     requires { ⌜ h ≡ hashOf (now name) ⌝ }
     ensures { λ r. ⌜ r ≡ oneOf (now (name .entry)) (take i (namesIn (walk (areaIn s) (now (img .entry)) (dir .0)))) ⌝ }
 {
-    if maybe(filter, h) {
+    if name_filter::maybe(filter, h) {
         return earlier(img, s, dir, i, name);
     }
     false
@@ -182,10 +85,10 @@ fn fresh(
     ensures { λ r. ⌜ r ≡ not (metIn m k (now (name .entry)) (take i (namesIn (walk (areaIn s) (now (img .entry)) (dir .0))))) ⌝ }
     ensures { λ _. ⌜ now (filter .exit) ≡ notedIn (now (filter .entry)) (now (name .entry)) m k ⌝ }
 {
-    let h = hash(name);
+    let h = name_filter::hash(name);
     if h % PRIME % m == k {
         let t = seen(img, s, dir, filter, i, name, h);
-        note(filter, h);
+        name_filter::note(filter, h);
         return !t;
     }
     true
@@ -229,8 +132,8 @@ fn forget(img: &[u8], s: SuperBlock, dir: Addr, filter: &mut [u8])
     while 0 < left {
         match c.next(img, s) {
             Step::Entry(e, p, d) => {
-                let h = hash(read_dir::name_of(img, s.size, e, p));
-                wipe(filter, h);
+                let h = name_filter::hash(read_dir::name_of(img, s.size, e, p));
+                name_filter::wipe(filter, h);
                 c = d;
                 left -= 1;
             }

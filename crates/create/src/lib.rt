@@ -88,7 +88,7 @@ fn site_in(img: &[u8], s: SuperBlock, h: Holding, kind: Kind, name: &[u8]) -> Si
         return Sited::Refused(Refusal::TooDeep);
     }
     let dir = h.dir;
-    let found = read_dir::lookup(img, s, dir, name);
+    let found = dir_lookup::lookup(img, s, dir, name);
     match found {
         Found::At(_, _) => Sited::Refused(Refusal::Exists),
         Found::Damaged => Sited::Refused(Refusal::Damaged),

@@ -61,7 +61,7 @@ fn doomed_in(img: &[u8], s: SuperBlock, h: Holding, name: &[u8]) -> Dooms
     ensures { λ r. ⌜ doomsSays r ≡ doomedIn (geoOf s) (now (img .entry)) (now (name .entry)) (holdOf h) ⌝ }
 {
     let d = h.dir;
-    let found = read_dir::lookup(img, s, d, name);
+    let found = dir_lookup::lookup(img, s, d, name);
     match found {
         Found::At(e, p) => doomed_at(h, e, p),
         Found::Missing => Dooms::Refused(Refusal::NotFound),

@@ -4,8 +4,9 @@ use mathlib.Core.Bool.{Bool, true, false}
 use mathlib.Core.List.{List}
 use Prim.Native.Nat.{ℕ, suc, _+_, _-_, _*_, _≤_, _<_}
 use native.Mathlib.Omega.{arith}
-use lib.ListN.{length}
+use lib.ListN.{length, take, drop}
 use borrow.Author.Tests.{eq-eqb, ne-eqb, le-leb, lt-leb}
+use Rattle.wire.specs.Be.{splice, zeros}
 use Rattle.wire.specs.Pick.{zeroFrom}
 use Rattle.wire.proofs.Picks.{pick-true, pick-false}
 use Rattle.block.specs.Block.{next, linked}
@@ -20,7 +21,7 @@ use Rattle.own_entry.specs.declared.Own.{Own}
 use Rattle.own_entry.specs.declared.Own.the-variants.{Root, At}
 use Rattle.own_entry.specs.Own.{OwnIn, sumRenewed}
 use Rattle.chain_store.specs.Chain.{released, chainFreed}
-use Rattle.delete_store.specs.Delete.{cutOut, beforeFrom, unlinked, lessBare, entryGone, removed}
+use Rattle.delete_store.specs.Delete.{after, cutOut, beforeFrom, unlinked, lessBare, entryGone, removed}
 
 -- ---- what calls ask
 
@@ -102,6 +103,14 @@ module _ (s : SuperBlock) (I : List ℕ) (dir b : ℕ) where
     bare-gone e J h = h ∙ sym (pick-false _ _ (ne-eqb b dir n) ∙ pick-true _ _ (tested ∙ e))
 
 -- ---- the whole
+
+-- the bytes that move down and the zeros behind them, as code stores them
+pub cut-is : (B : ℕ) (I J L : List ℕ) (a o w at : ℕ) → at ≡ placeAt B a o → J ≡ splice I at (take (after B o w) (drop (at + w) I))
+    → L ≡ splice J (at + after B o w) (zeros w) → L ≡ cutOut B I a o w
+unfolding cutOut
+cut-is B I J L a o w at e h k =
+    k ∙ ap (λ (K : List ℕ). splice K (at + after B o w) (zeros w)) h
+    ∙ ap (λ (r : ℕ). splice (splice I r (take (after B o w) (drop (r + w) I))) (r + after B o w) (zeros w)) e
 
 pub gone-is : (s : SuperBlock) (I J L : List ℕ) (dir : ℕ) (e : DirEntry) (p : Place) → Fit s I
     → J ≡ cutOut (s .size) I (p .block .0) (p .offset) (18 + e .len) → L ≡ lessBare (geoOf s) J dir (p .block .0) → L ≡ entryGone (geoOf s) I dir e p

@@ -75,7 +75,7 @@ fn enter(img: &[u8], s: SuperBlock, h: Holding, name: &[u8]) -> Holds
         return Holds::Refused(Refusal::NotFound);
     }
     let dir = h.dir;
-    let found = read_dir::lookup(img, s, dir, name);
+    let found = dir_lookup::lookup(img, s, dir, name);
     match found {
         Found::At(e, p) => directory(e, p, h.depth),
         Found::Missing => Holds::Refused(Refusal::NotFound),
@@ -160,7 +160,7 @@ fn find_in(img: &[u8], s: SuperBlock, dir: Addr, name: &[u8]) -> Located
     ensures { λ r. ⌜ locatedSays r ≡ lookupIn (areaIn s) (now (img .entry)) (dir .0) (now (name .entry))
         (λ e. accepted (held (dir .0) e)) ⌝ }
 {
-    let found = read_dir::lookup(img, s, dir, name);
+    let found = dir_lookup::lookup(img, s, dir, name);
     match found {
         Found::At(e, _) => Located::At(dir, e),
         Found::Missing => Located::Refused(Refusal::NotFound),

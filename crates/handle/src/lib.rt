@@ -127,7 +127,7 @@ fn pass_unlike(img: &[u8], s: SuperBlock, c: ReadDir, len: usize, own: Addr) -> 
     }
     let mut o = c.offset;
     loop {
-        let n = read_dir::entry_len(img, s.size, b, o);
+        let n = dir_lookup::entry_len(img, s.size, b, o);
         if n == 0 {
             return c.at(o);
         }

@@ -44,7 +44,7 @@ fn pass_files(img: &[u8], s: SuperBlock, c: ReadDir) -> ReadDir
     }
     let mut o = c.offset;
     loop {
-        let n = read_dir::entry_len(img, s.size, b, o);
+        let n = dir_lookup::entry_len(img, s.size, b, o);
         if n == 0 {
             return c.at(o);
         }

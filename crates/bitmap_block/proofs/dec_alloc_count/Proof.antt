@@ -1,4 +1,4 @@
-use Rattle.bitmap_block.specs.Bitmap.{fewer}
+use Rattle.bitmap_block.proofs.Answers.{fewer-is}
 use borrow.Author.Needs.{needs}
 use Rattle.bitmap_block.proofs.dec_alloc_count.Statement.{statement}
 use Rattle.bitmap_block.proofs.dec_alloc_count.Tie as tie
@@ -25,8 +25,7 @@ same-length c = search needs
 
 -- src/lib.rt:47:1
 returns : tie.Need-returns
-unfolding fewer
-returns c = cc
+returns c = search fewer-is
 
 pub dec-alloc-count-spec : {M : Type 1} → statement M
 dec-alloc-count-spec =

@@ -1,4 +1,4 @@
-use Rattle.bitmap_block.specs.Bitmap.{more}
+use Rattle.bitmap_block.proofs.Answers.{more-is}
 use borrow.Author.Needs.{needs}
 use Rattle.bitmap_block.proofs.inc_alloc_count.Statement.{statement}
 use Rattle.bitmap_block.proofs.inc_alloc_count.Tie as tie
@@ -25,8 +25,7 @@ same-length c = search needs
 
 -- src/lib.rt:37:1
 returns : tie.Need-returns
-unfolding more
-returns c = cc
+returns c = search more-is
 
 pub inc-alloc-count-spec : {M : Type 1} → statement M
 inc-alloc-count-spec =

@@ -4,7 +4,7 @@ use Rattle.call_read.proofs.list_dir.Statement.{statement}
 use Rattle.call_read.proofs.list_dir.Tie as tie
 use Rattle.call_read.proofs.list_dir.Reads as reads
 use Rattle.call_read.proofs.list_dir.Lts as lts
-use Rattle.read_dir.proofs.list.Reads as list-reads
+use Rattle.dir_list.proofs.list.Reads as list-reads
 
 -- src/lib.rt:256:9
 list-requires : tie.Need-list-requires

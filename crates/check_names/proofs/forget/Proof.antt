@@ -3,8 +3,8 @@ use Rattle.check_names.proofs.forget.Statement.{statement}
 use Rattle.check_names.proofs.forget.Tie as tie
 use Rattle.check_names.proofs.forget.Reads as reads
 use Rattle.check_names.proofs.forget.Lts as lts
-use Rattle.check_names.proofs.hash.Reads as hash-reads
-use Rattle.check_names.proofs.wipe.Reads as wipe-reads
+use Rattle.name_filter.proofs.hash.Reads as hash-reads
+use Rattle.name_filter.proofs.wipe.Reads as wipe-reads
 use Rattle.read_dir.proofs.ReadDir.new.Reads as new-reads
 use Rattle.read_dir.proofs.ReadDir.next.Reads as next-reads
 use Rattle.read_dir.proofs.name_of.Reads as name-of-reads

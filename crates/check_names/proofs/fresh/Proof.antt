@@ -4,8 +4,8 @@ use Rattle.check_names.proofs.fresh.Statement.{statement}
 use Rattle.check_names.proofs.fresh.Tie as tie
 use Rattle.check_names.proofs.fresh.Reads as reads
 use Rattle.check_names.proofs.fresh.Lts as lts
-use Rattle.check_names.proofs.hash.Reads as hash-reads
-use Rattle.check_names.proofs.note.Reads as note-reads
+use Rattle.name_filter.proofs.hash.Reads as hash-reads
+use Rattle.name_filter.proofs.note.Reads as note-reads
 use Rattle.check_names.proofs.seen.Reads as seen-reads
 
 -- src/lib.rt:176:9

@@ -4,7 +4,7 @@ use Rattle.check_names.proofs.seen.Tie as tie
 use Rattle.check_names.proofs.seen.Reads as reads
 use Rattle.check_names.proofs.seen.Lts as lts
 use Rattle.check_names.proofs.earlier.Reads as earlier-reads
-use Rattle.check_names.proofs.maybe.Reads as maybe-reads
+use Rattle.name_filter.proofs.maybe.Reads as maybe-reads
 use Rattle.check_names.proofs.Marks.{not-covered}
 
 -- src/lib.rt:127:8

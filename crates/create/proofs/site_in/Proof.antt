@@ -7,7 +7,7 @@ use Rattle.create.proofs.site_in.Reads as reads
 use Rattle.create.proofs.site_in.Lts as lts
 use Rattle.create.proofs.site_at.Reads as site-at-reads
 use Rattle.create.proofs.too_deep.Reads as too-deep-reads
-use Rattle.read_dir.proofs.lookup.Reads as lookup-reads
+use Rattle.dir_lookup.proofs.lookup.Reads as lookup-reads
 
 too-deep-requires : tie.Need-too-deep-requires
 too-deep-requires c κs = search needs

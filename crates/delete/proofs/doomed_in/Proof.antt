@@ -5,7 +5,7 @@ use Rattle.delete.proofs.doomed_in.Tie as tie
 use Rattle.delete.proofs.doomed_in.Reads as reads
 use Rattle.delete.proofs.doomed_in.Lts as lts
 use Rattle.delete.proofs.doomed_at.Reads as doomed-at-reads
-use Rattle.read_dir.proofs.lookup.Reads as lookup-reads
+use Rattle.dir_lookup.proofs.lookup.Reads as lookup-reads
 
 -- src/lib.rt:80:9
 lookup-requires : tie.Need-lookup-requires

@@ -1,4 +1,4 @@
-use Rattle.delete_store.specs.Delete.{cutOut}
+use Rattle.delete_store.proofs.Answers.{cut-is}
 use borrow.Author.Needs.{needs}
 use Rattle.delete_store.proofs.cut_out.Statement.{statement}
 use Rattle.delete_store.proofs.cut_out.Tie as tie
@@ -44,8 +44,7 @@ same-length c = search needs
 
 -- src/lib.rt:21:1
 returns : tie.Need-returns
-unfolding cutOut
-returns c = cc
+returns c = search cut-is
 
 pub cut-out-spec : {M : Type 1} → statement M
 cut-out-spec =

@@ -6,7 +6,7 @@ use Rattle.dir.proofs.enter.Tie as tie
 use Rattle.dir.proofs.enter.Reads as reads
 use Rattle.dir.proofs.enter.Lts as lts
 use Rattle.dir.proofs.directory.Reads as directory-reads
-use Rattle.read_dir.proofs.lookup.Reads as lookup-reads
+use Rattle.dir_lookup.proofs.lookup.Reads as lookup-reads
 
 returns : tie.Need-returns
 returns c = search name-empty

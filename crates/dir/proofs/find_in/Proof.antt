@@ -4,7 +4,7 @@ use Rattle.dir.proofs.find_in.Statement.{statement}
 use Rattle.dir.proofs.find_in.Tie as tie
 use Rattle.dir.proofs.find_in.Reads as reads
 use Rattle.dir.proofs.find_in.Lts as lts
-use Rattle.read_dir.proofs.lookup.Reads as lookup-reads
+use Rattle.dir_lookup.proofs.lookup.Reads as lookup-reads
 
 lookup-requires : tie.Need-lookup-requires
 lookup-requires c κs = search needs

@@ -5,7 +5,7 @@ use Rattle.handle.proofs.pass_unlike.Lts as lts
 use Rattle.dir_entry.proofs.place.Reads as place-reads
 use Rattle.handle.proofs.alike.Reads as alike-reads
 use Rattle.read_dir.proofs.ReadDir.at.Reads as at-reads
-use Rattle.read_dir.proofs.entry_len.Reads as entry-len-reads
+use Rattle.dir_lookup.proofs.entry_len.Reads as entry-len-reads
 use Prim.Native.Nat.{_-_}
 use borrow.Author.Needs.{needs}
 use Rattle.super_block.specs.Super.{areaIn}

@@ -4,7 +4,7 @@ use Rattle.reached.proofs.pass_files.Reads as reads
 use Rattle.reached.proofs.pass_files.Lts as lts
 use Rattle.reached.proofs.is_dir.Reads as is-dir-reads
 use Rattle.read_dir.proofs.ReadDir.at.Reads as at-reads
-use Rattle.read_dir.proofs.entry_len.Reads as entry-len-reads
+use Rattle.dir_lookup.proofs.entry_len.Reads as entry-len-reads
 use Rattle.dir_entry.proofs.place.Reads as place-reads
 use Prim.Native.Nat.{_-_}
 use borrow.Author.Needs.{needs}

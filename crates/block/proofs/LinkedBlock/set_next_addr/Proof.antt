@@ -1,4 +1,4 @@
-use Rattle.block.specs.Block.{linked}
+use Rattle.block.proofs.Blocks.{linked-is}
 use borrow.Author.Needs.{needs}
 use Rattle.block.proofs.LinkedBlock.set_next_addr.Statement.{statement}
 use Rattle.block.proofs.LinkedBlock.set_next_addr.Tie as tie
@@ -25,8 +25,7 @@ same-length c = search needs
 
 -- src/lib.rt:80:5
 returns : tie.Need-returns
-unfolding linked
-returns c = cc
+returns c = search linked-is
 
 pub set-next-addr-spec : {M : Type 1} → statement M
 set-next-addr-spec = tie.close (tie.spec offset-requires cast-put put-requires same-length returns)
