@@ -12,7 +12,7 @@
  *
  *     static uint8_t image[4200 * MFS_BLOCK_SIZE];
  *     static uint8_t work[MFS_WORK_BYTES(sizeof image)];
- *     mfs_volume volume = {image, sizeof image, 8, work, sizeof work, "/"};
+ *     mfs_volume volume = {image, sizeof image, 8, MFS_CODE_512, work, sizeof work, "/"};
  *     mfs_handle meter;
  *     mfs_refusal refusal = mfs_format(&volume);
  *     if (refusal == MFS_OK) refusal = mfs_create_file(&volume, "/water", 1700000000, &meter);
@@ -55,7 +55,9 @@
  * beside it) until all are stored, and put it back after a cut.
  *
  * K is the number of the block that holds the superblock (8,192 in MOROS itself). Blocks below K
- * and block K + 1 are never touched.
+ * and block K + 1 are never touched. The size code says in which blocks K and every address count.
+ * Every call takes it beside K, since the superblock cannot be found without it; MFS_CODE_512 is
+ * the only one there is, and any other is refused before all else (MFS_NOT_MFS).
  *
  * A path that starts with '/' is a full path. Another one is taken from the working directory, cwd,
  * which must start with '/' then. "." and ".." are plain names. Slashes at the end are dropped, but
@@ -147,7 +149,8 @@ static inline const char *mfs_refusal_text(uint32_t number)
 typedef struct mfs_volume {
     uint8_t *image;
     size_t image_len;
-    uint32_t k; /* the superblock's block */
+    uint32_t k;    /* the superblock's block */
+    uint32_t code; /* the code of the block size: MFS_CODE_512 */
     uint8_t *work;
     size_t work_len; /* MFS_WORK_BYTES(image_len) is enough */
     const char *cwd; /* "/" for the root */
@@ -158,6 +161,7 @@ typedef struct mfs_const_volume {
     const uint8_t *image;
     size_t image_len;
     uint32_t k;
+    uint32_t code;
     const char *cwd;
 } mfs_const_volume;
 
@@ -207,6 +211,7 @@ static inline mfs_const_volume mfs_const_of(const mfs_volume *volume)
     view.image = volume->image;
     view.image_len = volume->image_len;
     view.k = volume->k;
+    view.code = volume->code;
     view.cwd = volume->cwd;
     return view;
 }
@@ -218,7 +223,8 @@ MFS_NONNULL MFS_MUST_USE
 static inline mfs_refusal mfs_const_check(const mfs_const_volume *volume,
                                           uint8_t *work, size_t work_len)
 {
-    return mfs_answer(mfs_c_check(volume->image, volume->image_len, volume->k, work, work_len));
+    return mfs_answer(mfs_c_check(volume->image, volume->image_len, volume->k, volume->code,
+                                  work, work_len));
 }
 
 /* Bytes of the volume, of its used blocks, and the rest. */
@@ -226,7 +232,8 @@ MFS_NONNULL MFS_MUST_USE
 static inline mfs_refusal mfs_const_usage(const mfs_const_volume *volume,
                                           uint64_t *size, uint64_t *used, uint64_t *free)
 {
-    return mfs_answer(mfs_c_usage(volume->image, volume->image_len, volume->k, size, used, free));
+    return mfs_answer(mfs_c_usage(volume->image, volume->image_len, volume->k, volume->code,
+                                  size, used, free));
 }
 
 /* Whether count blocks are free: enough is 1 or 0, and bytes those of the bitmap that were read. */
@@ -234,7 +241,8 @@ MFS_NONNULL MFS_MUST_USE
 static inline mfs_refusal mfs_const_room(const mfs_const_volume *volume, uint32_t count,
                                          uint32_t *enough, uint32_t *bytes)
 {
-    return mfs_answer(mfs_c_room(volume->image, volume->image_len, volume->k, count, enough, bytes));
+    return mfs_answer(mfs_c_room(volume->image, volume->image_len, volume->k, volume->code,
+                                 count, enough, bytes));
 }
 
 /* Opens a file, at position 0. */
@@ -242,7 +250,7 @@ MFS_NONNULL MFS_MUST_USE
 static inline mfs_refusal mfs_const_open(const mfs_const_volume *volume, const char *path,
                                          mfs_handle *handle)
 {
-    return mfs_answer(mfs_c_open(volume->image, volume->image_len, volume->k,
+    return mfs_answer(mfs_c_open(volume->image, volume->image_len, volume->k, volume->code,
                                  mfs_bytes_of(volume->cwd), strlen(volume->cwd),
                                  mfs_bytes_of(path), strlen(path),
                                  handle->number, handle->name, &handle->name_len));
@@ -254,7 +262,7 @@ static inline mfs_refusal mfs_const_info(const mfs_const_volume *volume, const c
                                          mfs_entry *entry)
 {
     uint8_t kind;
-    const uint32_t answer = mfs_c_info(volume->image, volume->image_len, volume->k,
+    const uint32_t answer = mfs_c_info(volume->image, volume->image_len, volume->k, volume->code,
                                        mfs_bytes_of(volume->cwd), strlen(volume->cwd),
                                        mfs_bytes_of(path), strlen(path),
                                        &kind, &entry->size, &entry->time,
@@ -276,7 +284,7 @@ static inline mfs_refusal mfs_const_list(const mfs_const_volume *volume, const c
                                          uint32_t from, uint8_t *buf, size_t buf_len,
                                          size_t *bytes, uint32_t *next)
 {
-    return mfs_answer(mfs_c_list(volume->image, volume->image_len, volume->k,
+    return mfs_answer(mfs_c_list(volume->image, volume->image_len, volume->k, volume->code,
                                  mfs_bytes_of(volume->cwd), strlen(volume->cwd),
                                  mfs_bytes_of(path), strlen(path),
                                  from, buf, buf_len, bytes, next));
@@ -287,7 +295,7 @@ MFS_NONNULL MFS_MUST_USE
 static inline mfs_refusal mfs_const_read(const mfs_const_volume *volume, mfs_handle *handle,
                                          void *buf, size_t len, size_t *bytes)
 {
-    return mfs_answer(mfs_c_read(volume->image, volume->image_len, volume->k,
+    return mfs_answer(mfs_c_read(volume->image, volume->image_len, volume->k, volume->code,
                                  handle->number, handle->name, handle->name_len,
                                  MFS_VALUE_AS(uint8_t *, buf), len, bytes));
 }
@@ -390,7 +398,7 @@ static inline mfs_refusal mfs_seek_end(mfs_handle *handle, int32_t by)
 MFS_NONNULL MFS_MUST_USE
 static inline mfs_refusal mfs_format(const mfs_volume *volume)
 {
-    return mfs_answer(mfs_c_format(volume->image, volume->image_len, volume->k));
+    return mfs_answer(mfs_c_format(volume->image, volume->image_len, volume->k, volume->code));
 }
 
 /*
@@ -402,7 +410,7 @@ static inline mfs_refusal mfs_write(const mfs_volume *volume, mfs_handle *handle
                                     const void *buf, size_t len, uint64_t time)
 {
     size_t bytes; /* len, where the write is accepted */
-    return mfs_answer(mfs_c_write(volume->image, volume->image_len, volume->k,
+    return mfs_answer(mfs_c_write(volume->image, volume->image_len, volume->k, volume->code,
                                   handle->number, handle->name, handle->name_len,
                                   MFS_VALUE_AS(const uint8_t *, buf), len,
                                   time, volume->work, volume->work_len, &bytes));
@@ -413,7 +421,7 @@ MFS_NONNULL MFS_MUST_USE
 static inline mfs_refusal mfs_create_file(const mfs_volume *volume, const char *path, uint64_t time,
                                           mfs_handle *handle)
 {
-    return mfs_answer(mfs_c_create_file(volume->image, volume->image_len, volume->k,
+    return mfs_answer(mfs_c_create_file(volume->image, volume->image_len, volume->k, volume->code,
                                         mfs_bytes_of(volume->cwd), strlen(volume->cwd),
                                         mfs_bytes_of(path), strlen(path),
                                         time, volume->work, volume->work_len,
@@ -424,7 +432,7 @@ static inline mfs_refusal mfs_create_file(const mfs_volume *volume, const char *
 MFS_NONNULL MFS_MUST_USE
 static inline mfs_refusal mfs_create_dir(const mfs_volume *volume, const char *path, uint64_t time)
 {
-    return mfs_answer(mfs_c_create_dir(volume->image, volume->image_len, volume->k,
+    return mfs_answer(mfs_c_create_dir(volume->image, volume->image_len, volume->k, volume->code,
                                        mfs_bytes_of(volume->cwd), strlen(volume->cwd),
                                        mfs_bytes_of(path), strlen(path),
                                        time, volume->work, volume->work_len));
@@ -434,7 +442,7 @@ static inline mfs_refusal mfs_create_dir(const mfs_volume *volume, const char *p
 MFS_NONNULL MFS_MUST_USE
 static inline mfs_refusal mfs_delete(const mfs_volume *volume, const char *path, uint64_t time)
 {
-    return mfs_answer(mfs_c_delete(volume->image, volume->image_len, volume->k,
+    return mfs_answer(mfs_c_delete(volume->image, volume->image_len, volume->k, volume->code,
                                    mfs_bytes_of(volume->cwd), strlen(volume->cwd),
                                    mfs_bytes_of(path), strlen(path),
                                    time, volume->work, volume->work_len));

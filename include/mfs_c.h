@@ -16,7 +16,8 @@ extern "C" {
 
 /* ---- Limits ---------------------------------------------------------------------------------- */
 
-#define MFS_BLOCK_SIZE 512           /* bytes of a block */
+#define MFS_CODE_512 0               /* size code: blocks of 512 bytes */
+#define MFS_BLOCK_SIZE 512           /* bytes of a block of that code */
 #define MFS_IMAGE_MAX_BLOCKS 8388608 /* blocks of the largest image (4 GiB) */
 #define MFS_NAME_MAX 255             /* bytes of the longest name */
 #define MFS_PATH_MAX 1024            /* bytes of the longest full path */
@@ -37,7 +38,7 @@ extern "C" {
 typedef enum mfs_refusal {
     MFS_OK = 0,           /* not refused */
     MFS_BAD_IMAGE = 1,    /* image empty, no multiple of 512, over the limit, or no block K + 2 */
-    MFS_NOT_MFS = 2,      /* another signature, version or size code in block K */
+    MFS_NOT_MFS = 2,      /* unknown size code; another signature, version or code in block K */
     MFS_BAD_COUNT = 3,    /* n above the image's blocks, N below 2, or N mod 4097 = 1 */
     MFS_BAD_PATH = 4,     /* full path too long or a byte of it; a needed cwd without '/' first */
     MFS_NOT_FOUND = 5,    /* nothing of that name, or (not for create) an empty last name */
@@ -85,7 +86,7 @@ typedef enum mfs_kind {
  *         return EXIT_FAILURE;
  *     }
  */
-#define MFS_C_VERSION 1
+#define MFS_C_VERSION 2
 #define MFS_CHECK_VERSION() (mfs_c_version() == MFS_C_VERSION)
 
 /* The version of the library's exports: a constant, the library's MFS_C_VERSION. */
@@ -98,22 +99,27 @@ uint32_t mfs_c_version(void);
  * first address of the directory that holds the file, the file's first address, size, position),
  * name (255 bytes, zeros after the name) and len, the name's bytes. Out parameters are written
  * where the answer is 0, and stay as they were otherwise.
+ *
+ * k is the superblock's block and code the code of the block size, in which k and all addresses
+ * count. The superblock cannot be found without it, so a code that is not known is refused before
+ * the image is looked at: by 2, ahead of the refusals in the lists below. A superblock of another
+ * code than the call's is refused by 2 in its place.
  */
 
 /*
  * Makes the whole image a volume with an empty root directory: n is the image's block count.
  * Block K and blocks K + 2 to D are written, no other.
- * Refusals: 1, 3.
+ * Refusals: 2 (the size code alone), 1, 3.
  */
 MFS_NONNULL MFS_MUST_USE
-uint32_t mfs_c_format(uint8_t *img, size_t img_len, uint32_t k);
+uint32_t mfs_c_format(uint8_t *img, size_t img_len, uint32_t k, uint32_t code);
 
 /*
  * Bytes of the volume, of its used blocks, and the rest, by the superblock's counts.
  * Refusals: 1, 2, 3, 17 (a used count above n).
  */
 MFS_NONNULL MFS_MUST_USE
-uint32_t mfs_c_usage(const uint8_t *img, size_t img_len, uint32_t k,
+uint32_t mfs_c_usage(const uint8_t *img, size_t img_len, uint32_t k, uint32_t code,
                      uint64_t *size, uint64_t *used, uint64_t *free);
 
 /*
@@ -124,7 +130,7 @@ uint32_t mfs_c_usage(const uint8_t *img, size_t img_len, uint32_t k,
  * Refusals: 1, 2, 3.
  */
 MFS_NONNULL MFS_MUST_USE
-uint32_t mfs_c_room(const uint8_t *img, size_t img_len, uint32_t k, uint32_t count,
+uint32_t mfs_c_room(const uint8_t *img, size_t img_len, uint32_t k, uint32_t code, uint32_t count,
                     uint32_t *enough, uint32_t *bytes);
 
 /*
@@ -132,7 +138,7 @@ uint32_t mfs_c_room(const uint8_t *img, size_t img_len, uint32_t k, uint32_t cou
  * Refusals: 1, 2, 3, 16, 17.
  */
 MFS_NONNULL MFS_MUST_USE
-uint32_t mfs_c_check(const uint8_t *img, size_t img_len, uint32_t k,
+uint32_t mfs_c_check(const uint8_t *img, size_t img_len, uint32_t k, uint32_t code,
                      uint8_t *work, size_t work_len);
 
 /*
@@ -140,7 +146,7 @@ uint32_t mfs_c_check(const uint8_t *img, size_t img_len, uint32_t k,
  * Refusals: 1, 2, 3, 4, the first of 5, 6, 17 on the way along the path, 10.
  */
 MFS_NONNULL MFS_MUST_USE
-uint32_t mfs_c_open(const uint8_t *img, size_t img_len, uint32_t k,
+uint32_t mfs_c_open(const uint8_t *img, size_t img_len, uint32_t k, uint32_t code,
                     const uint8_t *cwd, size_t cwd_len,
                     const uint8_t *path, size_t path_len,
                     uint32_t number[4], uint8_t name[255], size_t *len);
@@ -152,7 +158,7 @@ uint32_t mfs_c_open(const uint8_t *img, size_t img_len, uint32_t k,
  * Refusals: 1, 2, 3, 4, the first of 5, 6, 17 on the way along the path.
  */
 MFS_NONNULL MFS_MUST_USE
-uint32_t mfs_c_info(const uint8_t *img, size_t img_len, uint32_t k,
+uint32_t mfs_c_info(const uint8_t *img, size_t img_len, uint32_t k, uint32_t code,
                     const uint8_t *cwd, size_t cwd_len,
                     const uint8_t *path, size_t path_len,
                     uint8_t *kind, uint32_t *size, uint64_t *time, uint8_t name[255], size_t *len);
@@ -170,7 +176,7 @@ uint32_t mfs_c_info(const uint8_t *img, size_t img_len, uint32_t k,
  * far as the record that does not fit.
  */
 MFS_NONNULL MFS_MUST_USE
-uint32_t mfs_c_list(const uint8_t *img, size_t img_len, uint32_t k,
+uint32_t mfs_c_list(const uint8_t *img, size_t img_len, uint32_t k, uint32_t code,
                     const uint8_t *cwd, size_t cwd_len,
                     const uint8_t *path, size_t path_len,
                     uint32_t i, uint8_t *buf, size_t buf_len, size_t *bytes, uint32_t *next);
@@ -183,7 +189,7 @@ uint32_t mfs_c_list(const uint8_t *img, size_t img_len, uint32_t k,
  * directory, 17 on the way through the file.
  */
 MFS_NONNULL MFS_MUST_USE
-uint32_t mfs_c_read(const uint8_t *img, size_t img_len, uint32_t k,
+uint32_t mfs_c_read(const uint8_t *img, size_t img_len, uint32_t k, uint32_t code,
                     uint32_t number[4], const uint8_t name[255], size_t len,
                     uint8_t *buf, size_t buf_len, size_t *bytes);
 
@@ -205,7 +211,7 @@ uint32_t mfs_c_seek_end(uint32_t number[4], const uint8_t name[255], size_t len,
  * Refusals: 1, 2, 3, 16, 17, 4, 8, the first of 5, 6 on the way along the path, 7, 9.
  */
 MFS_NONNULL MFS_MUST_USE
-uint32_t mfs_c_create_file(uint8_t *img, size_t img_len, uint32_t k,
+uint32_t mfs_c_create_file(uint8_t *img, size_t img_len, uint32_t k, uint32_t code,
                            const uint8_t *cwd, size_t cwd_len,
                            const uint8_t *path, size_t path_len,
                            uint64_t time, uint8_t *work, size_t work_len,
@@ -217,7 +223,7 @@ uint32_t mfs_c_create_file(uint8_t *img, size_t img_len, uint32_t k,
  * Refusals: 1, 2, 3, 16, 17, 4, 8, the first of 5, 6 on the way along the path, 15, 7, 9.
  */
 MFS_NONNULL MFS_MUST_USE
-uint32_t mfs_c_create_dir(uint8_t *img, size_t img_len, uint32_t k,
+uint32_t mfs_c_create_dir(uint8_t *img, size_t img_len, uint32_t k, uint32_t code,
                           const uint8_t *cwd, size_t cwd_len,
                           const uint8_t *path, size_t path_len,
                           uint64_t time, uint8_t *work, size_t work_len);
@@ -228,7 +234,7 @@ uint32_t mfs_c_create_dir(uint8_t *img, size_t img_len, uint32_t k,
  * Refusals: 1, 2, 3, 16, 17, 4, the first of 5, 6 on the way along the path, 14.
  */
 MFS_NONNULL MFS_MUST_USE
-uint32_t mfs_c_delete(uint8_t *img, size_t img_len, uint32_t k,
+uint32_t mfs_c_delete(uint8_t *img, size_t img_len, uint32_t k, uint32_t code,
                       const uint8_t *cwd, size_t cwd_len,
                       const uint8_t *path, size_t path_len,
                       uint64_t time, uint8_t *work, size_t work_len);
@@ -241,7 +247,7 @@ uint32_t mfs_c_delete(uint8_t *img, size_t img_len, uint32_t k,
  * Refusals: 1, 2, 3, 16, 17, 13, 11 (also for a directory not reached from the root), 10, 9.
  */
 MFS_NONNULL MFS_MUST_USE
-uint32_t mfs_c_write(uint8_t *img, size_t img_len, uint32_t k,
+uint32_t mfs_c_write(uint8_t *img, size_t img_len, uint32_t k, uint32_t code,
                      uint32_t number[4], const uint8_t name[255], size_t len,
                      const uint8_t *buf, size_t buf_len,
                      uint64_t time, uint8_t *work, size_t work_len, size_t *bytes);

@@ -69,20 +69,20 @@ impl Side for Ours {
     type Open = Handle;
 
     fn check(&mut self) {
-        mfs::check(&self.image, K, &mut self.work).expect("a well-formed volume");
+        mfs::check(&self.image, K, CODE, &mut self.work).expect("a well-formed volume");
     }
 
     fn format(&mut self) {
-        mfs::format(&mut self.image, K).expect("format");
+        mfs::format(&mut self.image, K, CODE).expect("format");
     }
 
     fn usage(&self) -> [u64; 3] {
-        let usage = mfs::usage(&self.image, K).expect("usage");
+        let usage = mfs::usage(&self.image, K, CODE).expect("usage");
         [usage.size, usage.used, usage.free]
     }
 
     fn info(&self, path: &str) -> Entry {
-        let info = mfs::info(&self.image, K, ROOT, path.as_bytes()).expect("info");
+        let info = mfs::info(&self.image, K, CODE, ROOT, path.as_bytes()).expect("info");
         let kind = match info.kind {
             Kind::Dir => 0,
             Kind::File => 1,
@@ -92,15 +92,15 @@ impl Side for Ours {
     }
 
     fn open(&self, path: &str) -> Handle {
-        mfs::open(&self.image, K, ROOT, path.as_bytes()).expect("open")
+        mfs::open(&self.image, K, CODE, ROOT, path.as_bytes()).expect("open")
     }
 
     fn list(&self, path: &str, buf: &mut [u8]) -> usize {
-        mfs::list(&self.image, K, ROOT, path.as_bytes(), 0, buf).expect("list").bytes
+        mfs::list(&self.image, K, CODE, ROOT, path.as_bytes(), 0, buf).expect("list").bytes
     }
 
     fn read(&self, file: &mut Handle, buf: &mut [u8]) -> usize {
-        mfs::read(&self.image, K, file, buf).expect("read")
+        mfs::read(&self.image, K, CODE, file, buf).expect("read")
     }
 
     fn seek(&self, file: &mut Handle, position: u32) {
@@ -108,15 +108,15 @@ impl Side for Ours {
     }
 
     fn write(&mut self, file: &mut Handle, bytes: &[u8]) {
-        mfs::write(&mut self.image, K, file, bytes, TIME, &mut self.work).expect("write");
+        mfs::write(&mut self.image, K, CODE, file, bytes, TIME, &mut self.work).expect("write");
     }
 
     fn create(&mut self, path: &str) -> Handle {
-        mfs::create_file(&mut self.image, K, ROOT, path.as_bytes(), TIME, &mut self.work).expect("create")
+        mfs::create_file(&mut self.image, K, CODE, ROOT, path.as_bytes(), TIME, &mut self.work).expect("create")
     }
 
     fn delete(&mut self, path: &str) {
-        mfs::delete(&mut self.image, K, ROOT, path.as_bytes(), TIME, &mut self.work).expect("delete");
+        mfs::delete(&mut self.image, K, CODE, ROOT, path.as_bytes(), TIME, &mut self.work).expect("delete");
     }
 
     fn place(file: &Handle) -> [u32; 2] {

@@ -82,49 +82,49 @@ fn answer<T>(number: u32, value: T) -> Result<T, Refusal> {
 /// Makes the whole image a volume with an empty root directory.
 ///
 #[doc = errors!(format)]
-pub fn format(image: &mut [u8], k: u32) -> Result<(), Refusal> {
+pub fn format(image: &mut [u8], k: u32, code: u32) -> Result<(), Refusal> {
     same_version()?;
     // SAFETY: as the top of this file says.
-    let number = unsafe { raw::mfs_c_format(image.as_mut_ptr(), image.len(), k) };
+    let number = unsafe { raw::mfs_c_format(image.as_mut_ptr(), image.len(), k, code) };
     answer(number, ())
 }
 
 /// How much of the volume is used, by the counts of its superblock.
 ///
 #[doc = errors!(usage)]
-pub fn usage(image: &[u8], k: u32) -> Result<Usage, Refusal> {
+pub fn usage(image: &[u8], k: u32, code: u32) -> Result<Usage, Refusal> {
     same_version()?;
     let mut u = Usage { size: 0, used: 0, free: 0 };
     // SAFETY: as the top of this file says.
-    let number = unsafe { raw::mfs_c_usage(image.as_ptr(), image.len(), k, &mut u.size, &mut u.used, &mut u.free) };
+    let number = unsafe { raw::mfs_c_usage(image.as_ptr(), image.len(), k, code, &mut u.size, &mut u.used, &mut u.free) };
     answer(number, u)
 }
 
 /// Whether so many blocks are free within reach of allocation. The bitmap is read no further than it takes to tell.
 ///
 #[doc = errors!(room)]
-pub fn room(image: &[u8], k: u32, count: u32) -> Result<Room, Refusal> {
+pub fn room(image: &[u8], k: u32, code: u32, count: u32) -> Result<Room, Refusal> {
     same_version()?;
     let (mut enough, mut bytes) = (0, 0);
     // SAFETY: as the top of this file says.
-    let number = unsafe { raw::mfs_c_room(image.as_ptr(), image.len(), k, count, &mut enough, &mut bytes) };
+    let number = unsafe { raw::mfs_c_room(image.as_ptr(), image.len(), k, code, count, &mut enough, &mut bytes) };
     answer(number, Room { enough: enough == 1, bytes })
 }
 
 /// Whether the image is a well-formed volume.
 ///
 #[doc = errors!(check)]
-pub fn check(image: &[u8], k: u32, work: &mut [u8]) -> Result<(), Refusal> {
+pub fn check(image: &[u8], k: u32, code: u32, work: &mut [u8]) -> Result<(), Refusal> {
     same_version()?;
     // SAFETY: as the top of this file says.
-    let number = unsafe { raw::mfs_c_check(image.as_ptr(), image.len(), k, work.as_mut_ptr(), work.len()) };
+    let number = unsafe { raw::mfs_c_check(image.as_ptr(), image.len(), k, code, work.as_mut_ptr(), work.len()) };
     answer(number, ())
 }
 
 /// Opens the file at a path, at position 0.
 ///
 #[doc = errors!(open)]
-pub fn open(image: &[u8], k: u32, cwd: &[u8], path: &[u8]) -> Result<Handle, Refusal> {
+pub fn open(image: &[u8], k: u32, code: u32, cwd: &[u8], path: &[u8]) -> Result<Handle, Refusal> {
     same_version()?;
     let mut h = Handle::empty();
     // SAFETY: as the top of this file says.
@@ -133,6 +133,7 @@ pub fn open(image: &[u8], k: u32, cwd: &[u8], path: &[u8]) -> Result<Handle, Ref
             image.as_ptr(),
             image.len(),
             k,
+            code,
             cwd.as_ptr(),
             cwd.len(),
             path.as_ptr(),
@@ -148,7 +149,7 @@ pub fn open(image: &[u8], k: u32, cwd: &[u8], path: &[u8]) -> Result<Handle, Ref
 /// Kind, size, time and name of what stands at a path; `/` itself is the root, with time 0 and no name.
 ///
 #[doc = errors!(info)]
-pub fn info(image: &[u8], k: u32, cwd: &[u8], path: &[u8]) -> Result<Info, Refusal> {
+pub fn info(image: &[u8], k: u32, code: u32, cwd: &[u8], path: &[u8]) -> Result<Info, Refusal> {
     same_version()?;
     let (mut kind, mut size, mut time) = (0u8, 0u32, 0u64);
     let (mut name, mut len) = ([0u8; NAME_LEN], 0usize);
@@ -158,6 +159,7 @@ pub fn info(image: &[u8], k: u32, cwd: &[u8], path: &[u8]) -> Result<Info, Refus
             image.as_ptr(),
             image.len(),
             k,
+            code,
             cwd.as_ptr(),
             cwd.len(),
             path.as_ptr(),
@@ -186,7 +188,7 @@ pub fn info(image: &[u8], k: u32, cwd: &[u8], path: &[u8]) -> Result<Info, Refus
 /// many or more, any record fits, and 0 bytes are the end.
 ///
 #[doc = errors!(list)]
-pub fn list(image: &[u8], k: u32, cwd: &[u8], path: &[u8], from: u32, buf: &mut [u8]) -> Result<Listed, Refusal> {
+pub fn list(image: &[u8], k: u32, code: u32, cwd: &[u8], path: &[u8], from: u32, buf: &mut [u8]) -> Result<Listed, Refusal> {
     same_version()?;
     let mut l = Listed { bytes: 0, next: 0 };
     // SAFETY: as the top of this file says.
@@ -195,6 +197,7 @@ pub fn list(image: &[u8], k: u32, cwd: &[u8], path: &[u8], from: u32, buf: &mut 
             image.as_ptr(),
             image.len(),
             k,
+            code,
             cwd.as_ptr(),
             cwd.len(),
             path.as_ptr(),
@@ -213,7 +216,7 @@ pub fn list(image: &[u8], k: u32, cwd: &[u8], path: &[u8], from: u32, buf: &mut 
 /// buffer stays. The answer counts the bytes, and is 0 at the file's end.
 ///
 #[doc = errors!(read)]
-pub fn read(image: &[u8], k: u32, handle: &mut Handle, buf: &mut [u8]) -> Result<usize, Refusal> {
+pub fn read(image: &[u8], k: u32, code: u32, handle: &mut Handle, buf: &mut [u8]) -> Result<usize, Refusal> {
     same_version()?;
     let mut bytes = 0usize;
     // SAFETY: as the top of this file says.
@@ -222,6 +225,7 @@ pub fn read(image: &[u8], k: u32, handle: &mut Handle, buf: &mut [u8]) -> Result
             image.as_ptr(),
             image.len(),
             k,
+            code,
             &mut handle.number,
             &handle.name,
             handle.len,
@@ -253,7 +257,7 @@ pub fn seek(handle: &mut Handle, from: SeekFrom) -> Result<(), Refusal> {
 /// Creates a file of 0 bytes at a path, and opens it. The holding directory's own entry gets its new size and the time.
 ///
 #[doc = errors!(create_file)]
-pub fn create_file(image: &mut [u8], k: u32, cwd: &[u8], path: &[u8], time: u64, work: &mut [u8]) -> Result<Handle, Refusal> {
+pub fn create_file(image: &mut [u8], k: u32, code: u32, cwd: &[u8], path: &[u8], time: u64, work: &mut [u8]) -> Result<Handle, Refusal> {
     same_version()?;
     let mut h = Handle::empty();
     // SAFETY: as the top of this file says.
@@ -262,6 +266,7 @@ pub fn create_file(image: &mut [u8], k: u32, cwd: &[u8], path: &[u8], time: u64,
             image.as_mut_ptr(),
             image.len(),
             k,
+            code,
             cwd.as_ptr(),
             cwd.len(),
             path.as_ptr(),
@@ -280,7 +285,7 @@ pub fn create_file(image: &mut [u8], k: u32, cwd: &[u8], path: &[u8], time: u64,
 /// Creates an empty directory at a path. The holding directory's own entry gets its new size and the time.
 ///
 #[doc = errors!(create_dir)]
-pub fn create_dir(image: &mut [u8], k: u32, cwd: &[u8], path: &[u8], time: u64, work: &mut [u8]) -> Result<(), Refusal> {
+pub fn create_dir(image: &mut [u8], k: u32, code: u32, cwd: &[u8], path: &[u8], time: u64, work: &mut [u8]) -> Result<(), Refusal> {
     same_version()?;
     // SAFETY: as the top of this file says.
     let number = unsafe {
@@ -288,6 +293,7 @@ pub fn create_dir(image: &mut [u8], k: u32, cwd: &[u8], path: &[u8], time: u64, 
             image.as_mut_ptr(),
             image.len(),
             k,
+            code,
             cwd.as_ptr(),
             cwd.len(),
             path.as_ptr(),
@@ -304,7 +310,7 @@ pub fn create_dir(image: &mut [u8], k: u32, cwd: &[u8], path: &[u8], time: u64, 
 /// and the time.
 ///
 #[doc = errors!(delete)]
-pub fn delete(image: &mut [u8], k: u32, cwd: &[u8], path: &[u8], time: u64, work: &mut [u8]) -> Result<(), Refusal> {
+pub fn delete(image: &mut [u8], k: u32, code: u32, cwd: &[u8], path: &[u8], time: u64, work: &mut [u8]) -> Result<(), Refusal> {
     same_version()?;
     // SAFETY: as the top of this file says.
     let number = unsafe {
@@ -312,6 +318,7 @@ pub fn delete(image: &mut [u8], k: u32, cwd: &[u8], path: &[u8], time: u64, work
             image.as_mut_ptr(),
             image.len(),
             k,
+            code,
             cwd.as_ptr(),
             cwd.len(),
             path.as_ptr(),
@@ -329,7 +336,7 @@ pub fn delete(image: &mut [u8], k: u32, cwd: &[u8], path: &[u8], time: u64, work
 /// has not, they stay current.
 ///
 #[doc = errors!(write)]
-pub fn write(image: &mut [u8], k: u32, handle: &mut Handle, buf: &[u8], time: u64, work: &mut [u8]) -> Result<usize, Refusal> {
+pub fn write(image: &mut [u8], k: u32, code: u32, handle: &mut Handle, buf: &[u8], time: u64, work: &mut [u8]) -> Result<usize, Refusal> {
     same_version()?;
     let mut bytes = 0usize;
     // SAFETY: as the top of this file says.
@@ -338,6 +345,7 @@ pub fn write(image: &mut [u8], k: u32, handle: &mut Handle, buf: &[u8], time: u6
             image.as_mut_ptr(),
             image.len(),
             k,
+            code,
             &mut handle.number,
             &handle.name,
             handle.len,

@@ -17,7 +17,7 @@ use std::io::{self, Read, Seek, Write};
 ///
 /// # fn main() -> std::io::Result<()> {
 /// # let mut image = vec![0; 4200 * mfs::BLOCK_SIZE];
-/// let mut volume = mfs::Volume::format(&mut image, 8)?;
+/// let mut volume = mfs::Volume::format(&mut image, 8, 0)?;
 /// volume.create_file("/log", 1_700_000_000)?;
 ///
 /// let mut log = volume.file_mut("/log", 1_700_000_060)?;

@@ -5,7 +5,7 @@
 //!
 //! fn main() -> Result<(), Refusal> {
 //!     let mut image = vec![0; 4200 * mfs::BLOCK_SIZE];
-//!     let mut volume = Volume::format(&mut image, 8)?;
+//!     let mut volume = Volume::format(&mut image, 8, 0)?;
 //!
 //!     let mut water = volume.create_file("/water", 1_700_000_000)?;
 //!     volume.write(&mut water, b"00000041", 1_700_000_060)?;

@@ -14,14 +14,15 @@ use crate::NAME_LEN;
 
 extern "C" {
     pub fn mfs_c_version() -> u32;
-    pub fn mfs_c_format(img: *mut u8, img_len: usize, k: u32) -> u32;
-    pub fn mfs_c_usage(img: *const u8, img_len: usize, k: u32, size: *mut u64, used: *mut u64, free: *mut u64) -> u32;
-    pub fn mfs_c_room(img: *const u8, img_len: usize, k: u32, count: u32, enough: *mut u32, bytes: *mut u32) -> u32;
-    pub fn mfs_c_check(img: *const u8, img_len: usize, k: u32, work: *mut u8, work_len: usize) -> u32;
+    pub fn mfs_c_format(img: *mut u8, img_len: usize, k: u32, code: u32) -> u32;
+    pub fn mfs_c_usage(img: *const u8, img_len: usize, k: u32, code: u32, size: *mut u64, used: *mut u64, free: *mut u64) -> u32;
+    pub fn mfs_c_room(img: *const u8, img_len: usize, k: u32, code: u32, count: u32, enough: *mut u32, bytes: *mut u32) -> u32;
+    pub fn mfs_c_check(img: *const u8, img_len: usize, k: u32, code: u32, work: *mut u8, work_len: usize) -> u32;
     pub fn mfs_c_open(
         img: *const u8,
         img_len: usize,
         k: u32,
+        code: u32,
         cwd: *const u8,
         cwd_len: usize,
         path: *const u8,
@@ -34,6 +35,7 @@ extern "C" {
         img: *const u8,
         img_len: usize,
         k: u32,
+        code: u32,
         cwd: *const u8,
         cwd_len: usize,
         path: *const u8,
@@ -48,6 +50,7 @@ extern "C" {
         img: *const u8,
         img_len: usize,
         k: u32,
+        code: u32,
         cwd: *const u8,
         cwd_len: usize,
         path: *const u8,
@@ -62,6 +65,7 @@ extern "C" {
         img: *const u8,
         img_len: usize,
         k: u32,
+        code: u32,
         number: *mut [u32; 4],
         name: *const [u8; NAME_LEN],
         len: usize,
@@ -76,6 +80,7 @@ extern "C" {
         img: *mut u8,
         img_len: usize,
         k: u32,
+        code: u32,
         cwd: *const u8,
         cwd_len: usize,
         path: *const u8,
@@ -91,6 +96,7 @@ extern "C" {
         img: *mut u8,
         img_len: usize,
         k: u32,
+        code: u32,
         cwd: *const u8,
         cwd_len: usize,
         path: *const u8,
@@ -103,6 +109,7 @@ extern "C" {
         img: *mut u8,
         img_len: usize,
         k: u32,
+        code: u32,
         cwd: *const u8,
         cwd_len: usize,
         path: *const u8,
@@ -115,6 +122,7 @@ extern "C" {
         img: *mut u8,
         img_len: usize,
         k: u32,
+        code: u32,
         number: *mut [u32; 4],
         name: *const [u8; NAME_LEN],
         len: usize,

@@ -3,7 +3,7 @@ use crate::{raw, Refusal};
 use core::sync::atomic::{AtomicBool, Ordering};
 
 /// The version of the exports that these bindings call: `MFS_C_VERSION` of include/mfs_c.h.
-pub const EXPORTS_VERSION: u32 = 1;
+pub const EXPORTS_VERSION: u32 = 2;
 
 /// Whether the versions were compared and are the same. Another thread that does not see it yet compares once more.
 static SAME: AtomicBool = AtomicBool::new(false);

@@ -11,8 +11,8 @@ use core::fmt;
 /// ```
 /// # fn main() -> Result<(), mfs::Refusal> {
 /// # let mut image = vec![0; 4200 * mfs::BLOCK_SIZE];
-/// # mfs::Volume::format(&mut image, 8)?.write_file("/water", b"00000041", 0)?;
-/// let volume = mfs::VolumeRef::new(&image, 8);
+/// # mfs::Volume::format(&mut image, 8, 0)?.write_file("/water", b"00000041", 0)?;
+/// let volume = mfs::VolumeRef::new(&image, 8, 0);
 /// assert_eq!(volume.read_file("/water")?, b"00000041");
 /// assert!(!volume.exists("/gas")?);
 /// # Ok(())
@@ -22,15 +22,16 @@ use core::fmt;
 pub struct VolumeRef<'a> {
     image: &'a [u8],
     k: u32,
+    code: u32,
     cwd: &'a str,
 }
 
 impl<'a> VolumeRef<'a> {
-    /// The volume in an image whose superblock is in block `k`, with the working directory `/`. The image is not looked
-    /// at: each call does that, and [`check`](VolumeRef::check) looks at all of it.
+    /// The volume in an image whose superblock is in block `k`, with blocks of size code `code` and the working directory
+    /// `/`. The image is not looked at: each call does that, and [`check`](VolumeRef::check) looks at all of it.
     #[must_use]
-    pub fn new(image: &'a [u8], k: u32) -> VolumeRef<'a> {
-        VolumeRef { image, k, cwd: "/" }
+    pub fn new(image: &'a [u8], k: u32, code: u32) -> VolumeRef<'a> {
+        VolumeRef { image, k, code, cwd: "/" }
     }
 
     /// The same volume with another working directory, which is not looked at before a call needs it.
@@ -51,6 +52,12 @@ impl<'a> VolumeRef<'a> {
         self.k
     }
 
+    /// The code of the block size.
+    #[must_use]
+    pub fn code(&self) -> u32 {
+        self.code
+    }
+
     /// The working directory.
     #[must_use]
     pub fn cwd(&self) -> &'a str {
@@ -61,35 +68,35 @@ impl<'a> VolumeRef<'a> {
     ///
     #[doc = errors!(check)]
     pub fn check(&self) -> Result<(), Refusal> {
-        crate::check(self.image, self.k, &mut vec![0; work_len(self.image.len())])
+        crate::check(self.image, self.k, self.code, &mut vec![0; work_len(self.image.len())])
     }
 
     /// How much of the volume is used, by the counts of its superblock.
     ///
     #[doc = errors!(usage)]
     pub fn usage(&self) -> Result<Usage, Refusal> {
-        crate::usage(self.image, self.k)
+        crate::usage(self.image, self.k, self.code)
     }
 
     /// Whether so many blocks are free within reach of allocation. The bitmap is read no further than it takes to tell.
     ///
     #[doc = errors!(room)]
     pub fn room(&self, count: u32) -> Result<Room, Refusal> {
-        crate::room(self.image, self.k, count)
+        crate::room(self.image, self.k, self.code, count)
     }
 
     /// Opens the file at a path, at position 0.
     ///
     #[doc = errors!(open)]
     pub fn open(&self, path: impl AsRef<[u8]>) -> Result<Handle, Refusal> {
-        crate::open(self.image, self.k, self.cwd.as_bytes(), path.as_ref())
+        crate::open(self.image, self.k, self.code, self.cwd.as_bytes(), path.as_ref())
     }
 
     /// Kind, size, time and name of what stands at a path; `/` itself is the root, with time 0 and no name.
     ///
     #[doc = errors!(info)]
     pub fn info(&self, path: impl AsRef<[u8]>) -> Result<Info, Refusal> {
-        crate::info(self.image, self.k, self.cwd.as_bytes(), path.as_ref())
+        crate::info(self.image, self.k, self.code, self.cwd.as_bytes(), path.as_ref())
     }
 
     /// Whether something stands at a path. Where a part of the path is no directory, nothing does.
@@ -132,7 +139,7 @@ impl<'a> VolumeRef<'a> {
     ///
     #[doc = errors!(read)]
     pub fn read(&self, handle: &mut Handle, buf: &mut [u8]) -> Result<usize, Refusal> {
-        crate::read(self.image, self.k, handle, buf)
+        crate::read(self.image, self.k, self.code, handle, buf)
     }
 
     /// All bytes of the file at a path.
@@ -163,6 +170,6 @@ impl<'a> VolumeRef<'a> {
 impl fmt::Debug for VolumeRef<'_> {
     fn fmt(&self, f: &mut fmt::Formatter<'_>) -> fmt::Result {
         // The image would be megabytes of numbers.
-        f.debug_struct("VolumeRef").field("k", &self.k).field("cwd", &self.cwd).finish_non_exhaustive()
+        f.debug_struct("VolumeRef").field("k", &self.k).field("code", &self.code).field("cwd", &self.cwd).finish_non_exhaustive()
     }
 }

@@ -12,31 +12,32 @@ use core::fmt;
 pub struct Volume<'a> {
     image: &'a mut [u8],
     k: u32,
+    code: u32,
     work: Vec<u8>,
     cwd: String,
 }
 
 impl<'a> Volume<'a> {
-    /// The volume in an image whose superblock is in block `k`. The image is not looked at: each call does that, and
-    /// [`check`](Volume::check) looks at all of it.
+    /// The volume in an image whose superblock is in block `k`, with blocks of size code `code`. The image is not looked
+    /// at: each call does that, and [`check`](Volume::check) looks at all of it.
     #[must_use]
-    pub fn new(image: &'a mut [u8], k: u32) -> Volume<'a> {
+    pub fn new(image: &'a mut [u8], k: u32, code: u32) -> Volume<'a> {
         let work = vec![0; work_len(image.len())];
-        Volume { image, k, work, cwd: String::from("/") }
+        Volume { image, k, code, work, cwd: String::from("/") }
     }
 
     /// Formats the whole image: a volume with an empty root directory.
     ///
     #[doc = errors!(format)]
-    pub fn format(image: &'a mut [u8], k: u32) -> Result<Volume<'a>, Refusal> {
-        crate::format(image, k)?;
-        Ok(Volume::new(image, k))
+    pub fn format(image: &'a mut [u8], k: u32, code: u32) -> Result<Volume<'a>, Refusal> {
+        crate::format(image, k, code)?;
+        Ok(Volume::new(image, k, code))
     }
 
     /// The volume for calls that change nothing.
     #[must_use]
     pub fn view(&self) -> VolumeRef<'_> {
-        VolumeRef::new(self.image, self.k).with_cwd(&self.cwd)
+        VolumeRef::new(self.image, self.k, self.code).with_cwd(&self.cwd)
     }
 
     /// The image as it is now.
@@ -49,6 +50,12 @@ impl<'a> Volume<'a> {
     #[must_use]
     pub fn k(&self) -> u32 {
         self.k
+    }
+
+    /// The code of the block size.
+    #[must_use]
+    pub fn code(&self) -> u32 {
+        self.code
     }
 
     /// The working directory; `/` at first.
@@ -66,7 +73,7 @@ impl<'a> Volume<'a> {
     ///
     #[doc = errors!(check)]
     pub fn check(&mut self) -> Result<(), Refusal> {
-        crate::check(self.image, self.k, &mut self.work)
+        crate::check(self.image, self.k, self.code, &mut self.work)
     }
 
     /// How much of the volume is used, by the counts of its superblock.
@@ -162,14 +169,14 @@ impl<'a> Volume<'a> {
     ///
     #[doc = errors!(create_file)]
     pub fn create_file(&mut self, path: impl AsRef<[u8]>, time: u64) -> Result<Handle, Refusal> {
-        crate::create_file(self.image, self.k, self.cwd.as_bytes(), path.as_ref(), time, &mut self.work)
+        crate::create_file(self.image, self.k, self.code, self.cwd.as_bytes(), path.as_ref(), time, &mut self.work)
     }
 
     /// Creates an empty directory at a path. The holding directory's own entry gets its new size and the time.
     ///
     #[doc = errors!(create_dir)]
     pub fn create_dir(&mut self, path: impl AsRef<[u8]>, time: u64) -> Result<(), Refusal> {
-        crate::create_dir(self.image, self.k, self.cwd.as_bytes(), path.as_ref(), time, &mut self.work)
+        crate::create_dir(self.image, self.k, self.code, self.cwd.as_bytes(), path.as_ref(), time, &mut self.work)
     }
 
     /// Deletes the file, the device or the empty directory at a path. The holding directory's own entry gets its new
@@ -177,14 +184,14 @@ impl<'a> Volume<'a> {
     ///
     #[doc = errors!(delete)]
     pub fn delete(&mut self, path: impl AsRef<[u8]>, time: u64) -> Result<(), Refusal> {
-        crate::delete(self.image, self.k, self.cwd.as_bytes(), path.as_ref(), time, &mut self.work)
+        crate::delete(self.image, self.k, self.code, self.cwd.as_bytes(), path.as_ref(), time, &mut self.work)
     }
 
     /// Writes all of the buffer at the handle's position, or nothing; the file ends behind it. The answer counts the bytes.
     ///
     #[doc = errors!(write)]
     pub fn write(&mut self, handle: &mut Handle, buf: &[u8], time: u64) -> Result<usize, Refusal> {
-        crate::write(self.image, self.k, handle, buf, time, &mut self.work)
+        crate::write(self.image, self.k, self.code, handle, buf, time, &mut self.work)
     }
 
     /// Makes these bytes, and no others, what the file at a path holds. A file that is not there is created; one that
@@ -224,6 +231,6 @@ impl<'a> Volume<'a> {
 impl fmt::Debug for Volume<'_> {
     fn fmt(&self, f: &mut fmt::Formatter<'_>) -> fmt::Result {
         // The image and the work buffer would be megabytes of numbers.
-        f.debug_struct("Volume").field("k", &self.k).field("cwd", &self.cwd).finish_non_exhaustive()
+        f.debug_struct("Volume").field("k", &self.k).field("code", &self.code).field("cwd", &self.cwd).finish_non_exhaustive()
     }
 }

@@ -42,11 +42,11 @@ fn untouched() -> Outs {
 
 fn usage(image: &[u8], outs: &mut Outs) -> u32 {
     let [size, used, free] = &mut outs.totals;
-    unsafe { raw::mfs_c_usage(image.as_ptr(), image.len(), K, size, used, free) }
+    unsafe { raw::mfs_c_usage(image.as_ptr(), image.len(), K, CODE, size, used, free) }
 }
 
 fn room(image: &[u8], count: u32, outs: &mut Outs) -> u32 {
-    unsafe { raw::mfs_c_room(image.as_ptr(), image.len(), K, count, &mut outs.enough, &mut outs.read) }
+    unsafe { raw::mfs_c_room(image.as_ptr(), image.len(), K, CODE, count, &mut outs.enough, &mut outs.read) }
 }
 
 fn open(image: &[u8], path: &[u8], outs: &mut Outs) -> u32 {
@@ -55,6 +55,7 @@ fn open(image: &[u8], path: &[u8], outs: &mut Outs) -> u32 {
             image.as_ptr(),
             image.len(),
             K,
+            CODE,
             b"/".as_ptr(),
             1,
             path.as_ptr(),
@@ -72,6 +73,7 @@ fn info(image: &[u8], path: &[u8], outs: &mut Outs) -> u32 {
             image.as_ptr(),
             image.len(),
             K,
+            CODE,
             b"/".as_ptr(),
             1,
             path.as_ptr(),
@@ -91,6 +93,7 @@ fn list(image: &[u8], path: &[u8], buf: &mut [u8], outs: &mut Outs) -> u32 {
             image.as_ptr(),
             image.len(),
             K,
+            CODE,
             b"/".as_ptr(),
             1,
             path.as_ptr(),
@@ -106,7 +109,7 @@ fn list(image: &[u8], path: &[u8], buf: &mut [u8], outs: &mut Outs) -> u32 {
 
 fn read(image: &[u8], name: &[u8; NAME_LEN], len: usize, buf: &mut [u8], outs: &mut Outs) -> u32 {
     unsafe {
-        raw::mfs_c_read(image.as_ptr(), image.len(), K, &mut outs.number, name, len, buf.as_mut_ptr(), buf.len(), &mut outs.bytes)
+        raw::mfs_c_read(image.as_ptr(), image.len(), K, CODE, &mut outs.number, name, len, buf.as_mut_ptr(), buf.len(), &mut outs.bytes)
     }
 }
 
@@ -117,6 +120,7 @@ fn create_file(image: &mut [u8], path: &[u8], outs: &mut Outs) -> u32 {
             image.as_mut_ptr(),
             image.len(),
             K,
+            CODE,
             b"/".as_ptr(),
             1,
             path.as_ptr(),
@@ -138,6 +142,7 @@ fn write(image: &mut [u8], name: &[u8; NAME_LEN], len: usize, buf: &[u8], outs: 
             image.as_mut_ptr(),
             image.len(),
             K,
+            CODE,
             &mut outs.number,
             name,
             len,
@@ -243,18 +248,18 @@ fn out_parameters_are_the_answer() {
 fn nothing_is_read_or_written_through_empty_slices() {
     let nowhere = NonNull::<u8>::dangling().as_ptr();
     let mut none: [u8; 0] = [];
-    assert_eq!(unsafe { raw::mfs_c_format(nowhere, 0, K) }, 1);
-    assert_eq!(mfs::usage(&none, K).unwrap_err().number(), 1);
+    assert_eq!(unsafe { raw::mfs_c_format(nowhere, 0, K, CODE) }, 1);
+    assert_eq!(mfs::usage(&none, K, CODE).unwrap_err().number(), 1);
 
     let image = listed();
-    assert_eq!(unsafe { raw::mfs_c_check(image.as_ptr(), image.len(), K, nowhere, 0) }, 16);
-    let mut m1 = mfs::open(&image, K, &none, b"/m1").unwrap();
-    assert_eq!(mfs::open(&image, K, &none, &none).unwrap_err().number(), 4);
-    assert_eq!(mfs::info(&image, K, b"/", &none).unwrap_err().number(), 5);
-    assert_eq!(mfs::read(&image, K, &mut m1, &mut none), Ok(0));
-    assert_eq!(mfs::list(&image, K, &[], b"/", 0, &mut none), Ok(mfs::Listed { bytes: 0, next: 0 }));
+    assert_eq!(unsafe { raw::mfs_c_check(image.as_ptr(), image.len(), K, CODE, nowhere, 0) }, 16);
+    let mut m1 = mfs::open(&image, K, CODE, &none, b"/m1").unwrap();
+    assert_eq!(mfs::open(&image, K, CODE, &none, &none).unwrap_err().number(), 4);
+    assert_eq!(mfs::info(&image, K, CODE, b"/", &none).unwrap_err().number(), 5);
+    assert_eq!(mfs::read(&image, K, CODE, &mut m1, &mut none), Ok(0));
+    assert_eq!(mfs::list(&image, K, CODE, &[], b"/", 0, &mut none), Ok(mfs::Listed { bytes: 0, next: 0 }));
     let mut changed = image.clone();
-    let written = mfs::write(&mut changed, K, &mut m1, &[], 9, &mut work_for(&image));
+    let written = mfs::write(&mut changed, K, CODE, &mut m1, &[], 9, &mut work_for(&image));
     assert_eq!(written.unwrap_err().number(), 13);
     assert_eq!(changed, image);
 }
@@ -263,10 +268,10 @@ fn nothing_is_read_or_written_through_empty_slices() {
 #[test]
 fn buffers_that_are_only_read_may_be_the_same() {
     let mut image = vec![0; 128 * BLOCK_SIZE];
-    mfs::format(&mut image, K).unwrap();
+    mfs::format(&mut image, K, CODE).unwrap();
     put(&mut image, 0, b"/a");
-    assert_eq!(mfs::info(&image, K, &image[..1], &image[..1]).unwrap().size, 0);
-    assert_eq!(mfs::open(&image, K, &image[..2], &image[1..2]).unwrap_err().number(), 5);
+    assert_eq!(mfs::info(&image, K, CODE, &image[..1], &image[..1]).unwrap().size, 0);
+    assert_eq!(mfs::open(&image, K, CODE, &image[..2], &image[1..2]).unwrap_err().number(), 5);
 }
 
 #[test]

@@ -15,8 +15,8 @@ fn refusal_of(error: &io::Error) -> Option<Refusal> {
 fn a_file_is_read_and_sought() {
     let mut image = formatted(ROOMY);
     let text: String = (0..1000).map(|line| format!("line {line}\n")).collect();
-    Volume::new(&mut image, K).write_file("/log", text.as_bytes(), 1).unwrap();
-    let mut file = VolumeRef::new(&image, K).file("/log").unwrap();
+    Volume::new(&mut image, K, CODE).write_file("/log", text.as_bytes(), 1).unwrap();
+    let mut file = VolumeRef::new(&image, K, CODE).file("/log").unwrap();
     assert_eq!(file.handle().size() as usize, text.len());
     let lines: Vec<String> = BufReader::new(&mut file).lines().map(Result::unwrap).collect();
     assert_eq!((lines.len(), lines[999].as_str()), (1000, "line 999"));
@@ -33,7 +33,7 @@ fn a_file_is_read_and_sought() {
 #[test]
 fn seeks_outside_the_file_are_errors() {
     let image = with_file();
-    let mut file = VolumeRef::new(&image, K).file("/d/f").unwrap();
+    let mut file = VolumeRef::new(&image, K, CODE).file("/d/f").unwrap();
     file.seek(SeekFrom::Start(2)).unwrap();
     for from in [
         SeekFrom::Start(4),
@@ -56,7 +56,7 @@ fn seeks_outside_the_file_are_errors() {
 #[test]
 fn a_file_is_written_and_ends_behind_the_write() {
     let mut image = with_file();
-    let mut volume = Volume::new(&mut image, K);
+    let mut volume = Volume::new(&mut image, K, CODE);
     let mut file = volume.file_mut("/d/f", 7).unwrap();
     assert_eq!(file.write(b"").unwrap(), 0);
     assert_eq!(file.write(b"0123456789").unwrap(), 10);
@@ -76,7 +76,7 @@ fn a_file_is_written_and_ends_behind_the_write() {
 #[test]
 fn a_buffered_writer_and_a_copy_go_through() {
     let mut image = formatted(ROOMY);
-    let mut volume = Volume::new(&mut image, K);
+    let mut volume = Volume::new(&mut image, K, CODE);
     volume.create_file("/a", 1).unwrap();
     volume.create_file("/b", 1).unwrap();
     let bytes: Vec<u8> = (0..100_000u32).map(|at| (at % 253) as u8).collect();
@@ -94,7 +94,7 @@ fn a_buffered_writer_and_a_copy_go_through() {
 #[test]
 fn a_refused_write_is_an_error_with_its_refusal() {
     let mut image = with_file();
-    let mut volume = Volume::new(&mut image, K);
+    let mut volume = Volume::new(&mut image, K, CODE);
     let mut file = volume.file_mut("/d/f", 7).unwrap();
     let error = file.write(&vec![0; 4200 * 512]).unwrap_err();
     assert_eq!((error.kind(), refusal_of(&error)), (ErrorKind::StorageFull, Some(Refusal::NoRoom)));

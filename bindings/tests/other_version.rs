@@ -10,7 +10,7 @@ const PROGRAM: &str = r#"fn main() {
     let mut image = vec![7; 4200 * mfs::BLOCK_SIZE];
     let mut handle = mfs::Handle::from_parts(0, 0, 0, 0, [0; mfs::NAME_LEN], 1);
     let other = mfs::Refusal::OtherVersion(mfs::EXPORTS_VERSION + 1);
-    let mut volume = mfs::Volume::new(&mut image, 8);
+    let mut volume = mfs::Volume::new(&mut image, 8, CODE);
     assert_eq!(volume.check(), Err(other));
     assert_eq!(volume.usage(), Err(other));
     assert_eq!(volume.open("/x"), Err(other));
@@ -22,7 +22,7 @@ const PROGRAM: &str = r#"fn main() {
     assert_eq!(volume.create_dir("/x", 1), Err(other));
     assert_eq!(volume.delete("/x", 1), Err(other));
     assert_eq!(volume.write(&mut handle, b"x", 1), Err(other));
-    println!("{}", mfs::Volume::format(&mut image, 8).unwrap_err());
+    println!("{}", mfs::Volume::format(&mut image, 8, CODE).unwrap_err());
 }
 "#;
 

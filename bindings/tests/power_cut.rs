@@ -17,7 +17,7 @@ fn others() -> Vec<(String, Vec<u8>)> {
 
 fn volume_of_others() -> Vec<u8> {
     let mut image = formatted(ROOMY);
-    let mut volume = Volume::new(&mut image, K);
+    let mut volume = Volume::new(&mut image, K, CODE);
     volume.create_dir("/d", 1).unwrap();
     volume.create_dir("/d/e", 1).unwrap();
     for (number, (path, bytes)) in others().into_iter().enumerate() {
@@ -33,7 +33,7 @@ fn volume_of_others() -> Vec<u8> {
 fn after_each_cut<T>(call: impl FnOnce(&mut Volume<'_>) -> Result<T, Refusal>) -> Vec<Result<(), Refusal>> {
     let old = volume_of_others();
     let mut new = old.clone();
-    assert!(call(&mut Volume::new(&mut new, K)).is_ok());
+    assert!(call(&mut Volume::new(&mut new, K, CODE)).is_ok());
     let changed: Vec<usize> = (0..ROOMY).filter(|&block| of(&old, block) != of(&new, block)).collect();
     assert!((1..=10).contains(&changed.len()), "{} blocks are changed", changed.len());
     let others = others();
@@ -42,7 +42,7 @@ fn after_each_cut<T>(call: impl FnOnce(&mut Volume<'_>) -> Result<T, Refusal>) -
         for (_, &block) in changed.iter().enumerate().filter(|(place, _)| set >> place & 1 == 1) {
             put(&mut image, block * BLOCK_SIZE, of(&new, block));
         }
-        let volume = VolumeRef::new(&image, K);
+        let volume = VolumeRef::new(&image, K, CODE);
         for (path, bytes) in &others {
             assert_eq!(volume.read_file(path).as_ref(), Ok(bytes), "{path} with set {set:b} of {changed:?}");
         }

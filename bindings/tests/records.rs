@@ -5,7 +5,7 @@ use common::*;
 use mfs::{records, Kind, Listed, Record, BLOCK_SIZE};
 
 fn list_root(image: &[u8], from: u32, buf: &mut [u8]) -> Listed {
-    mfs::list(image, K, b"/", b"/", from, buf).unwrap()
+    mfs::list(image, K, CODE, b"/", b"/", from, buf).unwrap()
 }
 
 /// The bytes of the two records of the documents' volume.

@@ -11,25 +11,25 @@ fn some_handle() -> Handle {
 
 #[track_caller]
 fn assert_open_refused(image: &[u8], cwd: &[u8], path: &[u8], refusal: Refusal) {
-    assert_refused(image, refusal, |image| mfs::open(image, K, cwd, path));
+    assert_refused(image, refusal, |image| mfs::open(image, K, CODE, cwd, path));
 }
 
 #[track_caller]
 fn assert_info_refused(image: &[u8], cwd: &[u8], path: &[u8], refusal: Refusal) {
-    assert_refused(image, refusal, |image| mfs::info(image, K, cwd, path));
+    assert_refused(image, refusal, |image| mfs::info(image, K, CODE, cwd, path));
 }
 
 #[track_caller]
 fn assert_list_refused(image: &[u8], cwd: &[u8], path: &[u8], refusal: Refusal) {
     let mut buf = [7; 600];
-    assert_refused(image, refusal, |image| mfs::list(image, K, cwd, path, 0, &mut buf));
+    assert_refused(image, refusal, |image| mfs::list(image, K, CODE, cwd, path, 0, &mut buf));
     assert_eq!(buf, [7; 600]);
 }
 
 #[track_caller]
 fn assert_read_refused(image: &[u8], handle: &Handle, refusal: Refusal) {
     let (mut kept, mut buf) = (handle.clone(), [7; 600]);
-    assert_refused(image, refusal, |image| mfs::read(image, K, &mut kept, &mut buf));
+    assert_refused(image, refusal, |image| mfs::read(image, K, CODE, &mut kept, &mut buf));
     assert_eq!(kept, *handle);
     assert_eq!(buf, [7; 600]);
 }
@@ -44,20 +44,20 @@ fn assert_seek_refused(handle: &Handle, from: SeekFrom, refusal: Refusal) {
 #[track_caller]
 fn assert_create_refused(image: &[u8], cwd: &[u8], path: &[u8], refusal: Refusal) {
     let mut work = work_for(image);
-    assert_refused(image, refusal, |image| mfs::create_file(image, K, cwd, path, 9, &mut work));
-    assert_refused(image, refusal, |image| mfs::create_dir(image, K, cwd, path, 9, &mut work));
+    assert_refused(image, refusal, |image| mfs::create_file(image, K, CODE, cwd, path, 9, &mut work));
+    assert_refused(image, refusal, |image| mfs::create_dir(image, K, CODE, cwd, path, 9, &mut work));
 }
 
 #[track_caller]
 fn assert_delete_refused(image: &[u8], cwd: &[u8], path: &[u8], refusal: Refusal) {
     let mut work = work_for(image);
-    assert_refused(image, refusal, |image| mfs::delete(image, K, cwd, path, 9, &mut work));
+    assert_refused(image, refusal, |image| mfs::delete(image, K, CODE, cwd, path, 9, &mut work));
 }
 
 #[track_caller]
 fn assert_write_refused(image: &[u8], handle: &Handle, buf: &[u8], refusal: Refusal) {
     let (mut kept, mut work) = (handle.clone(), work_for(image));
-    assert_refused(image, refusal, |image| mfs::write(image, K, &mut kept, buf, 9, &mut work));
+    assert_refused(image, refusal, |image| mfs::write(image, K, CODE, &mut kept, buf, 9, &mut work));
     assert_eq!(kept, *handle);
 }
 
@@ -72,8 +72,8 @@ fn assert_lookups_refused(image: &[u8], cwd: &[u8], path: &[u8], refusal: Refusa
 /// All calls that change nothing but the check; what they ask for is plain.
 #[track_caller]
 fn assert_reading_refused(image: &[u8], refusal: Refusal) {
-    assert_refused(image, refusal, |image| mfs::usage(image, K));
-    assert_refused(image, refusal, |image| mfs::room(image, K, 0));
+    assert_refused(image, refusal, |image| mfs::usage(image, K, CODE));
+    assert_refused(image, refusal, |image| mfs::room(image, K, CODE, 0));
     assert_lookups_refused(image, b"/", b"/m1", refusal);
     assert_read_refused(image, &some_handle(), refusal);
 }
@@ -82,12 +82,12 @@ fn assert_reading_refused(image: &[u8], refusal: Refusal) {
 #[track_caller]
 fn assert_checking_refused(image: &[u8], work_len: usize, refusal: Refusal) -> Vec<u8> {
     let mut work = vec![0xA5; work_len];
-    assert_refused(image, refusal, |image| mfs::check(image, K, &mut work));
-    assert_refused(image, refusal, |image| mfs::create_file(image, K, b"/", b"/new", 9, &mut work));
-    assert_refused(image, refusal, |image| mfs::create_dir(image, K, b"/", b"/new", 9, &mut work));
-    assert_refused(image, refusal, |image| mfs::delete(image, K, b"/", b"/m1", 9, &mut work));
+    assert_refused(image, refusal, |image| mfs::check(image, K, CODE, &mut work));
+    assert_refused(image, refusal, |image| mfs::create_file(image, K, CODE, b"/", b"/new", 9, &mut work));
+    assert_refused(image, refusal, |image| mfs::create_dir(image, K, CODE, b"/", b"/new", 9, &mut work));
+    assert_refused(image, refusal, |image| mfs::delete(image, K, CODE, b"/", b"/m1", 9, &mut work));
     let mut handle = some_handle();
-    assert_refused(image, refusal, |image| mfs::write(image, K, &mut handle, b"abc", 9, &mut work));
+    assert_refused(image, refusal, |image| mfs::write(image, K, CODE, &mut handle, b"abc", 9, &mut work));
     assert_eq!(handle, some_handle());
     work
 }
@@ -104,12 +104,12 @@ fn refusal_1_an_image_of_no_such_length() {
     for len in [0, 511, 513, 10 * BLOCK_SIZE, 128 * BLOCK_SIZE + 1] {
         let image = vec![0; len];
         assert_all_refused(&image, Refusal::BadImage);
-        assert_refused(&image, Refusal::BadImage, |image| mfs::format(image, K));
+        assert_refused(&image, Refusal::BadImage, |image| mfs::format(image, K, CODE));
     }
     let image = listed();
     for k in [126, 127, 128, u32::MAX - 2, u32::MAX] {
-        assert_refused(&image, Refusal::BadImage, |image| mfs::format(image, k));
-        assert_refused(&image, Refusal::BadImage, |image| mfs::usage(image, k));
+        assert_refused(&image, Refusal::BadImage, |image| mfs::format(image, k, CODE));
+        assert_refused(&image, Refusal::BadImage, |image| mfs::usage(image, k, CODE));
     }
 }
 
@@ -127,7 +127,7 @@ fn refusal_2_no_superblock() {
 fn refusal_3_a_block_count_without_a_layout() {
     for blocks in [11, 4108] {
         let image = vec![0; blocks * BLOCK_SIZE];
-        assert_refused(&image, Refusal::BadCount, |image| mfs::format(image, K));
+        assert_refused(&image, Refusal::BadCount, |image| mfs::format(image, K, CODE));
     }
     for blocks in [0u32, 10, 11, 129, u32::MAX] {
         let mut image = listed();
@@ -188,7 +188,7 @@ fn refusal_8_no_name_for_an_entry() {
     assert_create_refused(&image, b"/", b"/", Refusal::BadName);
     assert_create_refused(&image, b"/d", b"", Refusal::Exists); // not an empty name: `/d/` is `/d`
     let (mut image, mut work) = (image.clone(), work_for(&image));
-    let longest = mfs::create_file(&mut image, K, b"/", &[b'n'; NAME_LEN], 9, &mut work).unwrap();
+    let longest = mfs::create_file(&mut image, K, CODE, b"/", &[b'n'; NAME_LEN], 9, &mut work).unwrap();
     assert_eq!(longest.name(), [b'n'; NAME_LEN]);
 }
 
@@ -197,15 +197,15 @@ fn refusal_9_no_room() {
     // Below 4,096 blocks nothing is within reach.
     let image = listed();
     assert_create_refused(&image, b"/", b"/new", Refusal::NoRoom);
-    let m1 = mfs::open(&image, K, b"/", b"m1").unwrap();
+    let m1 = mfs::open(&image, K, CODE, b"/", b"m1").unwrap();
     assert_write_refused(&image, &m1, &[b'x'; 509], Refusal::NoRoom);
     // In a roomy volume one byte more than all blocks within reach hold.
     let image = with_file();
-    let file = mfs::open(&image, K, b"/", b"/d/f").unwrap();
+    let file = mfs::open(&image, K, CODE, b"/", b"/d/f").unwrap();
     let all = (4096 - 2) * 508; // the root and /d have one block each
     assert_write_refused(&image, &file, &vec![b'x'; all + 1], Refusal::NoRoom);
     let (mut full, mut file, mut work) = (image.clone(), file, work_for(&image));
-    assert_eq!(mfs::write(&mut full, K, &mut file, &vec![b'x'; all], 9, &mut work), Ok(all));
+    assert_eq!(mfs::write(&mut full, K, CODE, &mut file, &vec![b'x'; all], 9, &mut work), Ok(all));
     assert_create_refused(&full, b"/", b"/new", Refusal::NoRoom);
 }
 
@@ -214,9 +214,9 @@ fn refusal_10_a_file_over_the_limit() {
     let mut image = listed();
     put(&mut image, M1_SIZE_AT, &(FILE_LEN + 1).to_be_bytes());
     assert_open_refused(&image, b"/", b"m1", Refusal::TooLarge);
-    assert_eq!(mfs::info(&image, K, b"/", b"m1").unwrap().size, FILE_LEN + 1);
+    assert_eq!(mfs::info(&image, K, CODE, b"/", b"m1").unwrap().size, FILE_LEN + 1);
     put(&mut image, M1_SIZE_AT, &FILE_LEN.to_be_bytes());
-    assert_eq!(mfs::open(&image, K, b"/", b"m1").unwrap().size(), FILE_LEN);
+    assert_eq!(mfs::open(&image, K, CODE, b"/", b"m1").unwrap().size(), FILE_LEN);
 }
 
 #[test]
@@ -244,18 +244,18 @@ fn refusal_11_a_handle_s_own_fields() {
 fn refusal_11_a_file_that_is_no_longer_there() {
     let mut image = with_file();
     let mut work = work_for(&image);
-    let old = mfs::open(&image, K, b"/", b"/d/f").unwrap();
+    let old = mfs::open(&image, K, CODE, b"/", b"/d/f").unwrap();
     let mut other = old.clone();
     // As many bytes again: the same name, address and size.
-    mfs::write(&mut image, K, &mut other, b"xyz", 4, &mut work).unwrap();
+    mfs::write(&mut image, K, CODE, &mut other, b"xyz", 4, &mut work).unwrap();
     let mut buf = [0; 3];
-    assert_eq!(mfs::read(&image, K, &mut old.clone(), &mut buf), Ok(3));
+    assert_eq!(mfs::read(&image, K, CODE, &mut old.clone(), &mut buf), Ok(3));
     assert_eq!(&buf, b"xyz");
 
-    mfs::write(&mut image, K, &mut other, b"more", 5, &mut work).unwrap();
+    mfs::write(&mut image, K, CODE, &mut other, b"more", 5, &mut work).unwrap();
     assert_read_refused(&image, &old, Refusal::Stale);
     assert_write_refused(&image, &old, b"lost", Refusal::Stale);
-    mfs::delete(&mut image, K, b"/", b"/d/f", 6, &mut work).unwrap();
+    mfs::delete(&mut image, K, CODE, b"/", b"/d/f", 6, &mut work).unwrap();
     assert_read_refused(&image, &other, Refusal::Stale);
     assert_write_refused(&image, &other, b"lost", Refusal::Stale);
 }
@@ -265,9 +265,9 @@ fn refusal_11_a_directory_that_is_none() {
     // The bytes of /d/f are made to look like a directory with a file of the handle's name, address and size.
     let mut image = with_file();
     let mut work = work_for(&image);
-    let mut file = mfs::open(&image, K, b"/", b"/d/f").unwrap();
+    let mut file = mfs::open(&image, K, CODE, b"/", b"/d/f").unwrap();
     let addr = file.addr();
-    mfs::write(&mut image, K, &mut file, &entry(1, addr, 3, 9, b"x"), 5, &mut work).unwrap();
+    mfs::write(&mut image, K, CODE, &mut file, &entry(1, addr, 3, 9, b"x"), 5, &mut work).unwrap();
     let forged = Handle::from_parts(addr, addr, 3, 0, name_array(b"x"), 1);
     assert_write_refused(&image, &forged, b"abc", Refusal::Stale);
     // Blocks outside the volume: a write finds no such directory, a read cannot walk it.
@@ -300,7 +300,7 @@ fn refusal_12_a_target_outside_the_file() {
 #[test]
 fn refusal_13_nothing_to_write() {
     let image = with_file();
-    let file = mfs::open(&image, K, b"/", b"/d/f").unwrap();
+    let file = mfs::open(&image, K, CODE, b"/", b"/d/f").unwrap();
     assert_write_refused(&image, &file, b"", Refusal::EmptyWrite);
     // Told before the handle is looked at.
     assert_write_refused(&image, &Handle::from_parts(0, 0, 0, 1, [0; NAME_LEN], 0), b"", Refusal::EmptyWrite);
@@ -318,20 +318,20 @@ fn refusal_15_a_directory_too_deep() {
     let mut path = Vec::new();
     for _ in 0..DEPTH {
         path.extend(b"/a");
-        assert_eq!(mfs::create_dir(&mut image, K, b"/", &path, 1, &mut work), Ok(()));
+        assert_eq!(mfs::create_dir(&mut image, K, CODE, b"/", &path, 1, &mut work), Ok(()));
     }
     path.extend(b"/a");
-    assert_refused(&image, Refusal::TooDeep, |image| mfs::create_dir(image, K, b"/", &path, 1, &mut work));
-    assert!(mfs::create_file(&mut image, K, b"/", &path, 1, &mut work).is_ok());
+    assert_refused(&image, Refusal::TooDeep, |image| mfs::create_dir(image, K, CODE, b"/", &path, 1, &mut work));
+    assert!(mfs::create_file(&mut image, K, CODE, b"/", &path, 1, &mut work).is_ok());
     // The depth is told before the name is looked for.
-    assert_refused(&image, Refusal::TooDeep, |image| mfs::create_dir(image, K, b"/", &path, 1, &mut work));
+    assert_refused(&image, Refusal::TooDeep, |image| mfs::create_dir(image, K, CODE, b"/", &path, 1, &mut work));
 }
 
 #[test]
 fn refusal_16_a_short_work_buffer() {
     let image = listed();
     let needed = (128 - LISTED_AREA).div_ceil(8);
-    assert_eq!(mfs::check(&image, K, &mut vec![0; needed]), Ok(()));
+    assert_eq!(mfs::check(&image, K, CODE, &mut vec![0; needed]), Ok(()));
     for len in [0, needed - 1] {
         assert_eq!(assert_checking_refused(&image, len, Refusal::ShortWork), vec![0xA5; len]);
     }
@@ -362,21 +362,21 @@ fn refusal_17_a_volume_that_is_not_well_formed() {
 fn refusal_17_damage_on_the_way() {
     let mut overused = listed();
     put(&mut overused, K as usize * BLOCK_SIZE + 14, &129u32.to_be_bytes());
-    assert_refused(&overused, Refusal::Damaged, |image| mfs::usage(image, K));
+    assert_refused(&overused, Refusal::Damaged, |image| mfs::usage(image, K, CODE));
 
     // The root in a circle: what is there is found, what is not there is not searched for ever.
     let mut circle = listed();
     put(&mut circle, LISTED_AREA * BLOCK_SIZE, &(LISTED_AREA as u32).to_be_bytes());
-    assert!(mfs::open(&circle, K, b"/", b"m1").is_ok());
+    assert!(mfs::open(&circle, K, CODE, b"/", b"m1").is_ok());
     assert_open_refused(&circle, b"/", b"none", Refusal::Damaged);
     assert_info_refused(&circle, b"/", b"none", Refusal::Damaged);
     assert_info_refused(&circle, b"/", b"/", Refusal::Damaged);
     let mut buf = vec![7; 1 << 16];
-    assert_refused(&circle, Refusal::Damaged, |image| mfs::list(image, K, b"/", b"/", 0, &mut buf));
+    assert_refused(&circle, Refusal::Damaged, |image| mfs::list(image, K, CODE, b"/", b"/", 0, &mut buf));
     assert!(buf.iter().all(|&byte| byte == 7));
 
     let mut cut = listed();
     put(&mut cut, M1_SIZE_AT, &509u32.to_be_bytes());
-    let m1 = mfs::open(&cut, K, b"/", b"m1").unwrap();
+    let m1 = mfs::open(&cut, K, CODE, b"/", b"m1").unwrap();
     assert_read_refused(&cut, &m1, Refusal::Damaged);
 }

@@ -7,7 +7,7 @@ use mfs::{Info, Kind, Refusal, Volume, VolumeRef, Walked, BLOCK_SIZE, DEPTH};
 /// `/d/f` holds `abc`, `/d/e` is an empty directory, `/g` a file of no bytes.
 fn some_tree() -> Vec<u8> {
     let mut image = with_file();
-    let mut volume = Volume::new(&mut image, K);
+    let mut volume = Volume::new(&mut image, K, CODE);
     volume.create_dir("/d/e", 4).unwrap();
     volume.create_file("/g", 5).unwrap();
     image
@@ -16,22 +16,22 @@ fn some_tree() -> Vec<u8> {
 #[test]
 fn a_view_answers_what_the_functions_do() {
     let image = some_tree();
-    let volume = VolumeRef::new(&image, K);
+    let volume = VolumeRef::new(&image, K, CODE);
     let moved = volume.with_cwd("/d");
     assert_eq!((volume.cwd(), moved.cwd(), moved.k()), ("/", "/d", K));
     assert!(core::ptr::eq(moved.image(), &image[..]));
     assert_eq!(volume.check(), Ok(()));
-    assert_eq!(volume.usage(), mfs::usage(&image, K));
-    assert_eq!(volume.room(5), mfs::room(&image, K, 5));
-    assert_eq!(moved.open("f"), mfs::open(&image, K, b"/", b"/d/f"));
-    assert_eq!(moved.info(b"f"), mfs::info(&image, K, b"/", b"/d/f"));
+    assert_eq!(volume.usage(), mfs::usage(&image, K, CODE));
+    assert_eq!(volume.room(5), mfs::room(&image, K, CODE, 5));
+    assert_eq!(moved.open("f"), mfs::open(&image, K, CODE, b"/", b"/d/f"));
+    assert_eq!(moved.info(b"f"), mfs::info(&image, K, CODE, b"/", b"/d/f"));
     let mut buf = [7; 5];
     assert_eq!(moved.read(&mut moved.open("f").unwrap(), &mut buf), Ok(3));
     assert_eq!(&buf, b"abc\x07\x07");
     assert_eq!(format!("{moved:?}"), r#"VolumeRef { k: 8, cwd: "/d", .. }"#);
 
     let mut same = image.clone();
-    let mut by_volume = Volume::new(&mut same, K);
+    let mut by_volume = Volume::new(&mut same, K, CODE);
     by_volume.set_cwd("/d");
     assert_eq!(by_volume.k(), K);
     assert_eq!(by_volume.view().cwd(), "/d");
@@ -44,32 +44,32 @@ fn a_view_answers_what_the_functions_do() {
 #[test]
 fn a_view_is_refused_as_the_functions_are() {
     let image = some_tree();
-    let volume = VolumeRef::new(&image, K);
+    let volume = VolumeRef::new(&image, K, CODE);
     assert_eq!(volume.open("/none"), Err(Refusal::NotFound));
     assert_eq!(volume.list("/g"), Err(Refusal::WrongKind));
     assert_eq!(volume.entries("/none").err(), Some(Refusal::NotFound));
     assert_eq!(volume.walk("/d/f").err(), Some(Refusal::WrongKind));
-    assert_eq!(VolumeRef::new(&image[..512], K).usage(), Err(Refusal::BadImage));
-    assert_eq!(VolumeRef::new(&image, K + 1).check(), Err(Refusal::NotMfs));
+    assert_eq!(VolumeRef::new(&image[..512], K, CODE).usage(), Err(Refusal::BadImage));
+    assert_eq!(VolumeRef::new(&image, K + 1, CODE).check(), Err(Refusal::NotMfs));
 }
 
 #[test]
 fn what_is_not_there_does_not_exist() {
     let image = some_tree();
-    let volume = VolumeRef::new(&image, K);
+    let volume = VolumeRef::new(&image, K, CODE);
     for (path, there) in
         [("/", true), ("/d", true), ("/d/f", true), ("/d/", true), ("/none", false), ("/d/f/x", false), ("/d//f", false)]
     {
         assert_eq!(volume.exists(path), Ok(there), "{path}");
     }
     assert_eq!(volume.exists("/\x7f"), Err(Refusal::BadPath));
-    assert_eq!(VolumeRef::new(&image, K + 1).exists("/d"), Err(Refusal::NotMfs));
+    assert_eq!(VolumeRef::new(&image, K + 1, CODE).exists("/d"), Err(Refusal::NotMfs));
 }
 
 #[test]
 fn entries_come_one_by_one() {
     let image = some_tree();
-    let mut entries = VolumeRef::new(&image, K).entries("/d").unwrap();
+    let mut entries = VolumeRef::new(&image, K, CODE).entries("/d").unwrap();
     let info = |kind, size, time, name: &[u8]| Info { kind, size, time, name: name.to_vec() };
     assert_eq!(entries.next(), Some(Ok(info(Kind::File, 3, 3, b"f"))));
     assert_eq!(entries.next(), Some(Ok(info(Kind::Dir, 0, 4, b"e"))));
@@ -81,7 +81,7 @@ fn entries_come_one_by_one() {
 #[test]
 fn damage_behind_the_first_page_is_an_item() {
     let mut image = formatted(ROOMY);
-    let mut volume = Volume::new(&mut image, K);
+    let mut volume = Volume::new(&mut image, K, CODE);
     for number in 0..1000 {
         volume.create_file(format!("{number:0>200}"), 0).unwrap();
     }
@@ -94,7 +94,7 @@ fn damage_behind_the_first_page_is_an_item() {
         block = u32::from_be_bytes(next.try_into().unwrap()) as usize;
     }
     put(&mut image, block * BLOCK_SIZE, &1u32.to_be_bytes());
-    let cut = VolumeRef::new(&image, K);
+    let cut = VolumeRef::new(&image, K, CODE);
     assert_eq!(cut.list("/"), Err(Refusal::Damaged));
     let mut items: Vec<_> = cut.entries("/").unwrap().collect();
     assert_eq!(items.pop(), Some(Err(Refusal::Damaged)));
@@ -109,7 +109,7 @@ fn paths(walk: mfs::Walk<'_>) -> Result<Vec<(String, usize)>, Refusal> {
 #[test]
 fn a_walk_comes_to_all_that_is_below() {
     let mut image = some_tree();
-    let mut volume = Volume::new(&mut image, K);
+    let mut volume = Volume::new(&mut image, K, CODE);
     volume.create_file("/d/e/deep", 6).unwrap();
     let pairs = |list: &[(&str, usize)]| Ok(list.iter().map(|&(path, depth)| (path.to_owned(), depth)).collect());
     assert_eq!(paths(volume.walk("/").unwrap()), pairs(&[("/d", 0), ("/d/f", 1), ("/d/e", 1), ("/d/e/deep", 2), ("/g", 0)]));
@@ -124,7 +124,7 @@ fn a_walk_comes_to_all_that_is_below() {
 #[test]
 fn a_walk_goes_as_deep_as_directories_do() {
     let mut image = formatted(ROOMY);
-    let mut volume = Volume::new(&mut image, K);
+    let mut volume = Volume::new(&mut image, K, CODE);
     let mut path = String::new();
     for _ in 0..DEPTH {
         path.push_str("/a");
@@ -147,7 +147,7 @@ fn a_walk_over_shared_directories_ends() {
             put(&mut image, block * BLOCK_SIZE + 4 + 20 * number, &entry(0, block as u32 + 1, 0, 0, name.as_bytes()));
         }
     }
-    let items: Vec<_> = VolumeRef::new(&image, K).walk("/").unwrap().collect();
+    let items: Vec<_> = VolumeRef::new(&image, K, CODE).walk("/").unwrap().collect();
     assert_eq!(items.last(), Some(&Err(Refusal::Damaged)));
     assert!((100..20 * 130).contains(&items.len()), "{} items", items.len());
 }
@@ -163,7 +163,7 @@ fn a_walk_in_a_circle_ends() {
         put(&mut many, root + 20 * number, &entry(0, LISTED_AREA as u32, 0, 0, format!("{number:0>2}").as_bytes()));
     }
     for (image, at_most) in [(once, 2 * (DEPTH + 1)), (many, 20 * 128)] {
-        let mut walk = VolumeRef::new(&image, K).walk("/").unwrap();
+        let mut walk = VolumeRef::new(&image, K, CODE).walk("/").unwrap();
         let items: Vec<_> = walk.by_ref().collect();
         assert_eq!(items.last(), Some(&Err(Refusal::Damaged)));
         assert!(items.len() <= at_most + 1, "{} items", items.len());
@@ -174,7 +174,7 @@ fn a_walk_in_a_circle_ends() {
 #[test]
 fn a_file_is_read_whole() {
     let mut image = formatted(ROOMY);
-    let mut volume = Volume::new(&mut image, K);
+    let mut volume = Volume::new(&mut image, K, CODE);
     for len in [0, 1, 508, 509, 100_000] {
         let bytes: Vec<u8> = (0..len).map(|at| (at % 251) as u8).collect();
         volume.write_file(format!("/{len}"), &bytes, 1).unwrap();
@@ -191,14 +191,14 @@ fn a_damaged_size_is_not_allocated() {
     for size in [600, 128 * 512, 128 * 512 + 1, mfs::FILE_LEN] {
         let mut image = listed();
         put(&mut image, M1_SIZE_AT, &size.to_be_bytes());
-        assert_eq!(VolumeRef::new(&image, K).read_file("/m1"), Err(Refusal::Damaged), "{size}");
+        assert_eq!(VolumeRef::new(&image, K, CODE).read_file("/m1"), Err(Refusal::Damaged), "{size}");
     }
 }
 
 #[test]
 fn a_whole_file_is_written_over_what_is_there() {
     let mut image = with_file();
-    let mut volume = Volume::new(&mut image, K);
+    let mut volume = Volume::new(&mut image, K, CODE);
     for bytes in [&b"longer than before"[..], b"x", &[7; 2000], b"end"] {
         assert_eq!(volume.write_file("/d/f", bytes, 9), Ok(()));
         assert_eq!(volume.read_file("/d/f").as_deref(), Ok(bytes));
@@ -220,7 +220,7 @@ fn a_whole_file_is_written_over_what_is_there() {
 fn a_whole_file_that_does_not_fit_leaves_none() {
     let mut image = with_file();
     let all = (4096 - 3) * 508; // the root and /d have one block each, and so has /d/f
-    let mut volume = Volume::new(&mut image, K);
+    let mut volume = Volume::new(&mut image, K, CODE);
     let used = volume.usage();
     assert_eq!(volume.write_file("/d/g", &vec![1; all + 1], 9), Err(Refusal::NoRoom));
     assert_eq!(volume.exists("/d/g"), Ok(false));

@@ -17,7 +17,7 @@ pub const LISTED_AREA: usize = 11;
 /// A volume with an empty root.
 pub fn formatted(blocks: usize) -> Vec<u8> {
     let mut image = vec![0; blocks * BLOCK_SIZE];
-    mfs::format(&mut image, K).expect("the block count has a layout");
+    mfs::format(&mut image, K, CODE).expect("the block count has a layout");
     image
 }
 
@@ -62,9 +62,9 @@ pub fn put(image: &mut [u8], at: usize, bytes: &[u8]) {
 pub fn with_file() -> Vec<u8> {
     let mut image = formatted(ROOMY);
     let mut work = work_for(&image);
-    mfs::create_dir(&mut image, K, b"/", b"/d", 1, &mut work).unwrap();
-    let mut file = mfs::create_file(&mut image, K, b"/", b"/d/f", 2, &mut work).unwrap();
-    mfs::write(&mut image, K, &mut file, b"abc", 3, &mut work).unwrap();
+    mfs::create_dir(&mut image, K, CODE, b"/", b"/d", 1, &mut work).unwrap();
+    let mut file = mfs::create_file(&mut image, K, CODE, b"/", b"/d/f", 2, &mut work).unwrap();
+    mfs::write(&mut image, K, CODE, &mut file, b"abc", 3, &mut work).unwrap();
     image
 }
 

@@ -11,23 +11,23 @@ use Rattle.bits.specs.declared.Found.{Found}
 use Rattle.bits.specs.declared.Found.the-variants.{At, Nothing}
 use Rattle.block.specs.Block.{zeroed}
 use Rattle.block.proofs.Blocks.{zeroed-kept}
-use Rattle.model.specs.Geometry.{Geo, blockSize, mapAt, dataAt, reach, usedCount}
+use Rattle.model.specs.Geometry.{Geo, blockSize, mapAt, dataAt, reach, bitEnd, usedCount}
 use Rattle.model.specs.Calls.{clearFrom}
 use Rattle.model.proofs.Free.{LowestClear, lowest-clear, clear-lowest}
 use Rattle.super_block.specs.declared.SuperBlock.{SuperBlock}
 use Rattle.super_block.specs.Super.{geoOf, Fit, counted}
 use Rattle.super_block.proofs.Fits.{placed, from-is, fit-long, fit-inside}
 use Rattle.bitmap_block.specs.Bitmap.{mark, marked, clears, more, fewer}
-use Rattle.bitmap_block.proofs.Stores.{used-marked, length-half, used-half, length-marked, clears-first, first-in}
+use Rattle.bitmap_block.proofs.Stores.{length-half, used-half, clears-first, first-in}
 
 -- the reach is small
 pub reach-few : {s : SuperBlock} {I : List ℕ} → Fit s I → s .reach ≤ 16777216
 reach-few f = let p = placed f in omega arith
 
 module _ {s : SuperBlock} {I : List ℕ} {at : ℕ} (f : Fit s I) (e : at ≡ s .size * s .bitmap .0) where
-  -- the byte of an index in the data
-  pub bit-place : (x : ℕ) → s .area .0 + x < s .blocks → at + x / 8 < length I
-  bit-place x h = let p = placed f in omega arith
+  -- the byte of an index that has a bit
+  pub bit-place : (x : ℕ) → s .area .0 + x < bitEnd (geoOf s) → at + x / 8 < length I
+  bit-place x h = let p = placed f in omega (arith, f .area, f .bits)
 
   -- all bytes of the reach
   pub reach-place : at + (s .reach + 7) / 8 ≤ length I
@@ -85,36 +85,43 @@ module _ {s : SuperBlock} {I : List ℕ} {at : ℕ} (f : Fit s I) (e : at ≡ s 
 
 -- ---- between the stores
 
-module _ {s : SuperBlock} {I : List ℕ} (x : ℕ) (f : Fit s I) (h : s .area .0 + x < s .blocks) where
-  in-data : dataAt (geoOf s) + x < s .blocks
+module _ {s : SuperBlock} {I : List ℕ} (x : ℕ) (f : Fit s I) (h : s .area .0 + x < bitEnd (geoOf s)) where
+  in-data : dataAt (geoOf s) + x < bitEnd (geoOf s)
   in-data = omega (arith, f .area)
 
-  -- the block is zeroed and its bit set
-  half-is : {a : ℕ} {J L : List ℕ} → a ≡ s .area .0 + x → J ≡ zeroed (s .size) I a 1 → L ≡ marked (geoOf s) J x 1 → L ≡ marked (geoOf s) (zeroed (blockSize (geoOf s)) I (dataAt (geoOf s) + x) 1) x 1
-  half-is p q r = r ∙ ap (λ (z : List ℕ). marked (geoOf s) z x 1) (q ∙ ap (λ (z : ℕ). zeroed (s .size) I z 1) (p ∙ ap (λ (z : ℕ). z + x) (f .area)) ∙ ap (λ (z : ℕ). zeroed z I (dataAt (geoOf s) + x) 1) (f .size))
+  -- the block is zeroed and its bit stored
+  half-is : (v : ℕ) {a : ℕ} {J L : List ℕ} → a ≡ s .area .0 + x → J ≡ zeroed (s .size) I a 1 → L ≡ marked (geoOf s) J x v → L ≡ marked (geoOf s) (zeroed (blockSize (geoOf s)) I (dataAt (geoOf s) + x) 1) x v
+  half-is v p q r = r ∙ ap (λ (z : List ℕ). marked (geoOf s) z x v) (q ∙ ap (λ (z : ℕ). zeroed (s .size) I z 1) (p ∙ ap (λ (z : ℕ). z + x) (f .area)) ∙ ap (λ (z : ℕ). zeroed z I (dataAt (geoOf s) + x) 1) (f .size))
 
-  pub half-fit : {a : ℕ} {J L : List ℕ} → a ≡ s .area .0 + x → J ≡ zeroed (s .size) I a 1 → L ≡ marked (geoOf s) J x 1 → Fit s L
-  half-fit p q r = fit-long (ap length (half-is p q r) ∙ length-half (geoOf s) I (f .sound) x in-data) f
+  half-fit : (v : ℕ) {a : ℕ} {J L : List ℕ} → a ≡ s .area .0 + x → J ≡ zeroed (s .size) I a 1 → L ≡ marked (geoOf s) J x v → Fit s L
+  half-fit v p q r = fit-long (ap length (half-is v p q r) ∙ length-half (geoOf s) I (f .sound) x in-data v) f
 
-  pub half-used : {a : ℕ} {J L : List ℕ} → a ≡ s .area .0 + x → J ≡ zeroed (s .size) I a 1 → L ≡ marked (geoOf s) J x 1 → usedCount (geoOf s) I < s .blocks → usedCount (geoOf s) L < s .blocks
-  half-used p q r u = omega (arith, ap (usedCount (geoOf s)) (half-is p q r), used-half (geoOf s) I (f .sound) x in-data)
+  half-used : (v : ℕ) {a : ℕ} {J L : List ℕ} → a ≡ s .area .0 + x → J ≡ zeroed (s .size) I a 1 → L ≡ marked (geoOf s) J x v → usedCount (geoOf s) L ≡ usedCount (geoOf s) I
+  half-used v p q r = ap (usedCount (geoOf s)) (half-is v p q r) ∙ used-half (geoOf s) I (f .sound) x in-data v
+
+  -- set,
+  pub set-fit : {a : ℕ} {J L : List ℕ} → a ≡ s .area .0 + x → J ≡ zeroed (s .size) I a 1 → L ≡ marked (geoOf s) J x 1 → Fit s L
+  set-fit p q r = half-fit 1 p q r
+
+  pub set-used : {a : ℕ} {J L : List ℕ} → a ≡ s .area .0 + x → J ≡ zeroed (s .size) I a 1 → L ≡ marked (geoOf s) J x 1 → usedCount (geoOf s) I < s .blocks → usedCount (geoOf s) L < s .blocks
+  set-used p q r u = omega (arith, half-used 1 p q r)
+
+  -- or clear
+  pub clear-fit : {a : ℕ} {J L : List ℕ} → a ≡ s .area .0 + x → J ≡ zeroed (s .size) I a 1 → L ≡ marked (geoOf s) J x 0 → Fit s L
+  clear-fit p q r = half-fit 0 p q r
+
+  pub clear-used : {a : ℕ} {J L : List ℕ} → a ≡ s .area .0 + x → J ≡ zeroed (s .size) I a 1 → L ≡ marked (geoOf s) J x 0 → 0 < usedCount (geoOf s) I → 0 < usedCount (geoOf s) L
+  clear-used p q r u = omega (arith, half-used 0 p q r)
 
   -- before that, only zeroed
   pub zero-inside : {a : ℕ} → a ≡ s .area .0 + x → s .size * a + s .size * 1 ≤ length I
-  zero-inside p = omega (arith, fit-inside s I I _ (s .area .0 + x) f refl p h)
+  zero-inside p = omega (arith, fit-inside s I I _ (s .area .0 + x) f refl p (omega arith))
 
   pub zero-fit : {a : ℕ} {J : List ℕ} → a ≡ s .area .0 + x → J ≡ zeroed (s .size) I a 1 → Fit s J
   zero-fit p q = fit-long (ap length q ∙ zeroed-kept (s .size) I _ 1 (zero-inside p) .size) f
 
-  -- its bit is clear
-  pub clear-fit : {L : List ℕ} → L ≡ marked (geoOf s) I x 0 → Fit s L
-  clear-fit r = fit-long (ap length r ∙ length-marked (geoOf s) I (f .sound) x in-data 0) f
-
-  pub clear-used : {L : List ℕ} → L ≡ marked (geoOf s) I x 0 → 0 < usedCount (geoOf s) I → 0 < usedCount (geoOf s) L
-  clear-used r u = omega (arith, ap (usedCount (geoOf s)) r, used-marked (geoOf s) I (f .sound) x in-data 0)
-
--- what was found is in the data
-pub found-in : {s : SuperBlock} {I : List ℕ} (x : ℕ) → Fit s I → 1 ≤ length (clears (geoOf s) I) → dataAt (geoOf s) + x ≡ getD (clears (geoOf s) I) 0 0 → s .area .0 + x < s .blocks
+-- what was found is in the data, and has a bit
+pub found-in : {s : SuperBlock} {I : List ℕ} (x : ℕ) → Fit s I → 1 ≤ length (clears (geoOf s) I) → dataAt (geoOf s) + x ≡ getD (clears (geoOf s) I) 0 0 → s .area .0 + x < bitEnd (geoOf s)
 found-in {s} {I} x f h e =
     omega (arith, f .area, first-in (geoOf s) I (f .sound) x (drop 1 (clears (geoOf s) I)) (clears-first (geoOf s) I x h e))
 

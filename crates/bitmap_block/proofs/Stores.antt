@@ -1,5 +1,5 @@
 -- What the readers of bitmap and used count see after each store, over all numbers that are sound for the image.
--- Index x is in the data where dataAt g + x < g .n. Callers cite these and unfold none of the definitions.
+-- Index x has a block in the data and a bit where dataAt g + x < bitEnd g. Callers cite these and unfold none of the definitions.
 use mathlib.Core.Path.{_≡_, refl, sym, ap, _∙_, subst}
 use mathlib.Core.Logic.{_⊎_, inl, inr, _≢_}
 use mathlib.Core.List.{List, [], _∷_, _++_}
@@ -16,7 +16,7 @@ use Rattle.block.specs.Block.{cell, zeroed, Off, Kept}
 use Rattle.block.proofs.Blocks.{block-below, kept-trans, kept-less, be-kept, splice-kept, zeroed-kept, cell-zeroed}
 use Rattle.model.specs.Tree.{Tree}
 use Rattle.model.specs.Render.{blocks, count, padded, Shows}
-use Rattle.model.specs.Geometry.{Geo, blockSize, mapSize, mapAt, dataAt, reach, mapBits, signature, superBytes, usedCount, Sound}
+use Rattle.model.specs.Geometry.{Geo, blockSize, mapSize, mapAt, dataAt, reach, mapBits, bitEnd, signature, superBytes, usedCount, Sound}
 use Rattle.model.specs.Volume.{Volume}
 use Rattle.model.specs.Calls.{freeBlocks}
 use Rattle.model.proofs.Areas.{area, few, size-large, block-inside}
@@ -70,12 +70,15 @@ module _ (g : Geo) (len : ℕ) (s : Sound g len) where
   super-in : blockSize g * g .K + blockSize g ≤ len
   super-in = block-inside g len s (g .K) (omega (arith, s .room))
 
-  data-in : (x : ℕ) → dataAt g + x < g .n → blockSize g * (dataAt g + x) + blockSize g ≤ len
-  data-in x h = block-inside g len s (dataAt g + x) h
+  data-in : (x : ℕ) → dataAt g + x < bitEnd g → blockSize g * (dataAt g + x) + blockSize g ≤ len
+  data-in x h = block-inside g len s (dataAt g + x) (omega arith)
 
-  -- an index in the data has a bit in the bitmap
-  pub index-in : (x : ℕ) → dataAt g + x < g .n → x < mapBits g
-  index-in x h = omega (arith, area g len s .enough)
+  -- an index in the data with a bit has it in the bitmap, and one in reach is such an index
+  pub index-in : (x : ℕ) → dataAt g + x < bitEnd g → x < mapBits g
+  index-in x h = omega arith
+
+  pub reach-in : (x : ℕ) → x < reach g → dataAt g + x < bitEnd g
+  reach-in x h = omega (arith, area g len s .reached, area g len s .has-bits)
 
   -- whose byte is below the data, and in the image
   bit-below : (x : ℕ) → x < mapBits g → blockSize g * mapAt g + x / 8 < blockSize g * dataAt g
@@ -108,12 +111,12 @@ module _ (g : Geo) (I : List ℕ) (s : Sound g (length I)) (P : ℕ → ℕ → 
   clears-kept f =
       clear-ext (λ b. mark g J (b - dataAt g)) (λ b. mark g I (b - dataAt g)) (dataAt g) (reach g) (λ b p q.
       let e : mark g J (b - dataAt g) ≡ mark g I (b - dataAt g)
-      = mark-kept f (b - dataAt g) (index-in g (length I) s (b - dataAt g) (omega (arith, area g (length I) s .reached))) in
+      = mark-kept f (b - dataAt g) (index-in g (length I) s (b - dataAt g) (reach-in g (length I) s (b - dataAt g) (omega arith))) in
       (λ z. sym e ∙ z, λ z. e ∙ z))
 
 -- ---- a bit put in
 
-module _ (g : Geo) (I : List ℕ) (s : Sound g (length I)) (x : ℕ) (h : dataAt g + x < g .n) (v : ℕ) where
+module _ (g : Geo) (I : List ℕ) (s : Sound g (length I)) (x : ℕ) (h : dataAt g + x < bitEnd g) (v : ℕ) where
   -- its byte is in the image
   byte : blockSize g * mapAt g + x / 8 < length I
   byte = bit-in g (length I) s x (index-in g (length I) s x h)
@@ -216,7 +219,7 @@ off-map g b f = go (decLt b (mapAt g)) (decLt b (dataAt g))
 
 -- ---- a block taken
 
-module _ (g : Geo) (I : List ℕ) (s : Sound g (length I)) (x : ℕ) (h : dataAt g + x < g .n) where
+module _ (g : Geo) (I : List ℕ) (s : Sound g (length I)) (x : ℕ) (h : dataAt g + x < bitEnd g) where
   -- the block zeroed, and its bit set besides
   zero-of : List ℕ
   zero-of = zeroed (blockSize g) I (dataAt g + x) 1
@@ -313,8 +316,8 @@ module _ (g : Geo) (I : List ℕ) (s : Sound g (length I)) (x : ℕ) (others : L
   index-of : (y : ℕ) → dataAt g + y - dataAt g ≡ y
   index-of y = omega arith
 
-  pub first-in : dataAt g + x < g .n
-  first-in = omega (arith, lowest-is .below, area g (length I) s .reached)
+  pub first-in : dataAt g + x < bitEnd g
+  first-in = reach-in g (length I) s x (omega (arith, lowest-is .below))
 
   -- and clear, and all below it are set
   pub first-clear : mark g I x ≡ 0
@@ -337,7 +340,7 @@ module _ (g : Geo) (I : List ℕ) (s : Sound g (length I)) (x : ℕ) (others : L
       (λ z. let m : mark g (taken g I x) x ≡ 0 = ap (mark g (taken g I x)) (sym (index-of x)) ∙ z in omega (arith, mark-taken g I s x first-in))
       (λ c p q d.
       let f : mark g (taken g I x) (c - dataAt g) ≡ mark g I (c - dataAt g)
-      = mark-taken-other g I s x first-in (c - dataAt g) (index-in g (length I) s (c - dataAt g) (omega (arith, area g (length I) s .reached))) (omega arith) in
+      = mark-taken-other g I s x first-in (c - dataAt g) (index-in g (length I) s (c - dataAt g) (reach-in g (length I) s (c - dataAt g) (omega arith))) (omega arith) in
       (λ z. sym f ∙ z, λ z. f ∙ z))
 
   -- all up to it are set, so the next search may begin above it
@@ -387,18 +390,21 @@ module _ (g : Geo) (I : List ℕ) (h : 1 ≤ length (clears g I)) where
 
   -- and clear
   module _ (s : Sound g (length I)) where
-    pub fresh-data : dataAt g + (fresh g I - dataAt g) < g .n
+    pub fresh-data : dataAt g + (fresh g I - dataAt g) < bitEnd g
     fresh-data = first-in g I s (fresh g I - dataAt g) (drop 1 (clears g I)) fresh-first
 
+    pub fresh-end : fresh g I < bitEnd g
+    fresh-end = omega (arith, fresh-data, fresh-index)
+
     pub fresh-high : fresh g I < g .n
-    fresh-high = omega (arith, fresh-data, fresh-index)
+    fresh-high = omega (arith, fresh-end)
 
     pub fresh-clear : mark g I (fresh g I - dataAt g) ≡ 0
     fresh-clear = first-clear g I s (fresh g I - dataAt g) (drop 1 (clears g I)) fresh-first
 
 -- ---- a block given back
 
-module _ (g : Geo) (I : List ℕ) (s : Sound g (length I)) (x : ℕ) (h : dataAt g + x < g .n) where
+module _ (g : Geo) (I : List ℕ) (s : Sound g (length I)) (x : ℕ) (h : dataAt g + x < bitEnd g) where
   clear-of : List ℕ
   clear-of = marked g I x 0
 

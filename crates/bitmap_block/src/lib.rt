@@ -6,14 +6,14 @@ ghost use mathlib.Core.Path.{_≡_};
 ghost use Prim.Native.Nat.{_+_, _*_, _≤_, _<_};
 ghost use lib.ListN.{length, getD};
 ghost use Rattle.bits.specs.Bit.{AllSet};
-ghost use Rattle.model.specs.Geometry.{blockSize, mapAt, dataAt, usedCount};
+ghost use Rattle.model.specs.Geometry.{blockSize, mapAt, dataAt, bitEnd, usedCount};
 ghost use Rattle.super_block.specs.Super.{geoOf, Fit};
 ghost use Rattle.bitmap_block.specs.Bitmap.{marked, clears, more, fewer, taken, freed, Room};
 
 // Sets the bit of index x.
 fn set_mark(img: &mut [u8], s: SuperBlock, x: Index)
     requires { ⌜ Fit s (now img) ⌝ }
-    requires { ⌜ s .area .0 + x .0 < s .blocks ⌝ }
+    requires { ⌜ s .area .0 + x .0 < bitEnd (geoOf s) ⌝ }
     ensures { λ _. ⌜ now (img .exit) ≡ marked (geoOf s) (now (img .entry)) (x .0) 1 ⌝ }
 {
     let a = s.bitmap;
@@ -24,7 +24,7 @@ fn set_mark(img: &mut [u8], s: SuperBlock, x: Index)
 // Clears it.
 fn clear_mark(img: &mut [u8], s: SuperBlock, x: Index)
     requires { ⌜ Fit s (now img) ⌝ }
-    requires { ⌜ s .area .0 + x .0 < s .blocks ⌝ }
+    requires { ⌜ s .area .0 + x .0 < bitEnd (geoOf s) ⌝ }
     ensures { λ _. ⌜ now (img .exit) ≡ marked (geoOf s) (now (img .entry)) (x .0) 0 ⌝ }
 {
     let a = s.bitmap;
@@ -55,7 +55,7 @@ fn dec_alloc_count(img: &mut [u8], s: SuperBlock)
 // Takes the block of index x: zeroed, its bit set, one more used.
 pub fn take(img: &mut [u8], s: SuperBlock, x: Index)
     requires { ⌜ Fit s (now img) ⌝ }
-    requires { ⌜ s .area .0 + x .0 < s .blocks ⌝ }
+    requires { ⌜ s .area .0 + x .0 < bitEnd (geoOf s) ⌝ }
     requires { ⌜ usedCount (geoOf s) (now img) < s .blocks ⌝ }
     ensures { λ _. ⌜ now (img .exit) ≡ taken (geoOf s) (now (img .entry)) (x .0) ⌝ }
 {
@@ -69,7 +69,7 @@ pub fn take(img: &mut [u8], s: SuperBlock, x: Index)
 // Gives the block of index x back.
 pub fn free(img: &mut [u8], s: SuperBlock, x: Index)
     requires { ⌜ Fit s (now img) ⌝ }
-    requires { ⌜ s .area .0 + x .0 < s .blocks ⌝ }
+    requires { ⌜ s .area .0 + x .0 < bitEnd (geoOf s) ⌝ }
     requires { ⌜ 0 < usedCount (geoOf s) (now img) ⌝ }
     ensures { λ _. ⌜ now (img .exit) ≡ freed (geoOf s) (now (img .entry)) (x .0) ⌝ }
 {

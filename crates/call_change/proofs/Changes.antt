@@ -8,7 +8,7 @@ use lib.ListN.{length, take}
 use Rattle.model.specs.Answers.{Reply, accepted, refused, andThen, when, settle, given}
 use Rattle.limits.specs.Refusals.{refusalNumber}
 use Rattle.limits.specs.declared.Refusal.{Refusal}
-use Rattle.model.specs.Geometry.{Mount, Geo, mounted, geoAt, countAt}
+use Rattle.model.specs.Geometry.{Mount, Geo, mounted, geoAt, versionAt, countAt}
 use Rattle.model.specs.Volume.{WellFormed}
 use Rattle.model.specs.Steps.{Bytes}
 use Rattle.model.proofs.Opens.{when-true, when-false, first-of-head, first-of-tail, first-of-one, or-false}
@@ -115,6 +115,7 @@ module _ (M : Mount) (I W Z : List ℕ) (r : Opened) (h : Checked M I W r Z) whe
       record {
         fit = opened-fit M I s (c .1) (q .1);
         well = subst (λ (x : Mount). WellFormed x I) m (c .2);
+        version = ap (λ (x : SuperBlock). x .version) (q .1) ∙ ap (λ (x : Mount). versionAt x I) m;
         count = ap (λ (x : SuperBlock). x .blocks) (q .1) ∙ ap (λ (x : Mount). countAt x I) m;
       }
 

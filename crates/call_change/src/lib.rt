@@ -64,15 +64,16 @@ fn create_file_path(img: &mut [u8], s: SuperBlock, cwd: &[u8], path: &[u8], time
 pub fn create_file(
     img: &mut [u8],
     k: u32,
+    code: u32,
     cwd: &[u8],
     path: &[u8],
     time: u64,
     work: &mut [u8],
 ) -> OpenOut
-    ensures { λ o. ⌜ CreatesFile (mount k) (now (img .entry)) (now (work .entry)) (now (cwd .entry)) (now (path .entry)) time o
+    ensures { λ o. ⌜ CreatesFile (mount k code) (now (img .entry)) (now (work .entry)) (now (cwd .entry)) (now (path .entry)) time o
         (now (img .exit)) (now (work .exit)) ⌝ }
 {
-    let checked = call_volume::open_checked(img, k, work);
+    let checked = call_volume::open_checked(img, k, code, work);
     match checked {
         Opened::Refused(r) => call_read::refused_open(r),
         Opened::At(s) => create_file_path(img, s, cwd, path, time),
@@ -104,15 +105,16 @@ fn create_dir_path(img: &mut [u8], s: SuperBlock, cwd: &[u8], path: &[u8], time:
 pub fn create_dir(
     img: &mut [u8],
     k: u32,
+    code: u32,
     cwd: &[u8],
     path: &[u8],
     time: u64,
     work: &mut [u8],
 ) -> Answer
-    ensures { λ r. ⌜ CreatesDir (mount k) (now (img .entry)) (now (work .entry)) (now (cwd .entry)) (now (path .entry)) time r
+    ensures { λ r. ⌜ CreatesDir (mount k code) (now (img .entry)) (now (work .entry)) (now (cwd .entry)) (now (path .entry)) time r
         (now (img .exit)) (now (work .exit)) ⌝ }
 {
-    let checked = call_volume::open_checked(img, k, work);
+    let checked = call_volume::open_checked(img, k, code, work);
     match checked {
         Opened::Refused(r) => Answer::Refused(r),
         Opened::At(s) => create_dir_path(img, s, cwd, path, time),
@@ -140,11 +142,19 @@ fn delete_path(img: &mut [u8], s: SuperBlock, cwd: &[u8], path: &[u8], time: u64
 }
 
 // Deletes the file, the device or the empty directory at a path. Refusals: 1, 2, 3, 16, 17, 4, 5, 6, 14.
-pub fn delete(img: &mut [u8], k: u32, cwd: &[u8], path: &[u8], time: u64, work: &mut [u8]) -> Answer
-    ensures { λ r. ⌜ Deletes (mount k) (now (img .entry)) (now (work .entry)) (now (cwd .entry)) (now (path .entry)) time r
+pub fn delete(
+    img: &mut [u8],
+    k: u32,
+    code: u32,
+    cwd: &[u8],
+    path: &[u8],
+    time: u64,
+    work: &mut [u8],
+) -> Answer
+    ensures { λ r. ⌜ Deletes (mount k code) (now (img .entry)) (now (work .entry)) (now (cwd .entry)) (now (path .entry)) time r
         (now (img .exit)) (now (work .exit)) ⌝ }
 {
-    let checked = call_volume::open_checked(img, k, work);
+    let checked = call_volume::open_checked(img, k, code, work);
     match checked {
         Opened::Refused(r) => Answer::Refused(r),
         Opened::At(s) => delete_path(img, s, cwd, path, time),
@@ -156,15 +166,16 @@ pub fn delete(img: &mut [u8], k: u32, cwd: &[u8], path: &[u8], time: u64, work: 
 pub fn write(
     img: &mut [u8],
     k: u32,
+    code: u32,
     handle: Handle,
     buf: &[u8],
     time: u64,
     work: &mut [u8],
 ) -> CountedOut
-    ensures { λ o. ⌜ Writes (mount k) (now (img .entry)) (now (work .entry)) handle (now (buf .entry)) time o (now (img .exit))
+    ensures { λ o. ⌜ Writes (mount k code) (now (img .entry)) (now (work .entry)) handle (now (buf .entry)) time o (now (img .exit))
         (now (work .exit)) ⌝ }
 {
-    let checked = call_volume::open_checked(img, k, work);
+    let checked = call_volume::open_checked(img, k, code, work);
     match checked {
         Opened::Refused(r) => CountedOut {
             answer: Counted::Refused(r),

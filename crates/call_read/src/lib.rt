@@ -209,10 +209,10 @@ fn open_path(img: &[u8], s: SuperBlock, cwd: &[u8], path: &[u8]) -> OpenOut
 }
 
 // Opens the file at a path. Refusals: 1, 2, 3, 4, 5, 6, 17, 10.
-pub fn open(img: &[u8], k: u32, cwd: &[u8], path: &[u8]) -> OpenOut
-    ensures { λ o. ⌜ Opens (mount k) (now (img .entry)) (now (cwd .entry)) (now (path .entry)) o ⌝ }
+pub fn open(img: &[u8], k: u32, code: u32, cwd: &[u8], path: &[u8]) -> OpenOut
+    ensures { λ o. ⌜ Opens (mount k code) (now (img .entry)) (now (cwd .entry)) (now (path .entry)) o ⌝ }
 {
-    let opened = SuperBlock::read(img, k);
+    let opened = SuperBlock::read(img, k, code);
     match opened {
         Opened::Refused(r) => refused_open(r),
         Opened::At(s) => open_path(img, s, cwd, path),
@@ -254,10 +254,10 @@ fn info_path(img: &[u8], s: SuperBlock, cwd: &[u8], path: &[u8]) -> InfoOut
 }
 
 // Kind, size, time and name of what stands at a path. Refusals: 1, 2, 3, 4, 5, 6, 17.
-pub fn info(img: &[u8], k: u32, cwd: &[u8], path: &[u8]) -> InfoOut
-    ensures { λ o. ⌜ Informs (mount k) (now (img .entry)) (now (cwd .entry)) (now (path .entry)) o ⌝ }
+pub fn info(img: &[u8], k: u32, code: u32, cwd: &[u8], path: &[u8]) -> InfoOut
+    ensures { λ o. ⌜ Informs (mount k code) (now (img .entry)) (now (cwd .entry)) (now (path .entry)) o ⌝ }
 {
-    let opened = SuperBlock::read(img, k);
+    let opened = SuperBlock::read(img, k, code);
     match opened {
         Opened::Refused(r) => refused_info(r),
         Opened::At(s) => info_path(img, s, cwd, path),
@@ -297,11 +297,19 @@ fn list_path(img: &[u8], s: SuperBlock, cwd: &[u8], path: &[u8], i: u32, buf: &m
 }
 
 // Lists the directory at a path from entry number i on, into buf. Refusals: 1, 2, 3, 4, 5, 6, 17.
-pub fn list(img: &[u8], k: u32, cwd: &[u8], path: &[u8], i: u32, buf: &mut [u8]) -> Listing
-    ensures { λ r. ⌜ Lists (mount k) (now (img .entry)) (now (cwd .entry)) (now (path .entry)) i (now (buf .entry)) r
+pub fn list(
+    img: &[u8],
+    k: u32,
+    code: u32,
+    cwd: &[u8],
+    path: &[u8],
+    i: u32,
+    buf: &mut [u8],
+) -> Listing
+    ensures { λ r. ⌜ Lists (mount k code) (now (img .entry)) (now (cwd .entry)) (now (path .entry)) i (now (buf .entry)) r
         (now (buf .exit)) ⌝ }
 {
-    let opened = SuperBlock::read(img, k);
+    let opened = SuperBlock::read(img, k, code);
     match opened {
         Opened::Refused(r) => Listing::Refused(r),
         Opened::At(s) => list_path(img, s, cwd, path, i, buf),
@@ -309,10 +317,10 @@ pub fn list(img: &[u8], k: u32, cwd: &[u8], path: &[u8], i: u32, buf: &mut [u8])
 }
 
 // Reads from the handle's position on into buf. Refusals: 1, 2, 3, 11, 17; a refused read hands back the very handle.
-pub fn read(img: &[u8], k: u32, handle: Handle, buf: &mut [u8]) -> CountedOut
-    ensures { λ o. ⌜ Reads (mount k) (now (img .entry)) handle (now (buf .entry)) (now (buf .exit)) o ⌝ }
+pub fn read(img: &[u8], k: u32, code: u32, handle: Handle, buf: &mut [u8]) -> CountedOut
+    ensures { λ o. ⌜ Reads (mount k code) (now (img .entry)) handle (now (buf .entry)) (now (buf .exit)) o ⌝ }
 {
-    let opened = SuperBlock::read(img, k);
+    let opened = SuperBlock::read(img, k, code);
     match opened {
         Opened::Refused(r) => CountedOut {
             answer: Counted::Refused(r),

@@ -12,10 +12,10 @@ pub enum RoomOut {
 }
 
 // Whether so many blocks are free on the image's volume. Refusals: 1, 2, 3.
-pub fn room(img: &[u8], k: u32, count: u32) -> RoomOut
-    ensures { λ r. ⌜ Asks (mount k) (now (img .entry)) count r ⌝ }
+pub fn room(img: &[u8], k: u32, code: u32, count: u32) -> RoomOut
+    ensures { λ r. ⌜ Asks (mount k code) (now (img .entry)) count r ⌝ }
 {
-    let opened = SuperBlock::read(img, k);
+    let opened = SuperBlock::read(img, k, code);
     match opened {
         Opened::Refused(r) => RoomOut::Refused(r),
         Opened::At(s) => RoomOut::Known(bitmap_room::room_in(img, s, count)),

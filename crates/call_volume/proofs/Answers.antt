@@ -21,7 +21,7 @@ use Rattle.model.specs.Answers.{accepted, refused, firstOf, reply}
 use Rattle.limits.specs.Refusals.{refusalNumber}
 use Rattle.limits.specs.declared.Refusal.{Refusal}
 use Rattle.limits.specs.declared.Refusal.the-variants.{Damaged}
-use Rattle.model.specs.Geometry.{Mount, Geo, superBytes, blockSize, mapAt, dataAt, geoAt, formatGeo, usedCount, openRefusal, formatRefusal}
+use Rattle.model.specs.Geometry.{Mount, Geo, superBytes, blockSize, mapAt, dataAt, bitEnd, geoAt, formatGeo, usedCount, openRefusal, formatRefusal}
 use Rattle.model.proofs.Opens.{when-true, when-false, first-of-head, first-of-tail, first-of-one}
 use Rattle.model.proofs.Replies.{reply-none, settle-none}
 use Rattle.limits.proofs.Numbers.{reply-refused, settle-refused, number-some}
@@ -122,8 +122,8 @@ module _ (s : SuperBlock) (I : List ℕ) (f : Fit s I) where
   pub bitmap-in : (J : List ℕ) → length J ≡ length I → s .size * s .bitmap .0 + s .size * (s .area .0 - s .bitmap .0) ≤ length J
   bitmap-in J e = omega (arith, placed f .map)
 
-  pub root-in : s .area .0 + 0 < s .blocks
-  root-in = let p = placed f in omega arith
+  pub root-in : s .area .0 + 0 < bitEnd (geoOf s)
+  root-in = let p = placed f in omega (arith, f .area, f .bits)
 
   top-in : blockSize (geoOf s) * s .addr .0 + blockSize (geoOf s) ≤ length I
   top-in = let p = placed f in block-inside (geoOf s) (length I) (f .sound) (s .addr .0) (omega arith)

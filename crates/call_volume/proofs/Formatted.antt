@@ -15,7 +15,7 @@ use Rattle.block.proofs.Blocks.{byte-zeroed}
 use Rattle.model.specs.Answers.{accepted}
 use Rattle.model.specs.Tree.{blank}
 use Rattle.model.specs.Render.{Shows, padded, count}
-use Rattle.model.specs.Geometry.{Mount, Geo, blockSize, mapAt, dataAt, mapBits, formatGeo, superBytes, usedCount, Sound, formatRefusal}
+use Rattle.model.specs.Geometry.{Mount, Geo, blockSize, mapAt, dataAt, mapBits, bitEnd, formatGeo, superBytes, usedCount, Sound, formatRefusal}
 use Rattle.model.specs.Volume.{Volume, WellFormed, maxDepth}
 use Rattle.model.proofs.Areas.{size-large}
 use Rattle.model.proofs.Blank.{formatted as blank-volume}
@@ -57,7 +57,7 @@ module _ (g : Geo) (I : List ℕ) (sound : Sound g (length I)) where
   sound-L : Sound g (length L)
   sound-L = laid-fit s I fit W L refl refl .sound
 
-  root : dataAt g + 0 < g .n
+  root : dataAt g + 0 < bitEnd g
   root = root-in s I fit
 
   used : usedCount g L ≡ dataAt g

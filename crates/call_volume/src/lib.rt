@@ -35,11 +35,11 @@ fn lay(img: &mut [u8], s: SuperBlock)
 }
 
 // Makes the whole image a volume with an empty root directory. Refusals: 1, 3.
-pub fn format(img: &mut [u8], k: u32) -> Answer
-    ensures { λ r. ⌜ Formats (mount k) (now (img .entry)) r (now (img .exit)) ⌝ }
+pub fn format(img: &mut [u8], k: u32, code: u32) -> Answer
+    ensures { λ r. ⌜ Formats (mount k code) (now (img .entry)) r (now (img .exit)) ⌝ }
 {
     let len = img.len();
-    let opened = SuperBlock::for_image(len, k);
+    let opened = SuperBlock::for_image(len, k, code);
     match opened {
         Opened::Refused(r) => Answer::Refused(r),
         Opened::At(s) => {
@@ -69,10 +69,10 @@ fn sizes_of(s: SuperBlock, used: u32) -> Space
 }
 
 // How much of the volume is used. Refusals: 1, 2, 3, 17.
-pub fn usage(img: &[u8], k: u32) -> Space
-    ensures { λ r. ⌜ Uses (mount k) (now (img .entry)) r ⌝ }
+pub fn usage(img: &[u8], k: u32, code: u32) -> Space
+    ensures { λ r. ⌜ Uses (mount k code) (now (img .entry)) r ⌝ }
 {
-    let opened = SuperBlock::read(img, k);
+    let opened = SuperBlock::read(img, k, code);
     match opened {
         Opened::Refused(r) => Space::Refused(r),
         Opened::At(s) => sizes_of(s, s.alloc_count(img)),
@@ -80,9 +80,9 @@ pub fn usage(img: &[u8], k: u32) -> Space
 }
 
 // The whole check of an opened volume, and its work buffer's length before that.
-fn check_opened(img: &[u8], k: u32, s: SuperBlock, work: &mut [u8]) -> Opened
-    requires { ⌜ OpenedIs (mount k) (now img) (opened.At s) ⌝ }
-    ensures { λ r. ⌜ Checked (mount k) (now (img .entry)) (now (work .entry)) r (now (work .exit)) ⌝ }
+fn check_opened(img: &[u8], k: u32, code: u32, s: SuperBlock, work: &mut [u8]) -> Opened
+    requires { ⌜ OpenedIs (mount k code) (now img) (opened.At s) ⌝ }
+    ensures { λ r. ⌜ Checked (mount k code) (now (img .entry)) (now (work .entry)) r (now (work .exit)) ⌝ }
 {
     if work.len() < check_bitmap::mark_bytes(s) {
         return Opened::Refused(Refusal::ShortWork);
@@ -95,22 +95,22 @@ fn check_opened(img: &[u8], k: u32, s: SuperBlock, work: &mut [u8]) -> Opened
 }
 
 // Opens a volume and checks it whole: what a changing call does first.
-pub fn open_checked(img: &[u8], k: u32, work: &mut [u8]) -> Opened
-    ensures { λ r. ⌜ Checked (mount k) (now (img .entry)) (now (work .entry)) r (now (work .exit)) ⌝ }
+pub fn open_checked(img: &[u8], k: u32, code: u32, work: &mut [u8]) -> Opened
+    ensures { λ r. ⌜ Checked (mount k code) (now (img .entry)) (now (work .entry)) r (now (work .exit)) ⌝ }
 {
-    let opened = SuperBlock::read(img, k);
+    let opened = SuperBlock::read(img, k, code);
     match opened {
         Opened::Refused(r) => Opened::Refused(r),
-        Opened::At(s) => check_opened(img, k, s, work),
+        Opened::At(s) => check_opened(img, k, code, s, work),
     }
 }
 
 // Whether the image is a well-formed volume, W1 to W5. One bit a block is marked in the work buffer, and is zero again
 // afterwards. Refusals: 1, 2, 3, 16, 17.
-pub fn check(img: &[u8], k: u32, work: &mut [u8]) -> Answer
-    ensures { λ r. ⌜ Checks (mount k) (now (img .entry)) (now (work .entry)) r (now (work .exit)) ⌝ }
+pub fn check(img: &[u8], k: u32, code: u32, work: &mut [u8]) -> Answer
+    ensures { λ r. ⌜ Checks (mount k code) (now (img .entry)) (now (work .entry)) r (now (work .exit)) ⌝ }
 {
-    let checked = open_checked(img, k, work);
+    let checked = open_checked(img, k, code, work);
     match checked {
         Opened::Refused(r) => Answer::Refused(r),
         Opened::At(_) => Answer::Success,

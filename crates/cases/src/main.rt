@@ -5,6 +5,7 @@
 // text in `"` or pairs of hexadecimal digits; `*N` makes the last byte N times itself; `.` is no byte. S is a slot for a
 // handle, 0 to 3.
 //   Volume BYTES K             the image is the first BYTES of 2,201,600 bytes, which stay as they are, and K for what follows
+//   Yardstick CODE             the size code of the calls that follow, 0 at first
 //   Put AT STRING              these bytes stand at byte AT of the image
 //   Base · Go back             the image is kept, 65,536 bytes at most · and is again what was kept
 //   Quota N                    creates, deletes and writes are lent N bytes of work buffer, 1024 at most, each 165 at first
@@ -24,7 +25,7 @@
 // A step with a small letter is a line of the recorded list, with the answers of the original after its fields. The line is
 // printed up to there, and then what is answered here: 1 and the values where the call was accepted, 0 where it was refused.
 // So the list is to be printed as it stands.
-//   v BLOCKS K                                  a new image of BLOCKS blocks of zeros (4300 at most), and K; no handles
+//   v BLOCKS K                                  a new image of BLOCKS blocks of zeros (4300 at most), K, size code 0; no handles
 //   p BLOCK OFFSET HEX                          these bytes stand at byte 512 * BLOCK + OFFSET of the image (OFFSET 0 to 511)
 //   f X · u X SIZE USED FREE                    format; usage
 //   o SLOT CWD PATH X ADDR SIZE                 open into slot 0 to 3; a refused open leaves the slot
@@ -70,6 +71,12 @@ const DOT: u8 = 46;
 const COLON: u8 = 58;
 
 const U32_MAX: u64 = 4_294_967_295;
+
+// What a call is told of where the volume is: the superblock's block, and the size code.
+struct Mount {
+    k: u32,
+    code: u32,
+}
 
 // ---- what is printed
 
@@ -547,7 +554,8 @@ fn numbers_after(letter: u8) -> usize
     ensures { λ r. ⌜ r ≤ 5 ⌝ }
 {
     match letter {
-        b'c' | b'C' | b'm' | b'M' | b'd' | b'D' | b'r' | b'R' | b'W' | b'A' | b'Q' | b'J' => 1,
+        b'c' | b'C' | b'm' | b'M' | b'd' | b'D' | b'r' | b'R' | b'W' | b'A' | b'Q' | b'J' | b'Y' =>
+            1,
         b'l' | b'L' | b's' | b'S' | b'v' | b'V' => 2,
         b'w' | b'T' => 3,
         b'H' => 5,
@@ -581,12 +589,12 @@ fn opened(letter: u8, short: &[u8], h: Handle, o: OpenOut) -> Handle {
 }
 
 // A read into the first n bytes of a buffer that has so many.
-fn read_into(img: &[u8], k: u32, letter: u8, h: Handle, n: usize, buf: &mut [u8]) -> Handle {
+fn read_into(img: &[u8], m: Mount, letter: u8, h: Handle, n: usize, buf: &mut [u8]) -> Handle {
     if buf.len() < n {
         put(b" unread");
         return h;
     }
-    let o = mfs::read(img, k, h, &mut buf[..n]);
+    let o = mfs::read(img, m.k, m.code, h, &mut buf[..n]);
     let a = o.answer;
     let g = o.handle;
     match a {
@@ -603,9 +611,9 @@ fn read_into(img: &[u8], k: u32, letter: u8, h: Handle, n: usize, buf: &mut [u8]
     g
 }
 
-fn read(img: &[u8], k: u32, letter: u8, h: Handle, n: u64) -> Handle {
+fn read(img: &[u8], m: Mount, letter: u8, h: Handle, n: u64) -> Handle {
     let mut buf = [46u8; 4096];
-    read_into(img, k, letter, h, n as usize, &mut buf)
+    read_into(img, m, letter, h, n as usize, &mut buf)
 }
 
 // The number below 0 of that size.
@@ -687,7 +695,7 @@ fn written(letter: u8, o: CountedOut) -> Handle {
 // A recorded write, of the first bytes of a buffer that has so many.
 fn write_sown(
     img: &mut [u8],
-    k: u32,
+    m: Mount,
     h: Handle,
     v: Row,
     buf: &mut [u8],
@@ -696,15 +704,18 @@ fn write_sown(
     recorded::sow(buf, v.n[1]);
     let n = v.n[0] as usize;
     if n <= buf.len() {
-        return written(b'w', mfs::write(img, k, h, &buf[..n], v.n[2], work));
+        return written(
+            b'w',
+            mfs::write(img, m.k, m.code, h, &buf[..n], v.n[2], work),
+        );
     }
     put(b" unread");
     h
 }
 
-fn write_recorded(img: &mut [u8], k: u32, h: Handle, v: Row, work: &mut [u8]) -> Handle {
+fn write_recorded(img: &mut [u8], m: Mount, h: Handle, v: Row, work: &mut [u8]) -> Handle {
     let mut buf = [0u8; 4096];
-    write_sown(img, k, h, v, &mut buf, work)
+    write_sown(img, m, h, v, &mut buf, work)
 }
 
 // A handle of any fields; numbers that do not fit are cut.
@@ -723,7 +734,7 @@ fn made_up(name: &[u8], v: Row) -> Handle {
 
 fn handle_call(
     img: &mut [u8],
-    k: u32,
+    m: Mount,
     letter: u8,
     h: Handle,
     a: &[u8],
@@ -732,25 +743,25 @@ fn handle_call(
     work: &mut [u8],
 ) -> Handle {
     match letter {
-        b'o' | b'O' => opened(letter, b" 1\x01\x02", h, mfs::open(img, k, a, b)),
+        b'o' | b'O' => opened(letter, b" 1\x01\x02", h, mfs::open(img, m.k, m.code, a, b)),
         b'c' | b'C' => opened(
             letter,
             b" 1\x01",
             h,
-            mfs::create_file(img, k, a, b, v.n[0], work),
+            mfs::create_file(img, m.k, m.code, a, b, v.n[0], work),
         ),
-        b'r' | b'R' => read(img, k, letter, h, v.n[0]),
+        b'r' | b'R' => read(img, m, letter, h, v.n[0]),
         b's' | b'S' => seek(letter, h, v),
-        b'w' => write_recorded(img, k, h, v, work),
-        b'W' => written(letter, mfs::write(img, k, h, b, v.n[0], work)),
+        b'w' => write_recorded(img, m, h, v, work),
+        b'W' => written(letter, mfs::write(img, m.k, m.code, h, b, v.n[0], work)),
         _ => made_up(b, v),
     }
 }
 
 // ---- calls on the image
 
-fn usage(img: &[u8], k: u32, letter: u8) {
-    let u = mfs::usage(img, k);
+fn usage(img: &[u8], m: Mount, letter: u8) {
+    let u = mfs::usage(img, m.k, m.code);
     match u {
         Space::Bytes { size, used, free } => told(
             letter,
@@ -764,8 +775,8 @@ fn usage(img: &[u8], k: u32, letter: u8) {
     }
 }
 
-fn info(img: &[u8], k: u32, letter: u8, cwd: &[u8], path: &[u8]) {
-    let o = mfs::info(img, k, cwd, path);
+fn info(img: &[u8], m: Mount, letter: u8, cwd: &[u8], path: &[u8]) {
+    let o = mfs::info(img, m.k, m.code, cwd, path);
     let a = o.answer;
     let kind = o.kind;
     let name = o.name;
@@ -805,7 +816,7 @@ fn info(img: &[u8], k: u32, letter: u8, cwd: &[u8], path: &[u8]) {
 // A listing into the first n bytes of a buffer that has so many.
 fn list_into(
     img: &[u8],
-    k: u32,
+    m: Mount,
     letter: u8,
     cwd: &[u8],
     path: &[u8],
@@ -817,7 +828,7 @@ fn list_into(
         put(b" unread");
         return;
     }
-    let l = mfs::list(img, k, cwd, path, from, &mut buf[..n]);
+    let l = mfs::list(img, m.k, m.code, cwd, path, from, &mut buf[..n]);
     match l {
         Listing::Records(len, next) => {
             let v = [
@@ -850,11 +861,11 @@ fn list_into(
     }
 }
 
-fn list(img: &[u8], k: u32, letter: u8, cwd: &[u8], path: &[u8], v: Row) {
+fn list(img: &[u8], m: Mount, letter: u8, cwd: &[u8], path: &[u8], v: Row) {
     let mut buf = [255u8; 4096];
     list_into(
         img,
-        k,
+        m,
         letter,
         cwd,
         path,
@@ -864,12 +875,26 @@ fn list(img: &[u8], k: u32, letter: u8, cwd: &[u8], path: &[u8], v: Row) {
     );
 }
 
-fn path_call(img: &mut [u8], k: u32, letter: u8, cwd: &[u8], path: &[u8], v: Row, work: &mut [u8]) {
+fn path_call(
+    img: &mut [u8],
+    m: Mount,
+    letter: u8,
+    cwd: &[u8],
+    path: &[u8],
+    v: Row,
+    work: &mut [u8],
+) {
     match letter {
-        b'i' | b'I' => info(img, k, letter, cwd, path),
-        b'l' | b'L' => list(img, k, letter, cwd, path, v),
-        b'm' | b'M' => answer(letter, mfs::create_dir(img, k, cwd, path, v.n[0], work)),
-        b'd' | b'D' => answer(letter, mfs::delete(img, k, cwd, path, v.n[0], work)),
+        b'i' | b'I' => info(img, m, letter, cwd, path),
+        b'l' | b'L' => list(img, m, letter, cwd, path, v),
+        b'm' | b'M' => answer(
+            letter,
+            mfs::create_dir(img, m.k, m.code, cwd, path, v.n[0], work),
+        ),
+        b'd' | b'D' => answer(
+            letter,
+            mfs::delete(img, m.k, m.code, cwd, path, v.n[0], work),
+        ),
         _ => put(b" unread"),
     }
 }
@@ -929,40 +954,47 @@ fn put_shades(work: &[u8; 520], from: u64) {
     }
 }
 
-fn check_first(img: &[u8], k: u32, n: usize, work: &mut [u8]) {
+fn check_first(img: &[u8], m: Mount, n: usize, work: &mut [u8]) {
     if n <= work.len() {
-        answer(b'T', mfs::check(img, k, &mut work[..n]));
+        answer(b'T', mfs::check(img, m.k, m.code, &mut work[..n]));
     }
 }
 
-fn test(img: &[u8], k: u32, v: Row) {
+fn test(img: &[u8], m: Mount, v: Row) {
     let mut work = [165u8; 520];
     let n = v.n[0] as usize;
-    check_first(img, k, n, &mut work);
+    check_first(img, m, n, &mut work);
     if v.n[2] == 2 {
-        check_first(img, k, n, &mut work);
+        check_first(img, m, n, &mut work);
     }
     put_shades(&work, v.n[1]);
 }
 
-fn effect(img: &[u8], k: u32, before: u64) {
+// The bytes of a block at a mount.
+fn block_bytes(m: Mount) -> u64
+    ensures { λ r. ⌜ 1 ≤ r ⌝ }
+{
+    if m.code == 1 { 1024 } else { 512 }
+}
+
+fn effect(img: &[u8], m: Mount, before: u64) {
     if recorded::digest(img) == before {
         put(b" image kept used");
     } else {
         put(b" image changed used");
     }
-    let u = mfs::usage(img, k);
+    let u = mfs::usage(img, m.k, m.code);
     match u {
-        Space::Bytes { size, used, free } => put_number(used / 512),
+        Space::Bytes { size, used, free } => put_number(used / block_bytes(m)),
         Space::Refused(r) => refuse(b'E', r),
     }
     put(b" check");
     let mut work = [165u8; 513];
-    answer(b'E', mfs::check(img, k, &mut work));
+    answer(b'E', mfs::check(img, m.k, m.code, &mut work));
 }
 
-fn accept(len: u64, k: u32) {
-    let o = SuperBlock::for_image(len as usize, k);
+fn accept(len: u64, m: Mount) {
+    let o = SuperBlock::for_image(len as usize, m.k, m.code);
     match o {
         Opened::At(_) => put(b" accepted"),
         Opened::Refused(r) => refuse(b'A', r),
@@ -1008,18 +1040,18 @@ fn image_step(img: &mut [u8], base: &mut [u8], letter: u8, b: &[u8], p: Row) {
 
 // ---- steps
 
-// What the lines so far leave: how many bytes the image has, its K, the length of the work buffer, the image's digest at the last
+// What the lines so far leave: how many bytes the image has, its mount, the length of the work buffer, the image's digest at the last
 // title, the handles.
 struct State {
     len: usize,
-    k: u32,
+    m: Mount,
     work: usize,
     before: u64,
     slots: [Handle; 4],
 }
 
 // The state of an image of that many bytes. A handle with no name is stale.
-fn fresh(len: usize, k: u32) -> State {
+fn fresh(len: usize, m: Mount) -> State {
     let h = Handle {
         dir: Addr(0),
         name: [0u8; 255],
@@ -1030,7 +1062,7 @@ fn fresh(len: usize, k: u32) -> State {
     };
     State {
         len,
-        k,
+        m,
         work: 1024,
         before: 0,
         slots: [h; 4],
@@ -1054,23 +1086,23 @@ fn slot_call(
     }
     let i = slot as usize;
     let h = t.slots[i];
-    let g = handle_call(img, t.k, letter, h, a, b, v, work);
+    let g = handle_call(img, t.m, letter, h, a, b, v, work);
     t.slots[i] = g;
     t
 }
 
 fn image_call(img: &mut [u8], s: State, letter: u8, a: &[u8], b: &[u8], v: Row, work: &mut [u8]) {
-    let k = s.k;
+    let m = s.m;
     match letter {
-        b'f' | b'F' => answer(letter, mfs::format(img, k)),
-        b'u' | b'U' => usage(img, k, letter),
+        b'f' | b'F' => answer(letter, mfs::format(img, m.k, m.code)),
+        b'u' | b'U' => usage(img, m, letter),
         b'g' => put_number(recorded::digest(img)),
         b'N' => put_number(others(img, 0)),
-        b'T' => test(img, k, v),
-        b'E' => effect(img, k, s.before),
-        b'A' => accept(v.n[0], k),
-        b'J' => jot(img, k, v.n[0] == 1),
-        _ => path_call(img, k, letter, a, b, v, work),
+        b'T' => test(img, m, v),
+        b'E' => effect(img, m, s.before),
+        b'A' => accept(v.n[0], m),
+        b'J' => jot(img, m.k, v.n[0] == 1),
+        _ => path_call(img, m, letter, a, b, v, work),
     }
 }
 
@@ -1102,11 +1134,12 @@ fn volume(img: &mut [u8], s: State, letter: u8, v: Row) -> State {
     if letter == b'v' {
         let n = img.len();
         wire::fill(img, 0, n, 0);
-        return fresh(byte_of(v.n[0], 0) as usize, k);
+        return fresh(byte_of(v.n[0], 0) as usize, Mount { k, code: 0 });
     }
     let mut t = s;
     t.len = v.n[0] as usize;
-    t.k = k;
+    let code = t.m.code;
+    t.m = Mount { k, code };
     t
 }
 
@@ -1120,6 +1153,15 @@ fn keep(s: State, from: u64, to: u64) -> State {
             t.slots[j] = h;
         }
     }
+    t
+}
+
+// Yardstick CODE
+fn yardstick(s: State, code: u64) -> State {
+    let mut t = s;
+    let k = t.m.k;
+    let code = (code % 4_294_967_296) as u32;
+    t.m = Mount { k, code };
     t
 }
 
@@ -1143,6 +1185,7 @@ fn perform(
         b'v' | b'V' => return volume(img, s, letter, v),
         b'K' => return keep(s, p.n[0], p.n[1]),
         b'Q' => return quota(s, v.n[0]),
+        b'Y' => return yardstick(s, v.n[0]),
         _ => {}
     }
     let len = s.len;
@@ -1232,7 +1275,7 @@ fn follow(img: &mut [u8], base: &mut [u8], text: &mut [u8], s: State, line: &[u8
 
 // Line after line.
 fn follow_all(list: &[u8], img: &mut [u8], base: &mut [u8], text: &mut [u8]) {
-    let mut s = fresh(0, 0);
+    let mut s = fresh(0, Mount { k: 0, code: 0 });
     let mut at: usize = 0;
     while at < list.len() {
         let end = line_end(list, at);

@@ -7,7 +7,7 @@ use lib.ListN.{length}
 use borrow.Author.Tests.{eq-eqb, ne-eqb, le-leb, lt-leb, lt-ltb, le-ltb}
 use Rattle.wire.proofs.Picks.{pick-true, pick-false}
 use Rattle.block.specs.Block.{next}
-use Rattle.model.specs.Geometry.{Geo, dataAt, usedCount}
+use Rattle.model.specs.Geometry.{Geo, dataAt, bitEnd, usedCount}
 use Rattle.super_block.specs.declared.SuperBlock.{SuperBlock}
 use Rattle.super_block.specs.Super.{geoOf, Fit}
 use Rattle.super_block.proofs.Fits.{placed, fit-long}
@@ -19,15 +19,26 @@ still-fit s I J f e = fit-long e f
 
 -- ---- one block given back
 
+-- a block whose index is one of the bits lies below the end of those that have a bit
+index-end : (s : SuperBlock) (I : List ℕ) (a x : ℕ) → Fit s I → x ≡ a - s .area .0 → s .area .0 ≤ a → a < s .blocks → x < s .bits → a < bitEnd (geoOf s)
+index-end s I a x f e h k m = omega (arith, f .bits, f .area)
+
 pub release-none : (g : Geo) (I : List ℕ) (a r : ℕ) → r ≡ usedCount g I → r ≡ 0 → I ≡ released g I a
 unfolding released
-release-none g I a r e z = sym (pick-true _ _ (eq-eqb (usedCount g I) 0 (sym e ∙ z)))
+release-none g I a r e z = sym (pick-true _ _ (rw (eq-eqb (usedCount g I) 0 (sym e ∙ z))))
+
+pub release-bare : (s : SuperBlock) (I : List ℕ) (a r x : ℕ) → Fit s I → r ≡ usedCount (geoOf s) I → (r ≡ 0 → ⊥) → x ≡ a - s .area .0
+    → s .area .0 ≤ a → s .bits ≤ x → I ≡ released (geoOf s) I a
+unfolding released
+release-bare s I a r x f e z q l h =
+    sym (pick-true _ _ (rw (ne-eqb (usedCount (geoOf s) I) 0 (λ w. z (e ∙ w)), le-leb (bitEnd (geoOf s)) a (omega (arith, f .bits, f .area)))))
 
 pub release-some : (s : SuperBlock) (I J : List ℕ) (a r x : ℕ) → Fit s I → r ≡ usedCount (geoOf s) I → (r ≡ 0 → ⊥) → x ≡ a - s .area .0
-    → J ≡ freed (geoOf s) I x → J ≡ released (geoOf s) I a
+    → s .area .0 ≤ a → a < s .blocks → x < s .bits → J ≡ freed (geoOf s) I x → J ≡ released (geoOf s) I a
 unfolding released
-release-some s I J a r x f e z q h =
-    h ∙ ap (freed (geoOf s) I) (q ∙ ap (λ (d : ℕ). a - d) (f .area)) ∙ sym (pick-false _ _ (ne-eqb (usedCount (geoOf s) I) 0 (λ w. z (e ∙ w))))
+release-some s I J a r x f e z q l m k h =
+    h ∙ ap (freed (geoOf s) I) (q ∙ ap (λ (d : ℕ). a - d) (f .area))
+    ∙ sym (pick-false _ _ (rw (ne-eqb (usedCount (geoOf s) I) 0 (λ w. z (e ∙ w)), lt-leb (bitEnd (geoOf s)) a (index-end s I a x f q l m k))))
 
 pub some-used : (g : Geo) (I : List ℕ) (r : ℕ) → r ≡ usedCount g I → (r ≡ 0 → ⊥) → 0 < usedCount g I
 some-used g I r e z = go (usedCount g I) (λ w. z (e ∙ w))
@@ -35,8 +46,9 @@ some-used g I r e z = go (usedCount g I) (λ w. z (e ∙ w))
     go : (n : ℕ) → (n ≡ 0 → ⊥) → 0 < n
     go n h = omega arith
 
-pub index-inside : (s : SuperBlock) (a x : ℕ) → x ≡ a - s .area .0 → s .area .0 ≤ a → a < s .blocks → s .area .0 + x < s .blocks
-index-inside s a x e h k = omega arith
+pub index-inside : (s : SuperBlock) (I : List ℕ) (a x : ℕ) → Fit s I → x ≡ a - s .area .0 → s .area .0 ≤ a → a < s .blocks → x < s .bits
+    → s .area .0 + x < bitEnd (geoOf s)
+index-inside s I a x f e h k m = omega (arith, index-end s I a x f e h k m)
 
 -- ---- a chain freed: what is left to free is what was to be freed
 

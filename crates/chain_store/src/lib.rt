@@ -7,7 +7,8 @@ ghost use Prim.Native.Nat.{_≤_, _<_};
 ghost use Rattle.super_block.specs.Super.{geoOf, Fit};
 ghost use Rattle.chain_store.specs.Chain.{released, chainFreed};
 
-// Gives block a of the data area back. A count of 0, which no volume has, cannot be lowered.
+// Gives block a of the data area back. A count of 0, which no volume has, cannot be lowered; and a block without a bit, which
+// no volume reaches, cannot be marked.
 pub fn release(img: &mut [u8], s: SuperBlock, a: Addr)
     requires { ⌜ Fit s (now img) ⌝ }
     requires { ⌜ s .area .0 ≤ a .0 ⌝ }
@@ -19,6 +20,9 @@ pub fn release(img: &mut [u8], s: SuperBlock, a: Addr)
     }
     let d = s.area;
     let x = a.index(d);
+    if s.bits <= x.0 {
+        return;
+    }
     bitmap_block::free(img, s, x);
 }
 

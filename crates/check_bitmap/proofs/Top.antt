@@ -3,30 +3,42 @@
 use mathlib.Core.Path.{_≡_, sym, ap, _∙_, subst}
 use mathlib.Core.Bool.{true}
 use mathlib.Core.List.{List, [], _∷_, _++_}
-use Prim.Native.Nat.{ℕ, _+_, _-_, _*_, _<_}
+use Prim.Native.Nat.{ℕ, zero, suc, _+_, _-_, _*_, _<_}
+use native.Mathlib.Nat.{add-zero}
 use native.Mathlib.Omega.{arith}
 use lib.Dec.{eqb}
 use lib.ListN.{length, getD, take, drop, length-append, length-replicate}
 use lib.Seq.{getD-take, getD-drop}
 use borrow.Author.Tests.{eqb-true, eq-eqb}
 use Rattle.wire.specs.Be.{be, bytes, zeros}
-use Rattle.wire.specs.Pick.{same, zeroFrom}
+use Rattle.wire.specs.Pick.{zeroFrom}
 use Rattle.wire.proofs.Numbers.{length-bytes, getD-zeros}
 use Rattle.wire.proofs.Picks.{same-eq}
 use Rattle.wire.proofs.Zeros.{zeros-shown, zeros-pass}
 use Rattle.model.specs.Tree.{Tree}
 use Rattle.model.specs.Render.{Shows, padded}
-use Rattle.model.specs.Geometry.{Mount, Geo, codeSize, blockSize, dataAt, setBits, signature, topMark, superBytes, geo, geoAt, countAt, usedCount, openRefusal}
+use Rattle.model.specs.Geometry.{Mount, Geo, codeSize, blockSize, dataAt, setBits, signature, superBytes, numbered, geoAt, versionAt, codeAt, countAt, usedCount, openRefusal}
 use Rattle.model.specs.Volume.{Volume}
 use Rattle.model.specs.Steps.{Bytes}
 use Rattle.model.proofs.Commit.{shows-both, shows-two}
 use Rattle.model.proofs.Entries.{bytes-shown}
 use Rattle.model.proofs.OneVolume.{used-set}
-use Rattle.model.proofs.Opens.{opens-sound}
+use Rattle.model.proofs.Opens.{Marked, opens-sound}
 
-mark-shown : (M : Mount) (I : List ℕ) (k : ℕ) → same (take 10 (drop k I)) (topMark M) ≡ true → Shows I k (topMark M)
-mark-shown M I k e i h =
-    sym (getD-take 10 (drop k I) i 0 h ∙ getD-drop k I i 0) ∙ ap (λ (l : List ℕ). getD l i 0) (same-eq (take 10 (drop k I)) (topMark M) e)
+-- the first ten bytes of an image that opens: the letters, and the version and the size code that it has there
+mark-shown : (M : Mount) (I : List ℕ) → Marked M I
+    → Shows I (codeSize (M .code) * M .K) (signature ++ (versionAt M I ∷ (M .code ∷ [])))
+unfolding versionAt codeAt
+mark-shown M I m =
+    let k : ℕ = codeSize (M .code) * M .K in
+    let letters : Shows I k signature = λ i h.
+        sym (getD-take 8 (drop k I) i 0 h ∙ getD-drop k I i 0) ∙ ap (λ (l : List ℕ). getD l i 0) (same-eq (take 8 (drop k I)) signature (m .letters)) in
+    shows-both I k signature (versionAt M I ∷ (M .code ∷ [])) letters (two k (m .code))
+  where
+    two : (k : ℕ) → getD I (k + 9) 0 ≡ M .code → Shows I (k + 8) (getD I (k + 8) 0 ∷ (M .code ∷ []))
+    two k e zero h = ap (λ (j : ℕ). getD I j 0) (add-zero (k + 8))
+    two k e (suc zero) h = let j : k + 8 + 1 ≡ k + 9 = omega arith in ap (λ (j : ℕ). getD I j 0) j ∙ e
+    two k e (suc (suc i)) h = absurd (omega arith)
 
 -- the superblock's bytes at k, part by part
 super-shown : (g : Geo) (I : List ℕ) (k u : ℕ) → Shows I k (signature ++ (g .version ∷ (g .code ∷ []))) → Shows I (k + 10) (bytes 4 (g .n))
@@ -56,7 +68,7 @@ rest-shown : (M : Mount) (I : List ℕ) → openRefusal M I ≡ 0 → Bytes I �
 unfolding countAt usedCount
 rest-shown M I o b z =
     let k : ℕ = codeSize (M .code) * M .K in
-    super-shown (geo M (be 4 I (k + 10))) I k (be 4 I (k + 14)) (mark-shown M I k (opens-sound M I o .1))
+    super-shown (numbered M (versionAt M I) (be 4 I (k + 10))) I k (be 4 I (k + 14)) (mark-shown M I (opens-sound M I o .1))
     (bytes-shown 4 I (k + 10) b) (bytes-shown 4 I (k + 14) b) (zeros-shown I (k + 18) (codeSize (M .code) - 18) z)
 
 -- Back: a superblock that is shown ends in zeros.

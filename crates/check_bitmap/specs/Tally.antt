@@ -1,7 +1,7 @@
 -- W5's bitmap, as a test of the image's bytes against the marks in the lent work buffer. Definitions alone.
 use mathlib.Core.Bool.{Bool, _&&_}
 use mathlib.Core.List.{List}
-use Prim.Native.Nat.{ℕ, _+_, _-_, _*_, _/_}
+use Prim.Native.Nat.{ℕ, _+_, _-_, _*_, _/_, min}
 use lib.ListN.{take, drop}
 use Rattle.wire.specs.Pick.{same, zeroFrom}
 use Rattle.block.specs.Block.{Area}
@@ -21,8 +21,13 @@ mapLong g = blockSize g * (dataAt g - mapAt g)
 abbrev pub markLong : Geo → ℕ
 markLong g = markBytes (areaOf g)
 
--- W5: the bitmap of I has the marks W, which are those of the blocks that were reached, then zeros.
+-- How many bytes bitmap and marks have both: those of the marks, or on version 1 those of the bitmap.
+abbrev pub bothLong : Geo → ℕ
+bothLong g = min (markLong g) (mapLong g)
+
+-- W5: the bitmap of I has the marks W, which are those of the blocks that were reached, then zeros. W2: no block is marked that
+-- has no bit.
 unfoldable pub agreed : Geo → List ℕ → List ℕ → Bool
 agreed g I W =
-    same (take (markLong g) (drop (mapFrom g) I)) (take (markLong g) W)
-    && zeroFrom I (mapFrom g + markLong g) (mapLong g - markLong g)
+    same (take (bothLong g) (drop (mapFrom g) I)) (take (bothLong g) W)
+    && (zeroFrom W (bothLong g) (markLong g - bothLong g) && zeroFrom I (mapFrom g + bothLong g) (mapLong g - bothLong g))

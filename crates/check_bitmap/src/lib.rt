@@ -3,7 +3,7 @@
 // What the answers say of the definitions of a volume is in proofs/Top.antt and proofs/Marks.antt.
 use super_block::SuperBlock;
 ghost use mathlib.Core.Path.{_≡_};
-ghost use Prim.Native.Nat.{_+_, _-_, _*_, _≤_};
+ghost use Prim.Native.Nat.{_+_, _-_, _*_, _/_, _≤_, min};
 ghost use lib.Dec.{eqb};
 ghost use lib.ListN.{length};
 ghost use Rattle.wire.specs.Pick.{zeroFrom};
@@ -35,7 +35,15 @@ pub fn mark_bytes(s: SuperBlock) -> usize
     ((s.blocks - d.0 + 7) / 8) as usize
 }
 
-// Whether the bitmap has the marks of the work buffer, and no bit past them.
+// How many bytes bitmap and marks have both, of m bytes of marks.
+fn both_bytes(s: SuperBlock, m: usize) -> usize
+    ensures { λ r. ⌜ r ≡ min m (s .bits / 8) ⌝ }
+{
+    let map = (s.bits / 8) as usize;
+    if m < map { m } else { map }
+}
+
+// Whether the bitmap has the marks of the work buffer, no bit past them, and a bit for each of them.
 pub fn agrees(img: &[u8], s: SuperBlock, work: &[u8]) -> bool
     requires { ⌜ Fit s (now img) ⌝ }
     requires { ⌜ markBytes (areaIn s) ≤ length (now work) ⌝ }
@@ -44,11 +52,15 @@ pub fn agrees(img: &[u8], s: SuperBlock, work: &[u8]) -> bool
     let a = s.bitmap;
     let d = s.area;
     let m = mark_bytes(s);
+    let both = both_bytes(s, m);
     let from = block::offset(s.size, a);
-    if !wire::same_bytes(img, from, &work[..m]) {
+    if !wire::same_bytes(img, from, &work[..both]) {
         return false;
     }
-    let past = from + m;
+    if !wire::zero_bytes(work, both, m - both) {
+        return false;
+    }
+    let past = from + both;
     let end = block::offset(s.size, d);
     wire::zero_bytes(img, past, end - past)
 }
@@ -62,8 +74,7 @@ pub fn count_right(img: &[u8], s: SuperBlock) -> bool
     let a = s.bitmap;
     let d = s.area;
     let from = block::offset(s.size, a);
-    let limit = 8 * (s.size * (d.0 - a.0));
-    let set = bits::count(img, from, limit);
+    let set = bits::count(img, from, s.bits);
     let used = s.alloc_count(img);
     used == d.0 + set
 }

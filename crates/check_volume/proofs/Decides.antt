@@ -13,7 +13,7 @@ use native.Mathlib.Decide.{decLt}
 use Rattle.wire.specs.Be.{splice}
 use Rattle.wire.specs.Pick.{zeroFrom}
 use Rattle.wire.proofs.Numbers.{length-splice, splice-in, splice-after}
-use Rattle.wire.proofs.Picks.{either, not-both}
+use Rattle.wire.proofs.Picks.{either, not-both, and-both, both-and}
 use Rattle.bits.specs.Bit.{bit, digit}
 use Rattle.bits.proofs.Digits.{digit-of-zero}
 use Rattle.block.specs.Block.{Area}
@@ -28,14 +28,14 @@ use Rattle.super_block.specs.Super.{areaIn, geoOf, Fit}
 use Rattle.super_block.proofs.Fits.{area-is}
 use Rattle.read_dir.specs.Walk.{walk}
 use Rattle.check_bitmap.specs.Tally.{markBytes, markLong, agreed}
-use Rattle.check_bitmap.proofs.Marks.{agrees-sound, agrees-complete}
+use Rattle.check_bitmap.proofs.Marks.{agrees-sound, agrees-bits, agrees-complete}
 use Rattle.thm_survey.specs.Survey.{survey, seenOf}
 use Rattle.check_chain.specs.Marks.{Marks, Beyond, Answers, MarksAnswer}
 use Rattle.thm_survey.specs.Steps.{openDir, through, entryCheck, dirCheck}
-use Rattle.thm_survey.specs.Whole.{bitsAre, bitsOf, whole}
+use Rattle.thm_survey.specs.Whole.{bitsAre, allBelow, bitsOf, whole}
 use Rattle.check_chain.proofs.Remaining.{Check, goes-last, step-no, step-yes}
 use Rattle.thm_survey.proofs.WalkedDirs.{dir-steps}
-use Rattle.thm_survey.proofs.Wholes.{bits-told, bits-pass, claimsOf, claimed-past}
+use Rattle.thm_survey.proofs.Wholes.{bits-told, bits-pass, below-told, below-pass, claimsOf, claimed-past}
 
 -- ---- the tree
 
@@ -110,11 +110,28 @@ module _ (s : SuperBlock) (I : List ℕ) (f : Fit s I) where
         same-bits = go (either (agreed g I Z)) (either bs)
           where
             bs : Bool
-            bs = bitsAre I (blockSize g * mapAt g) (λ x. count (dataAt g + x) (claimed .0)) (mapBits g)
+            bs = bitsAre I (blockSize g * mapAt g) (λ x. count (dataAt g + x) (claimed .0)) (mapBits g) && allBelow (dataAt g + mapBits g) (claimed .0)
+
+            low : agreed g I Z ≡ true → (i : ℕ) → 1 ≤ count i (claimed .0) → Dec (i < dataAt g + mapBits g) → i < dataAt g + mapBits g
+            low x i c (yes l) = l
+            low x i c (no l) =
+                let e : dataAt g + (i - dataAt g) ≡ i = omega arith in
+                let n = agrees-bits g I Z (f .sound) long (λ y. count (dataAt g + y) (claimed .0)) marks past x (i - dataAt g) (omega arith) in
+                absurd (omega (arith, c, n, ap (λ (j : ℕ). count j (claimed .0)) e))
+
+            clear : allBelow (dataAt g + mapBits g) (claimed .0) ≡ true → (x : ℕ) → mapBits g ≤ x → Dec (0 < count (dataAt g + x) (claimed .0))
+                → count (dataAt g + x) (claimed .0) ≡ 0
+            clear y x h (yes l) = absurd (omega (arith, below-told (dataAt g + mapBits g) (claimed .0) y (dataAt g + x) l))
+            clear y x h (no l) = omega arith
 
             go : (agreed g I Z ≡ true) ⊎ (agreed g I Z ≡ false) → (bs ≡ true) ⊎ (bs ≡ false) → agreed g I Z ≡ bs
-            go (inl x) y = x ∙ sym (bits-pass I (blockSize g * mapAt g) _ (mapBits g) (agrees-sound g I Z (f .sound) long _ marks past x))
-            go (inr x) (inl y) = absurd (not-both (agrees-complete g I Z (f .sound) long _ marks past b w (bits-told I (blockSize g * mapAt g) _ (mapBits g) y)) x)
+            go (inl x) y =
+                x ∙ sym (both-and (bits-pass I (blockSize g * mapAt g) _ (mapBits g) (agrees-sound g I Z (f .sound) long _ marks past x))
+                (below-pass (dataAt g + mapBits g) (claimed .0) (λ i c. low x i c (decLt i (dataAt g + mapBits g)))))
+            go (inr x) (inl y) =
+                let h = and-both _ _ y in
+                absurd (not-both (agrees-complete g I Z (f .sound) long _ marks past b w (bits-told I (blockSize g * mapAt g) _ (mapBits g) (h .0))
+                (λ j k. clear (h .1) j k (decLt 0 (count (dataAt g + j) (claimed .0))))) x)
             go (inr x) (inr y) = x ∙ sym y
 
         whole-is : whole g I ≡ (v && eqb (usedCount g I) (dataAt g + setBits I g))

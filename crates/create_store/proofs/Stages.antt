@@ -12,11 +12,11 @@ use Rattle.block.specs.Block.{cell, Off, Kept}
 use Rattle.block.proofs.Blocks.{kept-refl, kept-trans, kept-less, splice-kept}
 use Rattle.model.specs.Tree.{Tree}
 use Rattle.model.specs.Render.{Piece, ats, count, blocks, render, Shows, ShowsAll}
-use Rattle.model.specs.Geometry.{Geo, blockSize, dataAt, mapBits, superBytes, usedCount, Sound}
+use Rattle.model.specs.Geometry.{Geo, blockSize, dataAt, mapBits, bitEnd, superBytes, usedCount, Sound}
 use Rattle.model.specs.Volume.{All, GoodTree, Volume}
 use Rattle.model.specs.Calls.{freeBlocks}
 use Rattle.model.specs.Render.{blocksAt}
-use Rattle.model.proofs.Areas.{area, few, block-inside}
+use Rattle.model.proofs.Areas.{area, few, block-inside, laid-in}
 use Rattle.model.proofs.Commit.{Commit}
 use Rattle.model.proofs.Counts.{count-same, count-other, count-cons, count-append, ats-append, length-ats}
 use Rattle.model.proofs.Demand.{whole-super}
@@ -73,7 +73,7 @@ module _ (g : Geo) (I : List ℕ) (d : ℕ) (t : Tree d) (us : List Piece) where
     pub top : Shows J (blockSize g * g .K) (superBytes g (usedCount g J))
     pub marks : (x : ℕ) → x < mapBits g → mark g J x + count (dataAt g + x) (ats us) ≡ mark g I x + count (dataAt g + x) (ats xs)
     pub apart : (i : ℕ) → count i (blocks (blockSize g) d t) + count i (ats xs) ≤ 1 + count i (ats us)
-    pub inside : (i : ℕ) → 1 ≤ count i (ats xs) → (dataAt g ≤ i) × (i < g .n)
+    pub inside : (i : ℕ) → 1 ≤ count i (ats xs) → (dataAt g ≤ i) × (i < bitEnd g)
     pub whole : All (Whole (blockSize g)) xs
     pub shown : ShowsAll (blockSize g) J xs
     pub clear : clears g J ≡ free
@@ -88,7 +88,7 @@ module _ (g : Geo) (I : List ℕ) (d : ℕ) (t : Tree d) (us : List Piece) where
       top = subst (λ (z : ℕ). Shows I (blockSize g * g .K) (superBytes g z)) (sym (used-set g I d t v)) (v .laid .top);
       marks = λ x h. refl;
       apart = λ i. omega (arith, v .laid .once i);
-      inside = λ i h. v .laid .range i (omega (arith, part i));
+      inside = λ i h. laid-in g I d t _ (v .laid) i (omega (arith, part i));
       whole = w;
       shown = s;
       clear = volume-clears g I d t v;
@@ -108,7 +108,7 @@ module _ (g : Geo) (I : List ℕ) (d : ℕ) (t : Tree d) (us : List Piece) where
         sound : Sound g (length J)
         sound = stage-sound ((dataAt g + x) ∷ free) s
 
-        below : dataAt g + x < g .n
+        below : dataAt g + x < bitEnd g
         below = first-in g J sound x free (s .clear)
 
         bit-there : x < mapBits g
@@ -168,7 +168,7 @@ module _ (g : Geo) (I : List ℕ) (d : ℕ) (t : Tree d) (us : List Piece) where
                 omega (arith, a, b, c, s .marks x bit-there, is-clear, was, count-same i (dataAt g + x) (ats xs) e)
             at-block i (no e) = omega (arith, s .apart i, count-other i (dataAt g + x) (ats xs) e)
 
-            in-data : (i : ℕ) → 1 ≤ count i ((dataAt g + x) ∷ ats xs) → Dec (i ≡ dataAt g + x) → (dataAt g ≤ i) × (i < g .n)
+            in-data : (i : ℕ) → 1 ≤ count i ((dataAt g + x) ∷ ats xs) → Dec (i ≡ dataAt g + x) → (dataAt g ≤ i) × (i < bitEnd g)
             in-data i h (yes e) = (omega arith, omega (arith, below))
             in-data i h (no e) = s .inside i (omega (arith, count-other i (dataAt g + x) (ats xs) e))
 
@@ -190,7 +190,7 @@ module _ (g : Geo) (I : List ℕ) (d : ℕ) (t : Tree d) (us : List Piece) where
       among = omega (arith, split (y .at), count-same (y .at) (y .at) [] refl)
 
       in-area : (dataAt g ≤ y .at) × (y .at < g .n)
-      in-area = s .inside (y .at) among
+      in-area = let r = s .inside (y .at) among in (r .0, omega (arith, r .1))
 
       block-there : blockSize g * y .at + blockSize g ≤ length J
       block-there = block-inside g (length J) sound-of (y .at) (in-area .1)
@@ -284,7 +284,8 @@ module _ (g : Geo) (I : List ℕ) (d : ℕ) (t : Tree d) (us : List Piece) where
         top = c .top;
         bits = λ x h. omega (arith, c .marks x h, same (dataAt g + x), mark-is g J x, mark-is g I x);
         fresh = λ i. omega (arith, c .apart i, same i);
-        inside = c .inside;
+        inside = λ i h. let r = c .inside i h in (r .0, omega (arith, r .1));
+        has-bit = λ i h. omega (arith, c .inside i h .1);
         first = f;
         good = q;
         shown = c .shown;

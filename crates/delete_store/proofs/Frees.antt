@@ -13,7 +13,7 @@ use Rattle.bits.proofs.Bits.{bit-lt}
 use Rattle.block.specs.Block.{cell, next, Kept}
 use Rattle.block.proofs.Blocks.{kept-refl, kept-trans}
 use Rattle.model.specs.Render.{Piece, ats, count, Shows, ShowsAll}
-use Rattle.model.specs.Geometry.{areaOf, Geo, blockSize, mapAt, dataAt, mapBits, superBytes, usedCount, Sound}
+use Rattle.model.specs.Geometry.{areaOf, Geo, blockSize, mapAt, dataAt, mapBits, bitEnd, superBytes, usedCount, Sound}
 use Rattle.model.specs.Volume.{All}
 use Rattle.model.proofs.Areas.{area, few}
 use Rattle.model.proofs.Counts.{count-same, count-other, count-none, count-cons}
@@ -30,27 +30,27 @@ unfoldable pub allReleased : Geo → List ℕ → List ℕ → List ℕ
 allReleased g I [] = I
 allReleased g I (a ∷ gone) = allReleased g (released g I a) gone
 
--- they are blocks of the data area
+-- they are blocks of the data area that have a bit
 abbrev pub Within : Geo → List ℕ → Type 0
-Within g gone = (i : ℕ) → 1 ≤ count i gone → (dataAt g ≤ i) × (i < g .n)
+Within g gone = (i : ℕ) → 1 ≤ count i gone → (dataAt g ≤ i) × (i < bitEnd g)
 
-within-head : (g : Geo) (a : ℕ) (gone : List ℕ) → Within g (a ∷ gone) → (dataAt g ≤ a) × (a < g .n)
+within-head : (g : Geo) (a : ℕ) (gone : List ℕ) → Within g (a ∷ gone) → (dataAt g ≤ a) × (a < bitEnd g)
 within-head g a gone w = w a (omega (arith, count-same a a gone refl))
 
 within-tail : (g : Geo) (a : ℕ) (gone : List ℕ) → Within g (a ∷ gone) → Within g gone
 within-tail g a gone w i h = w i (omega (arith, count-cons i a gone))
 
-module _ (g : Geo) (I : List ℕ) (s : Sound g (length I)) (a : ℕ) (h : (dataAt g ≤ a) × (a < g .n)) where
+module _ (g : Geo) (I : List ℕ) (s : Sound g (length I)) (a : ℕ) (h : (dataAt g ≤ a) × (a < bitEnd g)) where
   -- the index of the block
   index : dataAt g + (a - dataAt g) ≡ a
   index = omega arith
 
-  inside : dataAt g + (a - dataAt g) < g .n
+  inside : dataAt g + (a - dataAt g) < bitEnd g
   inside = omega arith
 
   released-some : (usedCount g I ≡ 0 → ⊥) → released g I a ≡ freed g I (a - dataAt g)
   unfolding released
-  released-some n = pick-false _ _ (ne-eqb (usedCount g I) 0 n)
+  released-some n = pick-false _ _ (rw (ne-eqb (usedCount g I) 0 n, lt-leb (bitEnd g) a (h .1)))
 
   -- no byte but the bitmap's and the count's changes
   pub released-kept : Kept (blockSize g) (Aside g) I (released g I a)
@@ -58,7 +58,7 @@ module _ (g : Geo) (I : List ℕ) (s : Sound g (length I)) (a : ℕ) (h : (dataA
   released-kept = go (ℕ-discrete (usedCount g I) 0)
     where
       go : Dec (usedCount g I ≡ 0) → Kept (blockSize g) (Aside g) I (released g I a)
-      go (yes z) = subst (Kept (blockSize g) (Aside g) I) (sym (pick-true _ _ (eq-eqb (usedCount g I) 0 z))) (kept-refl I)
+      go (yes z) = subst (Kept (blockSize g) (Aside g) I) (sym (pick-true _ _ (rw (eq-eqb (usedCount g I) 0 z)))) (kept-refl I)
       go (no z) = subst (Kept (blockSize g) (Aside g) I) (sym (released-some z)) (freed-kept g I s (a - dataAt g) inside)
 
   released-sound : Sound g (length (released g I a))
@@ -87,7 +87,7 @@ module _ (g : Geo) where
   mark-lt I x = bit-lt I (blockSize g * mapAt g) x
 
   -- one block's mark
-  module _ (I : List ℕ) (s : Sound g (length I)) (a : ℕ) (gone : List ℕ) (h : (dataAt g ≤ a) × (a < g .n))
+  module _ (I : List ℕ) (s : Sound g (length I)) (a : ℕ) (gone : List ℕ) (h : (dataAt g ≤ a) × (a < bitEnd g))
       (m : (x : ℕ) → x < mapBits g → count (dataAt g + x) (a ∷ gone) ≤ mark g I x) where
     marks-one : (x : ℕ) → x < mapBits g → (mark g (freed g I (a - dataAt g)) x + count (dataAt g + x) (a ∷ []) ≡ mark g I x) × (count (dataAt g + x) gone ≤ mark g (freed g I (a - dataAt g)) x)
     marks-one x q = go (ℕ-discrete x (a - dataAt g))
@@ -167,6 +167,6 @@ module _ (g : Geo) where
       let z : next B I (x .at) ≡ firstAt xs
       = next-shown B I (x .at) (firstAt xs) (c .0 .0) (first-small (length I) s xs w′) (subst (Shows I (B * x .at)) (c .0 .1) (v .0)) in
       let v′ : ShowsAll B J xs = shows-frame B I J xs (o .1) (λ b q. released-block g I s (x .at) i b (w′ b q .0)) (v .1) in
-      pick-true _ _ (in-area (areaOf g) I (x .at) i)
+      pick-true _ _ (in-area (areaOf g) I (x .at) (i .0, omega (arith, i .1)))
       ∙ ap (chainFreed g J k) z
       ∙ chain-released xs k J (released-sound g I s (x .at) i) (c .1) (o .1) v′ w′ (omega arith)

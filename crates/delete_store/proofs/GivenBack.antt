@@ -13,7 +13,7 @@ use Rattle.model.specs.Tree.{Name, Tree, Some, find}
 use Rattle.model.specs.Render.{Piece, blocksAt, render, ats, count, blocks, Shows}
 use Rattle.model.specs.Geometry.{Geo, blockSize, mapAt, dataAt, mapBits, superBytes, usedCount, Sound}
 use Rattle.model.specs.Volume.{All, GoodTree, Volume}
-use Rattle.model.proofs.Areas.{area, few, size-large, volume-laid}
+use Rattle.model.proofs.Areas.{area, few, size-large, volume-laid, laid-in}
 use Rattle.model.proofs.Commit.{cut-shorter}
 use Rattle.model.proofs.Cuts.{own-cut}
 use Rattle.model.proofs.Demand.{whole-super}
@@ -68,7 +68,7 @@ module _ (g : Geo) (I : List ℕ) (d : ℕ) (t : Tree d) (v : Volume g I d t) (p
         (omega (arith, whole-super g (dataAt g + length (blocks (blockSize g) d t)))) (volume-laid g I d t v .top)
 
     within : Within g gone
-    within i h = v .laid .range i (omega (arith, h, w .counts i, fewer i))
+    within i h = laid-in g I d t _ (v .laid) i (omega (arith, h, w .counts i, fewer i))
 
     -- what stays in the count
     total : ℕ
@@ -118,6 +118,7 @@ module _ (g : Geo) (I : List ℕ) (d : ℕ) (t : Tree d) (v : Volume g I d t) (p
             bits = bits-after;
             fresh = λ i. omega (arith, w .counts i, v .laid .once i, fewer i);
             inside = λ i h. v .laid .range i (omega (arith, h, w .counts i, fewer i));
+            has-bit = λ i h. v .laid .bits i (omega (arith, h, w .counts i, fewer i));
             first = first;
             good = good;
             shown = shows-frame B W J (render B (s .0) u) (whole-tree B (omega (arith, size-large g)) (s .0) u good)

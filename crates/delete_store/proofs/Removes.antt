@@ -12,13 +12,13 @@ use Rattle.wire.proofs.Picks.{either, pick-true, pick-false}
 use Rattle.block.specs.Block.{cell}
 use Rattle.model.specs.Tree.{Name, Entry, Block, Below, Tree, holds, lookup, fill, lessFirst, called, deleteLater, delete, edit, Some, find, Bare}
 use Rattle.model.specs.Render.{Piece, View, blocksAt, nodePieces, view, render, ats, count}
-use Rattle.model.specs.Geometry.{Geo, blockSize, dataAt, Sound}
+use Rattle.model.specs.Geometry.{Geo, blockSize, dataAt, bitEnd, Sound}
 use Rattle.model.specs.Volume.{All, GoodEntry, GoodBelow, Volume}
 use Rattle.model.specs.Calls.{deleted, leftover, Makes, TreeDeletes}
-use Rattle.model.proofs.Areas.{size-large}
+use Rattle.model.proofs.Areas.{size-large, laid-in}
 use Rattle.model.proofs.Counts.{count-same, count-none, count-cons}
 use Rattle.model.proofs.Cuts.{Cut, cut-here}
-use Rattle.model.proofs.Frame.{SameBlock, shows-frame}
+use Rattle.model.proofs.Frame.{SameBlock, shows-frame, cut-within}
 use Rattle.model.proofs.Full.{Whole, whole-tree, good-lookup}
 use Rattle.model.proofs.Good.{good-delete}
 use Rattle.model.proofs.Makes.{whole-leftover}
@@ -84,6 +84,13 @@ module _ (g : Geo) (I : List ℕ) (d : ℕ) (t : Tree d) (v : Volume g I d t) (p
       cut-all (Whole (blockSize g)) _ _ _ _ _ _ _ _ (cut-here (blockSize g) shows n (λ x. x) (s .1) e l)
       (whole-tree (blockSize g) (omega (arith, size-large g)) (s .0) (s .1) (part .good))
 
+  -- each has a bit
+  node-in : (i : ℕ) → 1 ≤ count i (ats node) → (dataAt g ≤ i) × (i < bitEnd g)
+  unfolding render node
+  node-in i h =
+      laid-in g I d t _ (v .laid) i
+      (omega (arith, h, cut-within _ _ _ _ _ _ _ _ (cut-here (blockSize g) shows n (λ x. x) (s .1) e l) i, sub-blocks (blockSize g) d p t s f i))
+
   -- the entry's chain freed in an image that has its blocks as they were
   chain-gone : (W : List ℕ) → length W ≡ length I → ((b : ℕ) → 1 ≤ count b (ats node) → SameBlock (blockSize g) I W b)
       → chainFreed g W (g .n - dataAt g) (headOf shows e .addr .0) ≡ allReleased g W (ats node)
@@ -92,7 +99,7 @@ module _ (g : Geo) (I : List ℕ) (d : ℕ) (t : Tree d) (v : Volume g I d t) (p
       let c = node-chained (blockSize g) (s .0) (e .node) (good .below) bare in
       ap (chainFreed g W (g .n - dataAt g)) (sym (c .1))
       ∙ chain-released g (nodePieces shows (e .node)) (g .n - dataAt g) W (subst (Sound g) (sym q) (v .laid .sound)) (c .0) (unfold node in whole)
-      (shows-frame (blockSize g) I W (nodePieces shows (e .node)) (unfold node in whole) h (unfold node in stored .shown)) (unfold node in stored .range)
+      (shows-frame (blockSize g) I W (nodePieces shows (e .node)) (unfold node in whole) h (unfold node in stored .shown)) (unfold node in node-in)
       (unfold node in stored-few g I node stored)
 
   -- The image J before the own entry is renewed.
@@ -134,7 +141,7 @@ module _ (g : Geo) (I : List ℕ) (d : ℕ) (t : Tree d) (v : Volume g I d t) (p
       let W : List ℕ = unlinkedFrom g I (s .0) (s .1) part n e st in
       let w : Without g I W (s .0) (s .1) (delete n (s .1)) (leftover B n (s .1)) (st .at ∷ N) = goes-without g I (s .0) (s .1) part n e st in
       let k : Sound g (length W) = subst (Sound g) (sym (w .kept .size)) (v .laid .sound) in
-      let i : (dataAt g ≤ st .at) × (st .at < g .n) = v .laid .range (st .at) (omega (arith, w .counts (st .at), count-same (st .at) (st .at) N refl, sub-blocks (blockSize g) d p t s f (st .at))) in
+      let i : (dataAt g ≤ st .at) × (st .at < bitEnd g) = laid-in g I d t _ (v .laid) (st .at) (omega (arith, w .counts (st .at), count-same (st .at) (st .at) N refl, sub-blocks (blockSize g) d p t s f (st .at))) in
       let m : Made g I (allReleased g W (st .at ∷ N)) d t (s .0) (s .1) (delete n (s .1)) (leftover B n (s .1))
       = made g I d t v p s f (delete n (s .1)) (leftover B n (s .1)) (st .at ∷ N) W w (delete-at n (s .1)) (good-delete n B (GoodBelow B (s .0)) (s .1) (part .good))
       (whole-leftover B (omega (arith, size-large g)) n (s .1)) in (

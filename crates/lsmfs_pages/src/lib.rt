@@ -11,6 +11,9 @@ ghost use Rattle.lsmfs_lines.specs.Line.{refusedLine};
 ghost use Rattle.lsmfs_pages.specs.Page.{Pages, PageFits, Turned};
 ghost use Rattle.lsmfs_pages.specs.Says.{Told, PageTold, Says};
 
+// The size code of the images that are listed: blocks of 512 bytes.
+const CODE: u32 = 0;
+
 // How many bytes of text stand at the buffer's start, and the number of the entry after them: where that is the number asked for,
 // nothing is left.
 pub struct Said {
@@ -34,10 +37,10 @@ fn in_text(l: Listing, records: &[u8], out: &mut [u8]) -> Listing
 // name has: how many bytes of text, and the number of the entry after them. Refusals: 1, 2, 3, 17.
 pub fn page(img: &[u8], k: u32, i: u32, out: &mut [u8]) -> Listing
     requires { ⌜ 3072 ≤ length (now out) ⌝ }
-    ensures { λ r. ⌜ Pages (mount k) (now (img .entry)) i 1024 (now (out .entry)) (now (out .exit)) r ⌝ }
+    ensures { λ r. ⌜ Pages (mount k 0) (now (img .entry)) i 1024 (now (out .entry)) (now (out .exit)) r ⌝ }
 {
     let mut records = [0u8; 1024];
-    let l = mfs::list(img, k, b"/", b"/", i, &mut records);
+    let l = mfs::list(img, k, CODE, b"/", b"/", i, &mut records);
     in_text(l, &records, out)
 }
 
@@ -66,13 +69,13 @@ fn page_said(out: &mut [u8], l: Listing, i: u32) -> Said
 // after them. 16 bytes of work buffer have a bit for each block. Refusals: 1, 2, 3, 16, 17.
 pub fn say(img: &[u8], k: u32, more: bool, i: u32, out: &mut [u8]) -> Said
     requires { ⌜ 3072 ≤ length (now out) ⌝ }
-    ensures { λ s. ⌜ Says (mount k) (now (img .entry)) more i (now (out .entry)) (now (out .exit)) s ⌝ }
+    ensures { λ s. ⌜ Says (mount k 0) (now (img .entry)) more i (now (out .entry)) (now (out .exit)) s ⌝ }
 {
     if more {
         return refused(out, Refusal::BadImage, i);
     }
     let mut work = [0u8; 16];
-    let a = mfs::check(img, k, &mut work);
+    let a = mfs::check(img, k, CODE, &mut work);
     match a {
         Answer::Refused(r) => refused(out, r, i),
         Answer::Success => {

@@ -35,13 +35,13 @@ row k g s = record { number = k; given = g; said = s }
 -- an image of n blocks whose superblock says n; the refusal of formatting one, and of opening it; D and the reach of a volume of
 -- n blocks
 abbrev pub imageOf : ℕ → List ℕ
-imageOf n = splice (zeros (blockBytes * n)) (blockBytes * 8) (superBytes (geo (mount 8) n) (dataAt (geo (mount 8) n)))
+imageOf n = splice (zeros (blockBytes * n)) (blockBytes * 8) (superBytes (geo (mount 8 0) n) (dataAt (geo (mount 8 0) n)))
 
 abbrev pub refusalsOf : ℕ → List ℕ
-refusalsOf n = formatRefusal (mount 8) (blockBytes * n) ∷ (openRefusal (mount 8) (imageOf n) ∷ [])
+refusalsOf n = formatRefusal (mount 8 0) (blockBytes * n) ∷ (openRefusal (mount 8 0) (imageOf n) ∷ [])
 
 abbrev pub areasOf : ℕ → List ℕ
-areasOf n = dataAt (geo (mount 8) n) ∷ (reach (geo (mount 8) n) ∷ [])
+areasOf n = dataAt (geo (mount 8 0) n) ∷ (reach (geo (mount 8 0) n) ∷ [])
 
 -- a handle on a file of 10 bytes, at position 4; the refusal of a seek, 0 where it is accepted, and then its place
 abbrev pub atFour : Handle
@@ -62,7 +62,7 @@ entryA = record { kind = Dir; addr = record { 0 = 12 }; size = 0; time = 0; len 
 
 abbrev pub volumeA : List ℕ
 volumeA =
-    zeros (blockBytes * 8) ++ (superBytes (geo (mount 8) 13) 13 ++ (zeros blockBytes
+    zeros (blockBytes * 8) ++ (superBytes (geo (mount 8 0) 13) 13 ++ (zeros blockBytes
     ++ (padded blockBytes (3 ∷ []) ++ (padded blockBytes (zeros 4 ++ (headBytes entryA ++ (97 ∷ []))) ++ zeros blockBytes))))
 
 -- the number of an answer's refusal, 0 where it is accepted
@@ -88,8 +88,8 @@ endIn (b ∷ bs) = used (b .entries)
 -- of a create there with a name of k bytes: how many blocks it adds, and where the first block's entries end then
 abbrev pub createAfter : ℕ → List ℕ
 createAfter k =
-    toCreate (entryRoom (geo (mount 8) 12)) (replicate k 98) after236
-    ∷ (endIn (insert (entryRoom (geo (mount 8) 12)) 12 (fileEntry (replicate k 98) 0 0 []) after236) ∷ [])
+    toCreate (entryRoom (geo (mount 8 0) 12)) (replicate k 98) after236
+    ∷ (endIn (insert (entryRoom (geo (mount 8 0) 12)) 12 (fileEntry (replicate k 98) 0 0 []) after236) ∷ [])
 
 unfoldable pub markedExamples : List Example
 markedExamples =
@@ -114,7 +114,7 @@ markedExamples =
     -- E10
     ∷ (row 10 (partsOf (47 ∷ (47 ∷ (97 ∷ [])))) (47 ∷ (0 ∷ (97 ∷ [])))
     -- E11: on a volume where a listing of `/a` is accepted, so that it is a directory, open of `/a//b` gives 5
-    ∷ (row 11 (partsOf pathB ++ (refusalIn (listReply (mount 8) volumeA [] pathA 0 0) ∷ (refusalIn (openReply (mount 8) volumeA [] pathB) ∷ [])))
+    ∷ (row 11 (partsOf pathB ++ (refusalIn (listReply (mount 8 0) volumeA [] pathA 0 0) ∷ (refusalIn (openReply (mount 8 0) volumeA [] pathB) ∷ [])))
     (47 ∷ (97 ∷ (47 ∷ (0 ∷ (98 ∷ (0 ∷ (5 ∷ [])))))))
     -- E12: the name of 235 goes into the block, whose entries end at 507 then; that of 236 leaves the block as it was, its
     -- entries ending at 254

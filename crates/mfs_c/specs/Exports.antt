@@ -31,7 +31,7 @@ use Rattle.call_change.specs.Changing.{CreatesFile, CreatesDir, Deletes, Writes
 -- C17: the version of the exports: names, parameters and what these mean. It goes up by one where a program that was compiled
 -- against the exports as they were could no longer call them as they are.
 abbrev pub abiVersion : ℕ
-abiVersion = 1
+abiVersion = 2
 
 -- ---- how an answer is told
 

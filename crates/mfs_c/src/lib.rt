@@ -25,23 +25,23 @@ ghost use Rattle.mfs_c.specs.Exports.{abiVersion, told, handleOf, number
 pub extern "C" fn mfs_c_version() -> u32
     ensures { λ v. ⌜ v ≡ abiVersion ⌝ }
 {
-    1
+    2
 }
 
 // The number of a refusal, as the exports answer it.
-fn code(r: Refusal) -> u32
+fn refusal(r: Refusal) -> u32
     ensures { λ c. ⌜ c ≡ refusalNumber r ⌝ }
 {
     r.number() as u32
 }
 
 // The number of an answer without values: 0 is success.
-fn code_of(a: Answer) -> u32
+fn answer_of(a: Answer) -> u32
     ensures { λ c. ⌜ c ≡ told (says a) ⌝ }
 {
     match a {
         Answer::Success => 0,
-        Answer::Refused(r) => code(r),
+        Answer::Refused(r) => refusal(r),
     }
 }
 
@@ -74,7 +74,7 @@ fn give_handle(out: OpenOut, number: &mut [u32; 4], name: &mut [u8; 255], len: &
 {
     let answer = out.answer;
     match answer {
-        Answer::Refused(r) => code(r),
+        Answer::Refused(r) => refusal(r),
         Answer::Success => {
             let h = out.handle;
             *number = numbers_of(h);
@@ -91,7 +91,7 @@ fn give_count(answer: Counted, h: Handle, number: &mut [u32; 4], bytes: &mut usi
     ensures { λ c. ⌜ CountOut (countedSays answer) h (now (number .entry)) (now (bytes .entry)) c (now (number .exit)) (now (bytes .exit)) ⌝ }
 {
     match answer {
-        Counted::Refused(r) => code(r),
+        Counted::Refused(r) => refusal(r),
         Counted::Bytes(b) => {
             *number = numbers_of(h);
             *bytes = b;
@@ -102,10 +102,10 @@ fn give_count(answer: Counted, h: Handle, number: &mut [u32; 4], bytes: &mut usi
 
 // Formats the whole image. Refusals: 1, 3.
 #[no_mangle]
-pub extern "C" fn mfs_c_format(img: &mut [u8], k: u32) -> u32
-    ensures { λ c. ⌜ FormatsC (mount k) (now (img .entry)) c (now (img .exit)) ⌝ }
+pub extern "C" fn mfs_c_format(img: &mut [u8], k: u32, code: u32) -> u32
+    ensures { λ c. ⌜ FormatsC (mount k code) (now (img .entry)) c (now (img .exit)) ⌝ }
 {
-    code_of(mfs::format(img, k))
+    answer_of(mfs::format(img, k, code))
 }
 
 // Bytes of the volume, of its used blocks, and the rest. Refusals: 1, 2, 3, 17.
@@ -113,15 +113,16 @@ pub extern "C" fn mfs_c_format(img: &mut [u8], k: u32) -> u32
 pub extern "C" fn mfs_c_usage(
     img: &[u8],
     k: u32,
+    code: u32,
     size: &mut u64,
     used: &mut u64,
     free: &mut u64,
 ) -> u32
-    ensures { λ c. ⌜ UsesC (mount k) (now (img .entry)) (now (size .entry)) (now (used .entry)) (now (free .entry)) c (now (size .exit)) (now (used .exit)) (now (free .exit)) ⌝ }
+    ensures { λ c. ⌜ UsesC (mount k code) (now (img .entry)) (now (size .entry)) (now (used .entry)) (now (free .entry)) c (now (size .exit)) (now (used .exit)) (now (free .exit)) ⌝ }
 {
-    let space = mfs::usage(img, k);
+    let space = mfs::usage(img, k, code);
     match space {
-        Space::Refused(r) => code(r),
+        Space::Refused(r) => refusal(r),
         Space::Bytes {
             size: s,
             used: u,
@@ -147,15 +148,16 @@ fn flag(b: bool) -> u32
 pub extern "C" fn mfs_c_room(
     img: &[u8],
     k: u32,
+    code: u32,
     count: u32,
     enough: &mut u32,
     bytes: &mut u32,
 ) -> u32
-    ensures { λ c. ⌜ AsksC (mount k) (now (img .entry)) count (now (enough .entry)) (now (bytes .entry)) c (now (enough .exit)) (now (bytes .exit)) ⌝ }
+    ensures { λ c. ⌜ AsksC (mount k code) (now (img .entry)) count (now (enough .entry)) (now (bytes .entry)) c (now (enough .exit)) (now (bytes .exit)) ⌝ }
 {
-    let known = mfs::room(img, k, count);
+    let known = mfs::room(img, k, code, count);
     match known {
-        RoomOut::Refused(r) => code(r),
+        RoomOut::Refused(r) => refusal(r),
         RoomOut::Known(t) => {
             *enough = flag(t.enough);
             *bytes = t.bytes;
@@ -166,10 +168,10 @@ pub extern "C" fn mfs_c_room(
 
 // The whole check. Refusals: 1, 2, 3, 16, 17.
 #[no_mangle]
-pub extern "C" fn mfs_c_check(img: &[u8], k: u32, work: &mut [u8]) -> u32
-    ensures { λ c. ⌜ ChecksC (mount k) (now (img .entry)) (now (work .entry)) c (now (work .exit)) ⌝ }
+pub extern "C" fn mfs_c_check(img: &[u8], k: u32, code: u32, work: &mut [u8]) -> u32
+    ensures { λ c. ⌜ ChecksC (mount k code) (now (img .entry)) (now (work .entry)) c (now (work .exit)) ⌝ }
 {
-    code_of(mfs::check(img, k, work))
+    answer_of(mfs::check(img, k, code, work))
 }
 
 // Opens the file at a path. Refusals: 1, 2, 3, 4, 5, 6, 17, 10.
@@ -177,15 +179,16 @@ pub extern "C" fn mfs_c_check(img: &[u8], k: u32, work: &mut [u8]) -> u32
 pub extern "C" fn mfs_c_open(
     img: &[u8],
     k: u32,
+    code: u32,
     cwd: &[u8],
     path: &[u8],
     number: &mut [u32; 4],
     name: &mut [u8; 255],
     len: &mut usize,
 ) -> u32
-    ensures { λ c. ⌜ OpensC (mount k) (now (img .entry)) (now (cwd .entry)) (now (path .entry)) (now (number .entry)) (now (name .entry)) (now (len .entry)) c (now (number .exit)) (now (name .exit)) (now (len .exit)) ⌝ }
+    ensures { λ c. ⌜ OpensC (mount k code) (now (img .entry)) (now (cwd .entry)) (now (path .entry)) (now (number .entry)) (now (name .entry)) (now (len .entry)) c (now (number .exit)) (now (name .exit)) (now (len .exit)) ⌝ }
 {
-    give_handle(mfs::open(img, k, cwd, path), number, name, len)
+    give_handle(mfs::open(img, k, code, cwd, path), number, name, len)
 }
 
 // Kind (0 directory, 1 file, 2 device), size, time and name of what stands at a path. Refusals: 1, 2, 3, 4, 5, 6, 17.
@@ -193,6 +196,7 @@ pub extern "C" fn mfs_c_open(
 pub extern "C" fn mfs_c_info(
     img: &[u8],
     k: u32,
+    code: u32,
     cwd: &[u8],
     path: &[u8],
     kind: &mut u8,
@@ -201,12 +205,12 @@ pub extern "C" fn mfs_c_info(
     name: &mut [u8; 255],
     len: &mut usize,
 ) -> u32
-    ensures { λ c. ⌜ InformsC (mount k) (now (img .entry)) (now (cwd .entry)) (now (path .entry)) (now (kind .entry)) (now (size .entry)) (now (time .entry)) (now (name .entry)) (now (len .entry)) c (now (kind .exit)) (now (size .exit)) (now (time .exit)) (now (name .exit)) (now (len .exit)) ⌝ }
+    ensures { λ c. ⌜ InformsC (mount k code) (now (img .entry)) (now (cwd .entry)) (now (path .entry)) (now (kind .entry)) (now (size .entry)) (now (time .entry)) (now (name .entry)) (now (len .entry)) c (now (kind .exit)) (now (size .exit)) (now (time .exit)) (now (name .exit)) (now (len .exit)) ⌝ }
 {
-    let out = mfs::info(img, k, cwd, path);
+    let out = mfs::info(img, k, code, cwd, path);
     let answer = out.answer;
     match answer {
-        Answer::Refused(r) => code(r),
+        Answer::Refused(r) => refusal(r),
         Answer::Success => {
             let what = out.kind;
             *kind = what.byte();
@@ -225,6 +229,7 @@ pub extern "C" fn mfs_c_info(
 pub extern "C" fn mfs_c_list(
     img: &[u8],
     k: u32,
+    code: u32,
     cwd: &[u8],
     path: &[u8],
     i: u32,
@@ -232,11 +237,11 @@ pub extern "C" fn mfs_c_list(
     bytes: &mut usize,
     next: &mut u32,
 ) -> u32
-    ensures { λ c. ⌜ ListsC (mount k) (now (img .entry)) (now (cwd .entry)) (now (path .entry)) i (now (buf .entry)) (now (bytes .entry)) (now (next .entry)) c (now (buf .exit)) (now (bytes .exit)) (now (next .exit)) ⌝ }
+    ensures { λ c. ⌜ ListsC (mount k code) (now (img .entry)) (now (cwd .entry)) (now (path .entry)) i (now (buf .entry)) (now (bytes .entry)) (now (next .entry)) c (now (buf .exit)) (now (bytes .exit)) (now (next .exit)) ⌝ }
 {
-    let listed = mfs::list(img, k, cwd, path, i, buf);
+    let listed = mfs::list(img, k, code, cwd, path, i, buf);
     match listed {
-        Listing::Refused(r) => code(r),
+        Listing::Refused(r) => refusal(r),
         Listing::Records(b, n) => {
             *bytes = b;
             *next = n;
@@ -250,16 +255,17 @@ pub extern "C" fn mfs_c_list(
 pub extern "C" fn mfs_c_read(
     img: &[u8],
     k: u32,
+    code: u32,
     number: &mut [u32; 4],
     name: &[u8; 255],
     len: usize,
     buf: &mut [u8],
     bytes: &mut usize,
 ) -> u32
-    ensures { λ c. ⌜ ReadsC (mount k) (now (img .entry)) (now (number .entry)) (now (name .entry)) len (now (buf .entry)) (now (bytes .entry)) c (now (number .exit)) (now (buf .exit)) (now (bytes .exit)) ⌝ }
+    ensures { λ c. ⌜ ReadsC (mount k code) (now (img .entry)) (now (number .entry)) (now (name .entry)) len (now (buf .entry)) (now (bytes .entry)) c (now (number .exit)) (now (buf .exit)) (now (bytes .exit)) ⌝ }
 {
     let given = handle_of(number, name, len);
-    let out = mfs::read(img, k, given, buf);
+    let out = mfs::read(img, k, code, given, buf);
     let answer = out.answer;
     let moved = out.handle;
     give_count(answer, moved, number, bytes)
@@ -273,7 +279,7 @@ fn seek(number: &mut [u32; 4], name: &[u8; 255], len: usize, from: SeekFrom) -> 
     let out = mfs::seek(given, from);
     let answer = out.answer;
     match answer {
-        Answer::Refused(r) => code(r),
+        Answer::Refused(r) => refusal(r),
         Answer::Success => {
             let h = out.handle;
             *number = numbers_of(h);
@@ -326,6 +332,7 @@ pub extern "C" fn mfs_c_seek_end(
 pub extern "C" fn mfs_c_create_file(
     img: &mut [u8],
     k: u32,
+    code: u32,
     cwd: &[u8],
     path: &[u8],
     time: u64,
@@ -334,10 +341,10 @@ pub extern "C" fn mfs_c_create_file(
     name: &mut [u8; 255],
     len: &mut usize,
 ) -> u32
-    ensures { λ c. ⌜ CreatesFileC (mount k) (now (img .entry)) (now (work .entry)) (now (cwd .entry)) (now (path .entry)) time (now (number .entry)) (now (name .entry)) (now (len .entry)) c (now (img .exit)) (now (work .exit)) (now (number .exit)) (now (name .exit)) (now (len .exit)) ⌝ }
+    ensures { λ c. ⌜ CreatesFileC (mount k code) (now (img .entry)) (now (work .entry)) (now (cwd .entry)) (now (path .entry)) time (now (number .entry)) (now (name .entry)) (now (len .entry)) c (now (img .exit)) (now (work .exit)) (now (number .exit)) (now (name .exit)) (now (len .exit)) ⌝ }
 {
     give_handle(
-        mfs::create_file(img, k, cwd, path, time, work),
+        mfs::create_file(img, k, code, cwd, path, time, work),
         number,
         name,
         len,
@@ -349,14 +356,15 @@ pub extern "C" fn mfs_c_create_file(
 pub extern "C" fn mfs_c_create_dir(
     img: &mut [u8],
     k: u32,
+    code: u32,
     cwd: &[u8],
     path: &[u8],
     time: u64,
     work: &mut [u8],
 ) -> u32
-    ensures { λ c. ⌜ CreatesDirC (mount k) (now (img .entry)) (now (work .entry)) (now (cwd .entry)) (now (path .entry)) time c (now (img .exit)) (now (work .exit)) ⌝ }
+    ensures { λ c. ⌜ CreatesDirC (mount k code) (now (img .entry)) (now (work .entry)) (now (cwd .entry)) (now (path .entry)) time c (now (img .exit)) (now (work .exit)) ⌝ }
 {
-    code_of(mfs::create_dir(img, k, cwd, path, time, work))
+    answer_of(mfs::create_dir(img, k, code, cwd, path, time, work))
 }
 
 // Deletes the file, the device or the empty directory at a path. Refusals: 1, 2, 3, 16, 17, 4, 5, 6, 14.
@@ -364,14 +372,15 @@ pub extern "C" fn mfs_c_create_dir(
 pub extern "C" fn mfs_c_delete(
     img: &mut [u8],
     k: u32,
+    code: u32,
     cwd: &[u8],
     path: &[u8],
     time: u64,
     work: &mut [u8],
 ) -> u32
-    ensures { λ c. ⌜ DeletesC (mount k) (now (img .entry)) (now (work .entry)) (now (cwd .entry)) (now (path .entry)) time c (now (img .exit)) (now (work .exit)) ⌝ }
+    ensures { λ c. ⌜ DeletesC (mount k code) (now (img .entry)) (now (work .entry)) (now (cwd .entry)) (now (path .entry)) time c (now (img .exit)) (now (work .exit)) ⌝ }
 {
-    code_of(mfs::delete(img, k, cwd, path, time, work))
+    answer_of(mfs::delete(img, k, code, cwd, path, time, work))
 }
 
 // Writes buf at the handle's position; the file ends there. Refusals: 1, 2, 3, 16, 17, 13, 11, 10, 9.
@@ -379,6 +388,7 @@ pub extern "C" fn mfs_c_delete(
 pub extern "C" fn mfs_c_write(
     img: &mut [u8],
     k: u32,
+    code: u32,
     number: &mut [u32; 4],
     name: &[u8; 255],
     len: usize,
@@ -387,10 +397,10 @@ pub extern "C" fn mfs_c_write(
     work: &mut [u8],
     bytes: &mut usize,
 ) -> u32
-    ensures { λ c. ⌜ WritesC (mount k) (now (img .entry)) (now (work .entry)) (now (number .entry)) (now (name .entry)) len (now (buf .entry)) time (now (bytes .entry)) c (now (img .exit)) (now (work .exit)) (now (number .exit)) (now (bytes .exit)) ⌝ }
+    ensures { λ c. ⌜ WritesC (mount k code) (now (img .entry)) (now (work .entry)) (now (number .entry)) (now (name .entry)) len (now (buf .entry)) time (now (bytes .entry)) c (now (img .exit)) (now (work .exit)) (now (number .exit)) (now (bytes .exit)) ⌝ }
 {
     let given = handle_of(number, name, len);
-    let out = mfs::write(img, k, given, buf, time, work);
+    let out = mfs::write(img, k, code, given, buf, time, work);
     let answer = out.answer;
     let grown = out.handle;
     give_count(answer, grown, number, bytes)

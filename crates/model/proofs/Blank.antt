@@ -48,5 +48,6 @@ formatted g d I s t z m = laid-volume g I d (blank d (dataAt g)) (record {
   shown = (z, tt);
   once = λ i. count-one i (dataAt g);
   range = λ i h. let e : i ≡ dataAt g = count-is i (dataAt g) h in (omega arith, omega (arith, area g (length I) s .some-data));
+  bits = λ i h. let e : i ≡ dataAt g = count-is i (dataAt g) h in omega (arith, area g (length I) s .some-bits);
   good = blank-good (blockSize g) d (dataAt g);
 }) m

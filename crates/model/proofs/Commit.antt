@@ -57,6 +57,7 @@ pub record Commit (g : Geo) (I I′ : List ℕ) (d : ℕ) (t : Tree d) (e : ℕ)
   -- no block of u was taken by others or is there twice
   pub fresh : (i : ℕ) → count i (blocks (blockSize g) d t) + count i (blocks (blockSize g) e u) ≤ 1 + count i (blocks (blockSize g) e s)
   pub inside : (i : ℕ) → 1 ≤ count i (blocks (blockSize g) e u) → (dataAt g ≤ i) × (i < g .n)
+  pub has-bit : (i : ℕ) → 1 ≤ count i (blocks (blockSize g) e u) → i < dataAt g + mapBits g
   pub first : blocksAt u ≡ blocksAt s
   pub good : GoodTree (blockSize g) e u
   pub shown : ShowsAll (blockSize g) I′ (render (blockSize g) e u)
@@ -80,6 +81,7 @@ commit-root g I I′ d t u v m =
       shown = m .shown;
       once = λ i. omega (arith, m .fresh i);
       range = m .inside;
+      bits = m .has-bit;
       good = m .good;
     }) (λ x y. omega (arith, m .bits x y, v .marked x y))
 
@@ -105,6 +107,7 @@ module _ (g : Geo) (I I′ : List ℕ) (d : ℕ) (t : Tree d) (n : Name) (p : Li
         shown = cut-shows B _ _ _ _ _ _ _ (c .cut) I I′ (whole-tree B (omega (arith, size-large g)) d t (v .laid .good)) (v .laid .once) (v .laid .shown) others own (m .shown);
         once = λ i. omega (arith, counts i, m .fresh i);
         range = λ i x. either-range _ _ _ _ _ (counts i) x (v .laid .range i) (m .inside i);
+        bits = λ i x. either-range _ _ _ _ _ (counts i) x (v .laid .bits i) (m .has-bit i);
         good = good-edit B d (n ∷ p) k f t s h (v .laid .good) (m .good) q;
       }) (λ x y. omega (arith, m .bits x y, v .marked x y, counts (dataAt g + x)))
 

@@ -14,7 +14,7 @@ use Rattle.bits.specs.Bit.{bit, ones}
 use Rattle.bits.proofs.Bits.{bit-lt, ones-none}
 use Rattle.model.specs.Tree.{Tree}
 use Rattle.model.specs.Render.{blocks, count}
-use Rattle.model.specs.Geometry.{Geo, blockSize, mapAt, dataAt, reach, Sound}
+use Rattle.model.specs.Geometry.{Geo, blockSize, mapAt, dataAt, reach, mapBits, Sound}
 use Rattle.model.specs.Volume.{Volume}
 use Rattle.model.specs.Calls.{clearFrom, freeBlocks}
 use Rattle.model.proofs.Counts.{count-same, count-other, count-none}
@@ -223,7 +223,7 @@ free-image g I d t v =
     is b p q =
         let a = area g (length I) (v .laid .sound) in
         let e : dataAt g + (b - dataAt g) ≡ b = omega arith in
-        v .marked (b - dataAt g) (omega (arith, a .reached, a .enough)) ∙ ap (λ (c : ℕ). count c (blocks (blockSize g) d t)) e
+        v .marked (b - dataAt g) (omega (arith, a .has-bits)) ∙ ap (λ (c : ℕ). count c (blocks (blockSize g) d t)) e
 
 module _ (g : Geo) (d : ℕ) (t : Tree d) where
   -- No free block is there twice.
@@ -231,9 +231,15 @@ module _ (g : Geo) (d : ℕ) (t : Tree d) where
   unfolding freeBlocks
   free-once b = clear-once (λ c. count c (blocks (blockSize g) d t)) (dataAt g) (reach g) b
 
-  -- A free block is one of D..n-1 and is not reached.
+  -- A free block is one of D..n-1, has a bit, and is not reached.
   pub free-found : (len : ℕ) → Sound g len → (b : ℕ) → 1 ≤ count b (freeBlocks g d t) → (dataAt g ≤ b) × (b < g .n) × (count b (blocks (blockSize g) d t) ≡ 0)
   unfolding freeBlocks
   free-found len s b h =
       let r = clear-found (λ c. count c (blocks (blockSize g) d t)) (dataAt g) (reach g) b h in
       (r .0, omega (arith, r .1, area g len s .reached), r .2)
+
+  pub free-bits : (len : ℕ) → Sound g len → (b : ℕ) → 1 ≤ count b (freeBlocks g d t) → b < dataAt g + mapBits g
+  unfolding freeBlocks
+  free-bits len s b h =
+      let r = clear-found (λ c. count c (blocks (blockSize g) d t)) (dataAt g) (reach g) b h in
+      omega (arith, r .1, area g len s .has-bits)

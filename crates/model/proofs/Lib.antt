@@ -18,6 +18,7 @@ pub mod Others
 pub mod Paths
 pub mod Sums
 pub mod Unique
+pub mod Versions
 pub mod Opens
 pub mod OneVolume
 pub mod Levels

@@ -11,7 +11,7 @@ use Rattle.wire.proofs.Numbers.{length-bytes}
 use Rattle.wire.proofs.Picks.{same-refl}
 use Rattle.model.specs.Tree.{Tree, find}
 use Rattle.model.specs.Render.{blocks, Shows, padded}
-use Rattle.model.specs.Geometry.{Mount, Geo, blockSize, mounted, dataAt, setBits, signature, topMark, superBytes, geoAt, countAt, usedCount, Sound, openRefusal}
+use Rattle.model.specs.Geometry.{Mount, Geo, blockSize, mounted, dataAt, setBits, signature, superBytes, geoAt, versionAt, codeAt, countAt, usedCount, Sound, openRefusal}
 use Rattle.model.specs.Volume.{Laid, Volume, WellFormed, maxDepth}
 use Rattle.model.proofs.Areas.{few, area, size-large, block-inside, volume-bits, volume-laid}
 use Rattle.model.proofs.Commit.{shows-one, shows-two}
@@ -59,9 +59,17 @@ module _ (g : Geo) (I : List ℕ) (d : ℕ) (t : Tree d) (u : ℕ) (l : Laid g I
   unfolding countAt
   laid-count = be-shown I (blockSize g * g .K + 10) 4 (g .n) (omega (arith, few g (length I) (l .sound))) (top-is .count)
 
+  laid-version : versionAt (mounted g) I ≡ g .version
+  unfolding versionAt
+  laid-version = top-is .mark 8 (omega arith)
+
+  laid-code : codeAt (mounted g) I ≡ g .code
+  unfolding codeAt
+  laid-code = top-is .mark 9 (omega arith)
+
   -- The numbers are those that the superblock says.
   laid-geo : g ≡ geoAt (mounted g) I
-  laid-geo = λ i. record { K = g .K; n = sym laid-count i; version = l .sound .known .0 i; code = g .code }
+  laid-geo = λ i. record { K = g .K; n = sym laid-count i; version = sym laid-version i; code = g .code }
 
   -- So is the used count, where four bytes hold it.
   laid-used : u < 2 ^ 32 → usedCount g I ≡ u
@@ -73,13 +81,12 @@ module _ (g : Geo) (I : List ℕ) (d : ℕ) (t : Tree d) (u : ℕ) (l : Laid g I
   laid-opens =
       let M : Mount = mounted g in
       let s : Sound (geoAt M I) (length I) = subst (λ (h : Geo). Sound h (length I)) laid-geo (l .sound) in
-      let m : Shows I (blockSize g * g .K) (topMark M)
-      = subst (λ (v : ℕ). Shows I (blockSize g * g .K) (signature ++ (v ∷ (g .code ∷ [])))) (l .sound .known .0) (top-is .mark) in
+      let m : Shows I (blockSize g * g .K) signature = shows-one I (blockSize g * g .K) signature (g .version ∷ (g .code ∷ [])) (top-is .mark) in
       let b : blockSize g * g .K + blockSize g ≤ length I
       = block-inside g (length I) (l .sound) (g .K) (omega (arith, l .sound .room)) in
-      let p : take 10 (drop (blockSize g * g .K) I) ≡ topMark M
-      = shown-part I (blockSize g * g .K) (topMark M) (omega (arith, b, size-large g)) m in
-      sound-opens M I s (ap (λ (x : List ℕ). same x (topMark M)) p ∙ same-refl (topMark M))
+      let p : take 8 (drop (blockSize g * g .K) I) ≡ signature
+      = shown-part I (blockSize g * g .K) signature (omega (arith, b, size-large g)) m in
+      sound-opens M I s (record { letters = ap (λ (x : List ℕ). same x signature) p ∙ same-refl signature; code = laid-code })
 
 -- ---- one volume
 

@@ -1,18 +1,18 @@
 -- R1 to R3: the laws of a list of tests, what each test says, and that a call passes them exactly where the numbers are sound.
-use mathlib.Core.Path.{_≡_, refl, ap, _∙_}
-use mathlib.Core.Bool.{Bool, true, false, not, _||_}
+use mathlib.Core.Path.{_≡_, refl, sym, ap, _∙_}
+use mathlib.Core.Bool.{Bool, true, false, not, _||_, _&&_}
 use mathlib.Core.Logic.{_⊎_, inl, inr}
 use mathlib.Core.List.{List, [], _∷_}
 use Prim.Native.Nat.{ℕ, zero, suc, _+_, _*_, _/_, _%_, _≤_, _<_}
 use native.Mathlib.Nat.{one-le-pow, div-le-self, le-div-iff-mul-le}
 use native.Mathlib.Omega.{arith}
-use lib.Dec.{lit<}
+use lib.Dec.{lit<, ltb, eqb}
 use lib.ListN.{length, take, drop}
-use borrow.Author.Tests.{ltb-false, leb-false, eqb-true, eqb-false, not-false, le-ltb, lt-leb, eq-eqb, ne-eqb}
-use Rattle.wire.specs.Pick.{same}
-use Rattle.wire.proofs.Picks.{either, not-both, pick-true, pick-false}
+use borrow.Author.Tests.{ltb-false, leb-false, eqb-true, eqb-false, not-false, le-ltb, lt-ltb, lt-leb, eq-eqb, ne-eqb}
+use Rattle.wire.specs.Pick.{pick, same}
+use Rattle.wire.proofs.Picks.{either, not-both, and-both, pick-true, pick-false}
 use Rattle.model.specs.Answers.{when, firstOf}
-use Rattle.model.specs.Geometry.{Mount, Geo, blockSize, codeSize, topMark, badCode, mapSize, rest, geo, geoAt, formatGeo, countAt, imageLimit, Sound, badImage, badMark, badCount, openRefusal, formatRefusal}
+use Rattle.model.specs.Geometry.{Mount, Geo, blockSize, codeSize, lastCode, signature, badCode, mapSize, rest, numbered, geoAt, formatGeo, versionAt, codeAt, countAt, imageLimit, Known, Sound, badImage, badVersion, badMark, badCount, openRefusal, formatRefusal}
 
 -- ---- tests
 
@@ -80,13 +80,17 @@ passed k b ks h e = let z = first-of-zero (when k b) ks e in (when-none k b h (z
 -- ---- what the tests say
 
 -- The size code is known exactly where 2 does not hold of it.
-good-code : (M : Mount) → badCode M ≡ false → M .code ≡ 0
+good-code : (M : Mount) → badCode M ≡ false → M .code ≤ lastCode
 unfolding badCode
-good-code M e = omega (arith, ltb-false 0 (M .code) e)
+good-code M e = ltb-false lastCode (M .code) e
 
-pub code-good : (M : Mount) → M .code ≡ 0 → badCode M ≡ false
+pub code-good : (M : Mount) → M .code ≤ lastCode → badCode M ≡ false
 unfolding badCode
-code-good M e = le-ltb 0 (M .code) (omega arith)
+code-good M e = le-ltb lastCode (M .code) e
+
+code-bad : (M : Mount) → lastCode < M .code → badCode M ≡ true
+unfolding badCode
+code-bad M h = lt-ltb lastCode (M .code) h
 
 -- a block has bytes, whatever its size code
 some-size : (c : ℕ) → 0 < codeSize c
@@ -113,28 +117,96 @@ image-good M len w l b =
     false-or (ne-eqb len 0 (λ z. omega (arith, b, div-le-self len (codeSize (M .code)))))
     (false-or (ap not (eq-eqb (len % codeSize (M .code)) 0 w)) (false-or (le-ltb imageLimit len l) (lt-leb (len / codeSize (M .code)) (M .K + 2) b)))
 
--- 2 does not hold: signature, version and size code stand at block M.
-good-mark : (M : Mount) (I : List ℕ) → badMark M I ≡ false → same (take 10 (drop (codeSize (M .code) * M .K) I)) (topMark M) ≡ true
-unfolding badMark
-good-mark M I e = not-false _ e
+-- The version is known exactly where 2 does not hold of it.
+good-version : (M : Mount) (v n : ℕ) → badCode M ≡ false → badVersion v (M .code) ≡ false → Known (numbered M v n)
+unfolding badVersion
+good-version M v n z e = go (either (eqb v 2))
+  where
+    go : (eqb v 2 ≡ true) ⊎ (eqb v 2 ≡ false) → Known (numbered M v n)
+    go (inl t) = inr (eqb-true v 2 t, good-code M z)
+    go (inr f) =
+        let w : (eqb v 2 || (eqb v 1 && eqb (M .code) 0)) ≡ true = not-false _ e in
+        let h = and-both (eqb v 1) (eqb (M .code) 0) (sym (ap (λ (b : Bool). b || (eqb v 1 && eqb (M .code) 0)) f) ∙ w) in
+        inl (eqb-true v 1 (h .0), eqb-true (M .code) 0 (h .1))
 
-pub mark-good : (M : Mount) (I : List ℕ) → same (take 10 (drop (codeSize (M .code) * M .K) I)) (topMark M) ≡ true → badMark M I ≡ false
-unfolding badMark
-mark-good M I e = ap not e
+version-good : (g : Geo) → Known g → badVersion (g .version) (g .code) ≡ false
+unfolding badVersion
+version-good g (inl k) = let e = k .0 in let z = k .1 in rw (e, z)
+version-good g (inr k) = let e = k .0 in rw e
 
--- 3 does not hold: n is inside the image, N is 2 at least, and its remainder is not 1.
-pub good-count : (g : Geo) (len : ℕ) → badCount g len ≡ false → (g .n ≤ len / blockSize g) × (2 ≤ rest g) × (rest g % (mapSize g + 1) ≡ 1 → ⊥)
-unfolding badCount
-good-count g len e =
+known-code : (g : Geo) → Known g → g .code ≤ lastCode
+known-code g (inl k) = omega (arith, k .1)
+known-code g (inr k) = k .1
+
+-- 2 does not hold: the signature and the mount's size code stand at block M, and the version between them is known.
+pub record Marked (M : Mount) (I : List ℕ) : Type 0 where
+  pub letters : same (take 8 (drop (codeSize (M .code) * M .K) I)) signature ≡ true
+  pub code : codeAt M I ≡ M .code
+
+good-mark : (M : Mount) (I : List ℕ) → badMark M I ≡ false → Marked M I × (badVersion (versionAt M I) (M .code) ≡ false)
+unfolding badMark
+good-mark M I e =
     let a = or-false _ _ e in
     let b = or-false _ _ (a .1) in
-    (ltb-false _ _ (a .0), ltb-false _ _ (b .0), eqb-false _ _ (b .1))
+    (record { letters = not-false _ (a .0); code = eqb-true _ _ (not-false _ (b .0)) }, b .1)
 
-count-good : (g : Geo) (len : ℕ) → g .n ≤ len / blockSize g → 2 ≤ rest g → (rest g % (mapSize g + 1) ≡ 1 → ⊥) → badCount g len ≡ false
+pub mark-good : (M : Mount) (I : List ℕ) → Marked M I → badVersion (versionAt M I) (M .code) ≡ false → badMark M I ≡ false
+unfolding badMark
+mark-good M I m v = false-or (ap not (m .letters)) (false-or (ap not (eq-eqb _ _ (m .code))) v)
+
+-- 3 does not hold: n is inside the image, and N is large enough for the version: that of one bitmap block and its bits, or 2 with a
+-- remainder that is not 1.
+record Counted (g : Geo) (len : ℕ) : Type 0 where
+  inside : g .n ≤ len / blockSize g
+  room : 2 ≤ rest g
+  one-map : g .version ≡ 1 → mapSize g + 1 ≤ rest g
+  remainder : (g .version ≡ 1 → ⊥) → rest g % (mapSize g + 1) ≡ 1 → ⊥
+
+good-count : (g : Geo) (len : ℕ) → badCount g len ≡ false → Counted g len
 unfolding badCount
-count-good g len i r m = false-or (le-ltb _ _ i) (false-or (le-ltb _ _ r) (ne-eqb _ _ m))
+good-count g len e = go (either (eqb (g .version) 1))
+  where
+    both : (ltb (len / blockSize g) (g .n) ≡ false)
+        × (pick (eqb (g .version) 1) (ltb (rest g) (mapSize g + 1)) (ltb (rest g) 2 || eqb (rest g % (mapSize g + 1)) 1) ≡ false)
+    both = or-false _ _ e
+
+    go : (eqb (g .version) 1 ≡ true) ⊎ (eqb (g .version) 1 ≡ false) → Counted g len
+    go (inl t) =
+        let h : mapSize g + 1 ≤ rest g = ltb-false _ _ (sym (pick-true _ _ t) ∙ both .1) in
+        record {
+          inside = ltb-false _ _ (both .0);
+          room = omega (arith, h, some-size (g .code));
+          one-map = λ _. h;
+          remainder = λ n. absurd (n (eqb-true _ _ t));
+        }
+    go (inr f) =
+        let h = or-false _ _ (sym (pick-false (ltb (rest g) (mapSize g + 1)) _ f) ∙ both .1) in
+        record {
+          inside = ltb-false _ _ (both .0);
+          room = ltb-false _ _ (h .0);
+          one-map = λ n. absurd (eqb-false _ _ f n);
+          remainder = λ _. eqb-false _ _ (h .1);
+        }
+
+count-good : (g : Geo) (len : ℕ) → Counted g len → badCount g len ≡ false
+unfolding badCount
+count-good g len c = false-or (le-ltb _ _ (c .inside)) (go (either (eqb (g .version) 1)))
+  where
+    go : (eqb (g .version) 1 ≡ true) ⊎ (eqb (g .version) 1 ≡ false)
+        → pick (eqb (g .version) 1) (ltb (rest g) (mapSize g + 1)) (ltb (rest g) 2 || eqb (rest g % (mapSize g + 1)) 1) ≡ false
+    go (inl t) = pick-true _ _ t ∙ le-ltb _ _ (c .one-map (eqb-true _ _ t))
+    go (inr f) = pick-false _ _ f ∙ false-or (le-ltb _ _ (c .room)) (ne-eqb _ _ (c .remainder (eqb-false _ _ f)))
 
 -- ---- opening: which refusal, by the tests
+
+-- A size code that is not known is refused before anything of the image is looked at, by every call and so by format.
+pub open-code : (M : Mount) (I : List ℕ) → lastCode < M .code → openRefusal M I ≡ 2
+unfolding openRefusal
+open-code M I h = refuses 2 _ (omega arith) (code-bad M h)
+
+pub format-code : (M : Mount) (len : ℕ) → lastCode < M .code → formatRefusal M len ≡ 2
+unfolding formatRefusal
+format-code M len h = refuses 2 _ (omega arith) (code-bad M h)
 
 module _ (M : Mount) (I : List ℕ) (z : badCode M ≡ false) where
   pub open-1 : badImage M (length I) ≡ true → openRefusal M I ≡ 1
@@ -172,39 +244,43 @@ opened M I e =
 -- ---- sound numbers
 
 -- The tests of the numbers pass exactly where the numbers are sound.
-tests-sound : (M : Mount) (n len : ℕ) → badCode M ≡ false → badImage M len ≡ false → badCount (geo M n) len ≡ false → Sound (geo M n) len
-tests-sound M n len z a b =
+tests-sound : (M : Mount) (v n len : ℕ) → badCode M ≡ false → badImage M len ≡ false → badVersion v (M .code) ≡ false
+    → badCount (numbered M v n) len ≡ false → Sound (numbered M v n) len
+tests-sound M v n len z a w b =
     let i = good-image M len a in
-    let c = good-count (geo M n) len b in
+    let c = good-count (numbered M v n) len b in
     record {
-      known = (refl, good-code M z);
+      known = good-version M v n z w;
       whole = i .1;
       limit = i .2;
-      inside-image = le-div-iff-mul-le (some-size (M .code)) .0 (c .0);
-      room = c .1;
-      remainder = c .2;
+      inside-image = le-div-iff-mul-le (some-size (M .code)) .0 (c .inside);
+      room = c .room;
+      one-map = c .one-map;
+      remainder = c .remainder;
     }
 
-sound-inside : (M : Mount) (n len : ℕ) → Sound (geo M n) len → n ≤ len / codeSize (M .code)
-sound-inside M n len s = le-div-iff-mul-le (some-size (M .code)) .1 (s .inside-image)
+sound-inside : (M : Mount) (v n len : ℕ) → Sound (numbered M v n) len → n ≤ len / codeSize (M .code)
+sound-inside M v n len s = le-div-iff-mul-le (some-size (M .code)) .1 (s .inside-image)
 
-sound-image : (M : Mount) (n len : ℕ) → Sound (geo M n) len → badImage M len ≡ false
-sound-image M n len s = image-good M len (s .whole) (s .limit) (omega (arith, sound-inside M n len s, s .room))
+sound-image : (M : Mount) (v n len : ℕ) → Sound (numbered M v n) len → badImage M len ≡ false
+sound-image M v n len s = image-good M len (s .whole) (s .limit) (omega (arith, sound-inside M v n len s, s .room))
 
-sound-count : (M : Mount) (n len : ℕ) → Sound (geo M n) len → badCount (geo M n) len ≡ false
-sound-count M n len s = count-good (geo M n) len (sound-inside M n len s) (s .room) (s .remainder)
+sound-count : (M : Mount) (v n len : ℕ) → Sound (numbered M v n) len → badCount (numbered M v n) len ≡ false
+sound-count M v n len s =
+    count-good (numbered M v n) len
+    (record { inside = sound-inside M v n len s; room = s .room; one-map = s .one-map; remainder = s .remainder })
 
 -- A call on a volume gives none of 1, 2, 3 exactly where the numbers of the mount are sound and the mark stands there.
-pub opens-sound : (M : Mount) (I : List ℕ) → openRefusal M I ≡ 0
-    → Sound (geoAt M I) (length I) × (same (take 10 (drop (codeSize (M .code) * M .K) I)) (topMark M) ≡ true)
+pub opens-sound : (M : Mount) (I : List ℕ) → openRefusal M I ≡ 0 → Sound (geoAt M I) (length I) × Marked M I
 opens-sound M I e =
     let t = opened M I e in
-    (tests-sound M (countAt M I) (length I) (t .code) (t .image) (t .count), good-mark M I (t .mark))
+    let m = good-mark M I (t .mark) in
+    (tests-sound M (versionAt M I) (countAt M I) (length I) (t .code) (t .image) (m .1) (t .count), m .0)
 
-pub sound-opens : (M : Mount) (I : List ℕ) → Sound (geoAt M I) (length I) → same (take 10 (drop (codeSize (M .code) * M .K) I)) (topMark M) ≡ true
-    → openRefusal M I ≡ 0
+pub sound-opens : (M : Mount) (I : List ℕ) → Sound (geoAt M I) (length I) → Marked M I → openRefusal M I ≡ 0
 sound-opens M I s m =
-    open-0 M I (code-good M (s .known .1)) (sound-image M (countAt M I) (length I) s) (mark-good M I m) (sound-count M (countAt M I) (length I) s)
+    open-0 M I (code-good M (known-code (geoAt M I) (s .known))) (sound-image M (versionAt M I) (countAt M I) (length I) s)
+    (mark-good M I m (version-good (geoAt M I) (s .known))) (sound-count M (versionAt M I) (countAt M I) (length I) s)
 
 -- ---- format
 
@@ -233,4 +309,6 @@ module _ (M : Mount) (len : ℕ) where
 
   -- Format gives no refusal exactly where the numbers that it writes are sound.
   pub format-sound : formatRefusal M len ≡ 0 → Sound (formatGeo M len) len
-  format-sound e = let t = format-passed e in tests-sound M (len / codeSize (M .code)) len (t .0) (t .1) (t .2)
+  format-sound e =
+      let t = format-passed e in
+      tests-sound M 2 (len / codeSize (M .code)) len (t .0) (t .1) (version-good (formatGeo M len) (inr (refl, good-code M (t .0)))) (t .2)

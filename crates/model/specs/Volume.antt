@@ -99,6 +99,8 @@ pub record Laid (g : Geo) (I : List ℕ) (d : ℕ) (t : Tree d) (u : ℕ) : Type
   -- W2: no block is reached twice, and each lies in D..n-1. (That chains end is the tree's: it is finite.)
   pub once : (i : ℕ) → count i (blocks (blockSize g) d t) ≤ 1
   pub range : (i : ℕ) → 1 ≤ count i (blocks (blockSize g) d t) → (dataAt g ≤ i) × (i < g .n)
+  -- W2, W5: each has a bit (which version 1 has not for every block of D..n-1)
+  pub bits : (i : ℕ) → 1 ≤ count i (blocks (blockSize g) d t) → i < dataAt g + mapBits g
   -- W3, W4 (a directory's size is rendered as its sum; the depth is the type's)
   pub good : GoodTree (blockSize g) d t
 

@@ -118,6 +118,7 @@ module _ (g : Geo) (I J : List ℕ) (d : ℕ) (t : Tree d) (n : Name) (p : List 
         bits = λ x q. omega (arith, o .bits x q, bits-same x q, mark-is g J x, mark-is g K x);
         fresh = o .fresh;
         inside = o .inside;
+        has-bit = o .has-bit;
         first = o .first;
         good = o .good;
         shown = shows-frame B J K (render B (s .0) (f (s .0) (s .1))) (whole-tree B (omega (arith, size-large g)) (s .0) (f (s .0) (s .1)) (o .good)) (λ b q. other b (of-new b q)) (o .shown);

@@ -6,7 +6,7 @@ use native.Mathlib.Nat.{mul-suc, mul-add, mul-comm, mul-le-mul-left}
 use native.Mathlib.Omega.{arith}
 use lib.ListN.{length}
 use Rattle.block.specs.Block.{BlockSize}
-use Rattle.model.specs.Geometry.{Mount, Geo, blockSize, mapAt, areaOf, geo, geoAt, formatGeo, Sound, openRefusal, formatRefusal}
+use Rattle.model.specs.Geometry.{Mount, Geo, blockSize, mapAt, areaOf, numbered, geoAt, formatGeo, Sound, openRefusal, formatRefusal}
 use Rattle.model.proofs.Areas.{size-known, area, few}
 use Rattle.model.proofs.Opens.{opens-sound, format-sound}
 use Rattle.model.specs.Volume.{Volume, maxDepth}
@@ -28,6 +28,7 @@ fit-of g I s =
       known = size-known g (length I) s;
       bitmap = refl;
       area = refl;
+      bits = refl;
       reach = refl;
       sound = s;
       inside = rw mul-comm (s .inside-image);
@@ -56,6 +57,7 @@ fit-long {s} e f =
       known = f .known;
       bitmap = f .bitmap;
       area = f .area;
+      bits = f .bits;
       reach = f .reach;
       sound = subst (Sound (geoOf s)) (sym e) (f .sound);
       inside = omega (arith, f .inside);
@@ -71,7 +73,11 @@ pub record Placed (s : SuperBlock) (I : List ℕ) : Type 0 where
   pub maps : s .bitmap .0 < s .area .0
   pub some-data : s .area .0 < s .blocks
   pub reached : s .area .0 + s .reach ≤ s .blocks
-  pub enough : s .blocks ≤ s .area .0 + 8 * (s .size * (s .area .0 - s .bitmap .0))
+  -- the bitmap's bits: how many, one at least for the root, and one for each index in reach
+  pub bits : s .bits ≡ 8 * (s .size * (s .area .0 - s .bitmap .0))
+  pub some-bits : 0 < s .bits
+  pub has-bits : s .reach ≤ s .bits
+  pub few-bits : s .bits ≤ s .blocks + 8 * s .size
 
 pub placed : {s : SuperBlock} {I : List ℕ} → Fit s I → Placed s I
 placed {s} {I} f =
@@ -91,7 +97,10 @@ placed {s} {I} f =
       maps = omega (arith, a .maps);
       some-data = some-data;
       reached = omega (arith, a .reached, f .reach);
-      enough = rw (f .size, b, d) (a .enough);
+      bits = rw (f .size, b, d) (f .bits);
+      some-bits = omega (arith, f .bits, a .some-bits);
+      has-bits = omega (arith, f .bits, f .reach, a .has-bits);
+      few-bits = omega (arith, f .bits, f .size, a .few-bits);
     }
 
 -- the area is that of the numbers,
@@ -120,15 +129,12 @@ fit-inside s I J a b f e q h =
     let k : suc a ≤ s .blocks = omega arith in
     omega (arith, f .inside, mul-le-mul-left (s .size) k, mul-suc (s .size) a)
 
--- The numbers of the struct are those of its superblock's place and its block count.
-geo-is : {s : SuperBlock} {I : List ℕ} → Fit s I → geo (mountOf s) (s .blocks) ≡ geoOf s
-geo-is {s} f = λ i. record { K = s .addr .0; n = s .blocks; version = sym (f .sound .known .0) i; code = s .code }
-
 -- The volume of a checked image, by the struct's own numbers.
 pub ready-volume : (s : SuperBlock) (I : List ℕ) (r : Ready s I) → Volume (geoOf s) I maxDepth (r .well .tree)
 ready-volume s I r =
     let w = r .well in
-    subst (λ (g : Geo). Volume g I maxDepth (w .tree)) (well-formed-geo (mountOf s) I w ∙ ap (geo (mountOf s)) (sym (r .count)) ∙ geo-is (r .fit)) (w .volume)
+    let e : geoAt (mountOf s) I ≡ geoOf s = λ i. numbered (mountOf s) (sym (r .version) i) (sym (r .count) i) in
+    subst (λ (g : Geo). Volume g I maxDepth (w .tree)) (well-formed-geo (mountOf s) I w ∙ e) (w .volume)
 
 pub ready-fit : (s : SuperBlock) (I : List ℕ) → Ready s I → Fit s I
 ready-fit s I r = r .fit

@@ -6,7 +6,7 @@ use lib.ListN.{length}
 use Rattle.wire.specs.Be.{bytes, splice}
 use Rattle.block.specs.Block.{Area, BlockSize}
 use Rattle.limits.specs.Refusals.{refusalNumber}
-use Rattle.model.specs.Geometry.{Mount, Geo, blockSize, mapAt, dataAt, reach, countAt, geoAt, superBytes, Sound, openRefusal, formatRefusal, formatGeo}
+use Rattle.model.specs.Geometry.{Mount, Geo, blockSize, mapAt, dataAt, mapBits, reach, versionAt, countAt, geoAt, superBytes, Sound, openRefusal, formatRefusal, formatGeo}
 use Rattle.model.specs.Volume.{WellFormed}
 use Rattle.super_block.specs.declared.SuperBlock.{SuperBlock}
 use Rattle.super_block.specs.declared.Opened.{Opened}
@@ -33,8 +33,14 @@ superBlock g =
       code = g .code;
       bitmap = record { 0 = mapAt g };
       area = record { 0 = dataAt g };
+      bits = mapBits g;
       reach = reach g;
     }
+
+-- The numbers are sound for an image of some length: what making a struct of them requires.
+pub record Fair (g : Geo) : Type 0 where
+  pub image : ℕ
+  pub sound : Sound g image
 
 -- The struct is that of sound numbers for the image: what every function below the public calls requires.
 pub record Fit (s : SuperBlock) (I : List ℕ) : Type 0 where
@@ -42,6 +48,7 @@ pub record Fit (s : SuperBlock) (I : List ℕ) : Type 0 where
   pub known : BlockSize (s .size)
   pub bitmap : s .bitmap .0 ≡ mapAt (geoOf s)
   pub area : s .area .0 ≡ dataAt (geoOf s)
+  pub bits : s .bits ≡ mapBits (geoOf s)
   pub reach : s .reach ≡ reach (geoOf s)
   pub sound : Sound (geoOf s) (length I)
   -- what follows for the struct's own products: superblock and bitmap begin, and all blocks lie, in the image
@@ -52,6 +59,7 @@ pub record Fit (s : SuperBlock) (I : List ℕ) : Type 0 where
 pub record Ready (s : SuperBlock) (I : List ℕ) : Type 0 where
   pub fit : Fit s I
   pub well : WellFormed (mountOf s) I
+  pub version : s .version ≡ versionAt (mountOf s) I
   pub count : s .blocks ≡ countAt (mountOf s) I
 
 -- R1 to R3: reading gives the first of them that holds, or the numbers that the image's superblock says.

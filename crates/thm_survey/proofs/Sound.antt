@@ -2,13 +2,13 @@
 use mathlib.Core.Path.{_≡_, refl}
 use mathlib.Core.Option.{none, some}
 use mathlib.Core.List.{List, []}
-use Prim.Native.Nat.{ℕ, zero, suc, _*_, _≤_}
+use Prim.Native.Nat.{ℕ, zero, suc, _+_, _*_, _≤_, _<_}
 use native.Mathlib.Omega.{arith}
 use lib.ListN.{length}
 use Rattle.block.specs.Block.{Area}
 use Rattle.model.specs.Tree.{Below, Tree, sum}
 use Rattle.model.specs.Render.{view, render, blocks, count, Shows}
-use Rattle.model.specs.Geometry.{areaOf, Geo, blockSize, dataAt, superBytes, Sound}
+use Rattle.model.specs.Geometry.{areaOf, Geo, blockSize, dataAt, mapBits, superBytes, Sound}
 use Rattle.model.specs.Volume.{GoodBelow, Laid}
 use Rattle.model.proofs.Areas.{size-large}
 use Rattle.model.specs.Steps.{Bytes}
@@ -50,10 +50,10 @@ module _ (A : Area) (I : List ℕ) (large : 5 ≤ A .size) (all-bytes : Bytes I)
       let z : count i [] ≡ 0 = count-none i in
       (omega (arith, f .claimed i, f .once i (omega arith)), omega (arith, f .claimed i))
 
--- With a sound superblock: where the survey from D on finds a tree, the image holds it.
+-- With a sound superblock: where the survey from D on finds a tree and each block has a bit, the image holds it.
 pub found-laid : (g : Geo) (I : List ℕ) (d u : ℕ) (c : Claimed (Tree d)) → Sound g (length I) → Bytes I → Shows I (blockSize g * g .K) (superBytes g u)
-    → survey (areaOf g) I d (dataAt g) [] ≡ some c → Laid g I d (c .found) u
-found-laid g I d u c s b t e =
+    → survey (areaOf g) I d (dataAt g) [] ≡ some c → ((i : ℕ) → 1 ≤ count i (c .seen) → i < dataAt g + mapBits g) → Laid g I d (c .found) u
+found-laid g I d u c s b t e m =
     let large : 5 ≤ blockSize g = omega (arith, size-large g) in
     let f : Finds (areaOf g) I d (dataAt g) [] c = survey-sound (areaOf g) I large b (s .inside-image) d (dataAt g) [] c e in
     record {
@@ -63,5 +63,6 @@ found-laid g I d u c s b t e =
       shown = f .shown;
       once = λ i. survey-once (areaOf g) I large b (s .inside-image) d (dataAt g) c e i .0;
       range = f .range;
+      bits = λ i h. m i (omega (arith, h, survey-once (areaOf g) I large b (s .inside-image) d (dataAt g) c e i .1));
       good = f .good;
     }

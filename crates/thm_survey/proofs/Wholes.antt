@@ -2,15 +2,15 @@
 use mathlib.Core.Path.{_≡_, refl, sym, ap, _∙_, subst}
 use mathlib.Core.Bool.{Bool, true, _&&_}
 use mathlib.Core.Option.{Option, none, some}
-use mathlib.Core.List.{List, []}
+use mathlib.Core.List.{List, [], _∷_}
 use Prim.Native.Nat.{ℕ, zero, suc, _+_, _-_, _*_, _≤_, _<_}
 use native.Mathlib.Omega.{arith}
 use native.Mathlib.Decide.{ℕ-discrete}
-use lib.Dec.{eqb}
+use lib.Dec.{ltb, eqb}
 use lib.ListN.{length}
-use borrow.Author.Tests.{eqb-true, eq-eqb}
+use borrow.Author.Tests.{eqb-true, eq-eqb, ltb-true, lt-ltb}
 use Rattle.wire.specs.Pick.{zeroFrom}
-use Rattle.wire.proofs.Picks.{not-both, and-both}
+use Rattle.wire.proofs.Picks.{not-both, and-both, both-and}
 use Rattle.bits.specs.Bit.{bit}
 use Rattle.model.specs.Tree.{Tree, then}
 use Rattle.model.specs.Render.{count, blocks, Shows}
@@ -18,11 +18,12 @@ use Rattle.model.specs.Geometry.{areaOf, Mount, Geo, blockSize, mapAt, dataAt, 
 use Rattle.model.specs.Volume.{maxDepth, Volume, WellFormed}
 use Rattle.model.specs.Steps.{Bytes}
 use Rattle.model.proofs.Areas.{size-large}
+use Rattle.model.proofs.Counts.{count-same, count-other, count-none, count-cons}
 use Rattle.model.proofs.Lists.{not-some, then-some}
 use Rattle.model.proofs.OneVolume.{well-formed-geo}
 use Rattle.check_bitmap.proofs.Top.{top-shown, volume-rest, volume-count}
 use Rattle.thm_survey.specs.Survey.{Claimed, survey, seenOf}
-use Rattle.thm_survey.specs.Whole.{bitsAre, bitsOf, whole}
+use Rattle.thm_survey.specs.Whole.{bitsAre, allBelow, bitsOf, whole}
 use Rattle.thm_survey.proofs.Sound.{survey-sound, survey-once, found-laid}
 use Rattle.thm_survey.proofs.Complete.{laid-found}
 
@@ -43,6 +44,23 @@ pub bits-pass : (I : List ℕ) (from : ℕ) (f : ℕ → ℕ) (k : ℕ) → ((x 
 unfolding bitsAre
 bits-pass I from f zero h = refl
 bits-pass I from f (suc k) h = ap (λ (b : Bool). b && bitsAre I from f k) (eq-eqb (bit I from k) (f k) (h k (omega arith))) ∙ bits-pass I from f k (λ x l. h x (omega arith))
+
+pub below-told : (e : ℕ) (l : List ℕ) → allBelow e l ≡ true → (i : ℕ) → 1 ≤ count i l → i < e
+unfolding allBelow
+below-told e [] h i c = absurd (omega (arith, count-none i))
+below-told e (a ∷ l) h i c =
+    let p = and-both (ltb a e) (allBelow e l) h in
+    go (ltb-true a e (p .0)) (below-told e l (p .1) i) (ℕ-discrete i a)
+  where
+    go : a < e → (1 ≤ count i l → i < e) → Dec (i ≡ a) → i < e
+    go q r (yes z) = omega arith
+    go q r (no z) = r (omega (arith, count-other i a l z))
+
+pub below-pass : (e : ℕ) (l : List ℕ) → ((i : ℕ) → 1 ≤ count i l → i < e) → allBelow e l ≡ true
+unfolding allBelow
+below-pass e [] h = refl
+below-pass e (a ∷ l) h =
+    both-and (lt-ltb a e (h a (omega (arith, count-same a a l refl)))) (below-pass e l (λ i c. h i (omega (arith, count-cons i a l))))
 
 -- ---- what was claimed
 
@@ -95,13 +113,16 @@ module _ (M : Mount) (I : List ℕ) (b : Bytes I) where
       go (some seen) e =
           let c = seen-found _ seen e in
           let t : Shows I (blockSize g * g .K) (superBytes g (dataAt g + setBits I g)) = top-shown M I o b (p .0) (q .1) in
-          let marked = bits-told I (blockSize g * mapAt g) (λ x. count (dataAt g + x) seen) (mapBits g) (sym (ap (bitsOf g I) e) ∙ q .0) in
+          let both = and-both _ _ (sym (ap (bitsOf g I) e) ∙ q .0) in
+          let marked = bits-told I (blockSize g * mapAt g) (λ x. count (dataAt g + x) seen) (mapBits g) (both .0) in
+          let below : (i : ℕ) → 1 ≤ count i (c .0 .seen) → i < dataAt g + mapBits g
+          = λ i h. below-told (dataAt g + mapBits g) seen (both .1) i (omega (arith, h, ap (count i) (c .2))) in
           record {
             numbers = g;
             here = refl;
             tree = c .0 .found;
             volume = record {
-              laid = found-laid g I maxDepth (dataAt g + setBits I g) (c .0) s b t (c .1);
+              laid = found-laid g I maxDepth (dataAt g + setBits I g) (c .0) s b t (c .1) below;
               marked = λ x l. marked x l ∙ ap (count (dataAt g + x)) (sym (c .2)) ∙ found-once g I s b (c .0) (c .1) (dataAt g + x);
             };
           }
@@ -115,7 +136,10 @@ module _ (M : Mount) (I : List ℕ) (b : Bytes I) where
       passes v =
           let f = laid-found g I maxDepth (w .tree) _ (v .laid) in
           let e : claimsOf g I ≡ some (f .0) = unfold seenOf in then-some (λ c. some (c .seen)) (f .1) in
-          let z : bitsOf g I (claimsOf g I) ≡ true = ap (bitsOf g I) e ∙ bits-pass I (blockSize g * mapAt g) (λ x. count (dataAt g + x) (f .0)) (mapBits g) (λ x l. v .marked x l ∙ sym (f .2 (dataAt g + x))) in
+          let z : bitsOf g I (claimsOf g I) ≡ true
+          = ap (bitsOf g I) e
+          ∙ both-and (bits-pass I (blockSize g * mapAt g) (λ x. count (dataAt g + x) (f .0)) (mapBits g) (λ x l. v .marked x l ∙ sym (f .2 (dataAt g + x))))
+          (below-pass (dataAt g + mapBits g) (f .0) (λ i h. v .laid .bits i (omega (arith, h, f .2 i)))) in
           ap (λ (x : Bool). x && (bitsOf g I (claimsOf g I) && eqb (usedCount g I) (dataAt g + setBits I g))) (volume-rest g I maxDepth (w .tree) v)
           ∙ ap (λ (x : Bool). x && eqb (usedCount g I) (dataAt g + setBits I g)) z
           ∙ volume-count g I maxDepth (w .tree) v

@@ -19,7 +19,7 @@ use Rattle.model.proofs.Frame.{SameBlock}
 use Rattle.model.proofs.Full.{zero-byte}
 use Rattle.model.proofs.Lists.{all-left, all-right, all-append}
 use Rattle.bitmap_block.specs.Bitmap.{mark, clears, Room, fresh}
-use Rattle.bitmap_block.proofs.Stores.{index-in, Aside, aside-data, fresh-low, fresh-head, fresh-high, fresh-clear}
+use Rattle.bitmap_block.proofs.Stores.{Aside, aside-data, fresh-low, fresh-head, fresh-high, fresh-end, fresh-clear}
 use Rattle.write_store.specs.Write.{grown, extended, HeldCells}
 use Rattle.write_store.proofs.Cells.{count-places, count-cell, count-no-cell, block-long, tail-shows, back-shows, empties, empty-good, count-last}
 use Rattle.write_store.proofs.Grows.{grown-kept, grown-sound, grown-used, grown-clears, grown-room, grown-mark, grown-top, grown-zero, grown-links}
@@ -83,6 +83,7 @@ module _ (g : Geo) (I : List ℕ) (s : Sound g (length I)) (xs : List Cell) (c :
         whole = all-append (GoodCell B) (xs ++ (c ∷ [])) (emptyCell g w ∷ []) (h .whole) (empty-good g w, tt);
         once = λ i. once i more (ℕ-discrete i w);
         range = λ i q. range i more q (ℕ-discrete i w);
+        has-bit = λ i q. has-bit i more q (ℕ-discrete i w);
         marked = λ i q. marked i more q (ℕ-discrete i w);
       }
     where
@@ -98,11 +99,15 @@ module _ (g : Geo) (I : List ℕ) (s : Sound g (length I)) (xs : List Cell) (c :
       range i more q (yes e) = (omega (arith, fresh-low g I room), omega (arith, fresh-high g I room s))
       range i more q (no e) = h .range i (omega (arith, more i, count-other i (fresh g I) [] e, count-none i))
 
+      has-bit : (i : ℕ) → More → 1 ≤ count i (places ((xs ++ (c ∷ [])) ++ (emptyCell g (fresh g I) ∷ []))) → Dec (i ≡ fresh g I) → i < dataAt g + mapBits g
+      has-bit i more q (yes e) = omega (arith, fresh-end g I room s)
+      has-bit i more q (no e) = h .has-bit i (omega (arith, more i, count-other i (fresh g I) [] e, count-none i))
+
       marked : (i : ℕ) → More → 1 ≤ count i (places ((xs ++ (c ∷ [])) ++ (emptyCell g (fresh g I) ∷ []))) → Dec (i ≡ fresh g I) → mark g (grown g I (c .at)) (i - dataAt g) ≡ 1
       marked i more q d =
           let r = range i more q d in
           let z : dataAt g + (i - dataAt g) ≡ i = omega (arith, r .0) in
-          let m = grown-mark g I s room (c .at) (last-in .0) (last-in .1) (i - dataAt g) (index-in g (length I) s (i - dataAt g) (omega (arith, r .0, r .1))) in
+          let m = grown-mark g I s room (c .at) (last-in .0) (last-in .1) (i - dataAt g) (omega (arith, r .0, has-bit i more q d)) in
           let n = ap (λ (x : ℕ). count x (fresh g I ∷ [])) z in
           by d m n
         where

@@ -10,7 +10,7 @@ use Rattle.block.specs.Block.{cell, next, linked, Off, Kept}
 use Rattle.block.proofs.Blocks.{kept-refl, kept-trans, kept-less}
 use Rattle.model.specs.Tree.{Cell}
 use Rattle.model.specs.Render.{cellsAt, cellPieces, count, Shows, ShowsAll}
-use Rattle.model.specs.Geometry.{areaOf, Geo, blockSize, dataAt, mapBits, superBytes, usedCount, Sound}
+use Rattle.model.specs.Geometry.{areaOf, Geo, blockSize, dataAt, mapBits, bitEnd, superBytes, usedCount, Sound}
 use Rattle.model.specs.Volume.{All, GoodCell}
 use Rattle.model.specs.Calls.{places}
 use Rattle.model.proofs.Areas.{few, size-large, block-inside}
@@ -19,12 +19,12 @@ use Rattle.model.proofs.Frame.{SameBlock}
 use Rattle.model.proofs.Owns.{shows-kept}
 use Rattle.model.proofs.Lists.{all-left, all-right}
 use Rattle.bitmap_block.specs.Bitmap.{mark, freed}
-use Rattle.bitmap_block.proofs.Stores.{index-in, sound-kept, Aside, aside-data, freed-kept, used-freed, top-freed, mark-freed, mark-freed-other}
+use Rattle.bitmap_block.proofs.Stores.{sound-kept, Aside, aside-data, freed-kept, used-freed, top-freed, mark-freed, mark-freed-other}
 use Rattle.write_store.specs.Write.{cutAfter, HeldCells}
 use Rattle.chain_store.specs.Chain.{released, chainFreed}
 use Rattle.thm_walk.proofs.Walks.{in-area}
 use Rattle.wire.proofs.Picks.{pick-true, pick-false}
-use borrow.Author.Tests.{ne-eqb}
+use borrow.Author.Tests.{ne-eqb, lt-leb}
 use Rattle.write_store.proofs.Cells.{count-places, count-cell, count-no-cell, block-long, tail-shows, back-shows, relinked, count-last}
 use Rattle.write_store.proofs.Grows.{link-kept, link-mark, link-top}
 use Rattle.write_store.proofs.Hops.{next-cell}
@@ -43,6 +43,7 @@ held-kept g I J cs h s m =
       whole = h .whole;
       once = h .once;
       range = h .range;
+      has-bit = h .has-bit;
       marked = m;
     }
 
@@ -54,6 +55,7 @@ held-back g I xs ys h =
       whole = all-right (GoodCell (blockSize g)) xs ys (h .whole);
       once = λ i. omega (arith, h .once i, count-places i xs ys);
       range = λ i q. h .range i (omega (arith, count-places i xs ys));
+      has-bit = λ i q. h .has-bit i (omega (arith, count-places i xs ys));
       marked = λ i q. h .marked i (omega (arith, count-places i xs ys));
     }
 
@@ -63,13 +65,13 @@ freed-none : (g : Geo) (I : List ℕ) (a : ℕ) → chainFreed g I 0 a ≡ I
 unfolding chainFreed
 freed-none g I a = refl
 
--- a block of the data, where the count is not 0
-freed-more : (g : Geo) (I : List ℕ) (a k : ℕ) → (dataAt g ≤ a) × (a < g .n) → 0 < usedCount g I
+-- a block of the data that has a bit, where the count is not 0
+freed-more : (g : Geo) (I : List ℕ) (a k : ℕ) → (dataAt g ≤ a) × (a < bitEnd g) → 0 < usedCount g I
     → chainFreed g I (suc k) a ≡ chainFreed g (freed g I (a - dataAt g)) k (next (blockSize g) I a)
 unfolding chainFreed released
 freed-more g I a k h u =
-    pick-true _ _ (in-area (areaOf g) I a h)
-    ∙ ap (λ (J : List ℕ). chainFreed g J k (next (blockSize g) I a)) (pick-false _ _ (ne-eqb (usedCount g I) 0 (λ z. omega arith)))
+    pick-true _ _ (in-area (areaOf g) I a (h .0, omega (arith, h .1)))
+    ∙ ap (λ (J : List ℕ). chainFreed g J k (next (blockSize g) I a)) (pick-false _ _ (rw (ne-eqb (usedCount g I) 0 (λ z. omega arith), lt-leb (bitEnd g) a (h .1))))
 
 -- What has changed: the marks of the blocks ys, and the used count.
 pub record Dropped (g : Geo) (I J : List ℕ) (ys : List Cell) : Type 0 where
@@ -78,13 +80,16 @@ pub record Dropped (g : Geo) (I J : List ℕ) (ys : List Cell) : Type 0 where
   pub top : Shows I (blockSize g * g .K) (superBytes g (usedCount g I)) → Shows J (blockSize g * g .K) (superBytes g (usedCount g I - length ys))
 
 module _ (g : Geo) (I : List ℕ) (s : Sound g (length I)) (y : Cell) (ys : List Cell) (h : HeldCells g I (y ∷ ys)) where
-  here : (dataAt g ≤ y .at) × (y .at < g .n)
-  here = h .range (y .at) (omega (arith, count-cell (y .at) y ys, count-self (y .at)))
+  there : 1 ≤ count (y .at) (places (y ∷ ys))
+  there = omega (arith, count-cell (y .at) y ys, count-self (y .at))
+
+  here : (dataAt g ≤ y .at) × (y .at < bitEnd g)
+  here = let r = h .range (y .at) there in (r .0, omega (arith, r .1, h .has-bit (y .at) there))
 
   F : List ℕ
   F = freed g I (y .at - dataAt g)
 
-  in-data : dataAt g + (y .at - dataAt g) < g .n
+  in-data : dataAt g + (y .at - dataAt g) < bitEnd g
   in-data = omega (arith, here .0, here .1)
 
   free-kept : Kept (blockSize g) (Aside g) I F
@@ -132,7 +137,7 @@ module _ (g : Geo) (I : List ℕ) (s : Sound g (length I)) (y : Cell) (ys : List
           let z : dataAt g + (i - dataAt g) ≡ i = omega (arith, r .0) in
           omega (
             arith,
-            free-marks (i - dataAt g) (index-in g (length I) s (i - dataAt g) (omega (arith, r .0, r .1))),
+            free-marks (i - dataAt g) (omega (arith, r .0, h .has-bit i (omega (arith, count-cell i y ys)))),
             ap (λ (w : ℕ). count w (y .at ∷ [])) z,
             h .marked i (omega (arith, count-cell i y ys)),
             h .once i,
@@ -239,6 +244,7 @@ module _ (g : Geo) (I : List ℕ) (s : Sound g (length I)) (xs : List Cell) (c :
         whole = all-left (GoodCell B) (xs ++ (c ∷ [])) ys (subst (All (GoodCell B)) (sym (append-assoc xs (c ∷ []) ys)) (h .whole));
         once = λ i. omega (arith, h .once i, all i, kept-all i);
         range = λ i q. h .range i (omega (arith, all i, kept-all i));
+        has-bit = λ i q. h .has-bit i (omega (arith, all i, kept-all i));
         marked = λ i q. marked i q;
       }
     where
@@ -248,7 +254,7 @@ module _ (g : Geo) (I : List ℕ) (s : Sound g (length I)) (xs : List Cell) (c :
           let z : dataAt g + (i - dataAt g) ≡ i = omega (arith, r .0) in
           omega (
             arith,
-            J-marks (i - dataAt g) (index-in g (length I) s (i - dataAt g) (omega (arith, r .0, r .1))),
+            J-marks (i - dataAt g) (omega (arith, r .0, h .has-bit i (omega (arith, all i, kept-all i)))),
             ap (λ (w : ℕ). count w (places ys)) z,
             h .marked i (omega (arith, all i, kept-all i)),
             h .once i,

@@ -11,7 +11,7 @@ use Rattle.bits.specs.Bit.{AllSet}
 use Rattle.block.specs.Block.{cell, linked, Off, Kept}
 use Rattle.block.proofs.Blocks.{kept-trans, kept-less, linked-kept}
 use Rattle.model.specs.Render.{count, Shows}
-use Rattle.model.specs.Geometry.{Geo, blockSize, mapAt, dataAt, mapBits, superBytes, usedCount, Sound}
+use Rattle.model.specs.Geometry.{Geo, blockSize, mapAt, dataAt, mapBits, bitEnd, superBytes, usedCount, Sound}
 use Rattle.model.proofs.Areas.{area, few, size-large, block-inside}
 use Rattle.model.proofs.Counts.{count-same, count-other, count-none}
 use Rattle.model.proofs.Demand.{whole-super}
@@ -44,7 +44,7 @@ module _ (g : Geo) (I : List ℕ) (s : Sound g (length I)) (a : ℕ) (low : data
 -- ---- a block added
 
 module _ (g : Geo) (I : List ℕ) (s : Sound g (length I)) (h : 1 ≤ length (clears g I)) where
-  in-data : dataAt g + (fresh g I - dataAt g) < g .n
+  in-data : dataAt g + (fresh g I - dataAt g) < bitEnd g
   in-data = fresh-data g I h s
 
   T : List ℕ

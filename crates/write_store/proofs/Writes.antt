@@ -31,7 +31,7 @@ use Rattle.model.proofs.OneVolume.{used-is}
 use Rattle.model.proofs.Owns.{renewedAt, shows-kept, cut-shown, cut-whole}
 use Rattle.model.proofs.Commit.{cut-length, cut-shorter}
 use Rattle.bitmap_block.specs.Bitmap.{mark, Room}
-use Rattle.bitmap_block.proofs.Stores.{mark-is, index-in, sound-kept, mark-kept, Aside, aside-data, aside-other, volume-clears, volume-room}
+use Rattle.bitmap_block.proofs.Stores.{mark-is, sound-kept, mark-kept, Aside, aside-data, aside-other, volume-clears, volume-room}
 use Rattle.dir_entry.specs.declared.DirEntry.{DirEntry}
 use Rattle.dir_entry.specs.Shown.{headOf}
 use Rattle.read_dir.specs.declared.Place.{Place}
@@ -103,6 +103,7 @@ module _ (g : Geo) (I : List ℕ) (d : ℕ) (t : Tree d) (v : Volume g I d t) (p
         whole = good-file .cells;
         once = λ i. omega (arith, within i, v .laid .once i);
         range = λ i q. v .laid .range i (omega (arith, within i));
+        has-bit = λ i q. v .laid .bits i (omega (arith, within i));
         marked = λ i q. marked i q;
       }
     where
@@ -110,7 +111,7 @@ module _ (g : Geo) (I : List ℕ) (d : ℕ) (t : Tree d) (v : Volume g I d t) (p
       marked i q =
           let r = v .laid .range i (omega (arith, within i)) in
           let e : dataAt g + (i - dataAt g) ≡ i = omega (arith, r .0) in
-          mark-is g I (i - dataAt g) ∙ v .marked (i - dataAt g) (index-in g (length I) (v .laid .sound) (i - dataAt g) (omega (arith, r .0, r .1)))
+          mark-is g I (i - dataAt g) ∙ v .marked (i - dataAt g) (omega (arith, r .0, v .laid .bits i (omega (arith, within i))))
           ∙ ap (λ (x : ℕ). count x (blocks B d t)) e ∙ omega (arith, within i, v .laid .once i)
 
   enough : length cs ≤ usedCount g I
@@ -406,12 +407,17 @@ module _ (g : Geo) (I : List ℕ) (d : ℕ) (t : Tree d) (v : Volume g I d t) (p
           shown = shown₃;
           once = λ i. omega (arith, counts i, from i, apart i);
           range = λ i q. range i q (decLt 0 (count i (blocks B d t)));
+          bits = λ i q. has-bit i q (decLt 0 (count i (blocks B d t)));
           good = good-edit B d p (λ x. x) (λ e bs. change n (λ x. refiled now (c + length buf) es (x .name) (x .time) (x .node)) bs) t s f (v .laid .good) (good-dir clock) (λ x h. h);
         }) marked₃
       where
         range : (i : ℕ) → 1 ≤ count i (blocks B d u) → Dec (0 < count i (blocks B d t)) → (dataAt g ≤ i) × (i < g .n)
         range i q (yes h) = v .laid .range i h
         range i q (no h) = r .held .range i (omega (arith, counts i))
+
+        has-bit : (i : ℕ) → 1 ≤ count i (blocks B d u) → Dec (0 < count i (blocks B d t)) → i < dataAt g + mapBits g
+        has-bit i q (yes h) = v .laid .bits i h
+        has-bit i q (no h) = r .held .has-bit i (omega (arith, counts i))
 
     -- ---- the frame
 

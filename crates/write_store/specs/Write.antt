@@ -9,7 +9,7 @@ use Rattle.wire.specs.Pick.{pick}
 use Rattle.block.specs.Block.{next, linked}
 use Rattle.model.specs.Tree.{Cell}
 use Rattle.model.specs.Render.{cellsAt, cellPieces, count, ShowsAll}
-use Rattle.model.specs.Geometry.{Geo, blockSize, dataAt, usedCount}
+use Rattle.model.specs.Geometry.{Geo, blockSize, dataAt, mapBits, usedCount}
 use Rattle.model.specs.Volume.{All, GoodCell, fileLimit, blocksFor}
 use Rattle.model.specs.Calls.{places}
 use Rattle.bitmap_block.specs.Bitmap.{mark, taken, Room, fresh}
@@ -79,13 +79,14 @@ wrote g I e p c vs time =
 
 -- ---- what it asks
 
--- W2, W4 and W5 of one chain: the image shows these blocks with their next addresses, 0 in the last; each is whole, in D..n-1
--- and marked, none is there twice.
+-- W2, W4 and W5 of one chain: the image shows these blocks with their next addresses, 0 in the last; each is whole, in D..n-1,
+-- has a bit and is marked; none is there twice.
 pub record HeldCells (g : Geo) (I : List ℕ) (cells : List Cell) : Type 0 where
   pub shown : ShowsAll (blockSize g) I (cellPieces cells)
   pub whole : All (GoodCell (blockSize g)) cells
   pub once : (i : ℕ) → count i (places cells) ≤ 1
   pub range : (i : ℕ) → 1 ≤ count i (places cells) → (dataAt g ≤ i) × (i < g .n)
+  pub has-bit : (i : ℕ) → 1 ≤ count i (places cells) → i < dataAt g + mapBits g
   pub marked : (i : ℕ) → 1 ≤ count i (places cells) → mark g I (i - dataAt g) ≡ 1
 
 -- The chain from a on has k blocks.

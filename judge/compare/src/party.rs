@@ -42,31 +42,31 @@ impl Party for Library {
     }
 
     fn format(&self, image: &mut [u8], k: u32) -> Made<()> {
-        mfs::format(image, k)
+        mfs::format(image, k, CODE)
     }
 
     fn usage(&self, image: &[u8], k: u32) -> Made<Usage> {
-        mfs::usage(image, k)
+        mfs::usage(image, k, CODE)
     }
 
     fn check(&self, image: &[u8], k: u32, work: &mut [u8]) -> Made<()> {
-        mfs::check(image, k, work)
+        mfs::check(image, k, CODE, work)
     }
 
     fn open(&self, image: &[u8], k: u32, cwd: &[u8], path: &[u8]) -> Made<Handle> {
-        mfs::open(image, k, cwd, path)
+        mfs::open(image, k, CODE, cwd, path)
     }
 
     fn info(&self, image: &[u8], k: u32, cwd: &[u8], path: &[u8]) -> Made<Info> {
-        mfs::info(image, k, cwd, path)
+        mfs::info(image, k, CODE, cwd, path)
     }
 
     fn list(&self, image: &[u8], k: u32, cwd: &[u8], path: &[u8], from: u32, buf: &mut [u8]) -> Made<Listed> {
-        mfs::list(image, k, cwd, path, from, buf)
+        mfs::list(image, k, CODE, cwd, path, from, buf)
     }
 
     fn read(&self, image: &[u8], k: u32, handle: &mut Handle, buf: &mut [u8]) -> Made<usize> {
-        mfs::read(image, k, handle, buf)
+        mfs::read(image, k, CODE, handle, buf)
     }
 
     fn seek(&self, handle: &mut Handle, from: SeekFrom) -> Made<()> {
@@ -74,19 +74,19 @@ impl Party for Library {
     }
 
     fn create_file(&self, image: &mut [u8], k: u32, cwd: &[u8], path: &[u8], time: u64, work: &mut [u8]) -> Made<Handle> {
-        mfs::create_file(image, k, cwd, path, time, work)
+        mfs::create_file(image, k, CODE, cwd, path, time, work)
     }
 
     fn create_dir(&self, image: &mut [u8], k: u32, cwd: &[u8], path: &[u8], time: u64, work: &mut [u8]) -> Made<()> {
-        mfs::create_dir(image, k, cwd, path, time, work)
+        mfs::create_dir(image, k, CODE, cwd, path, time, work)
     }
 
     fn delete(&self, image: &mut [u8], k: u32, cwd: &[u8], path: &[u8], time: u64, work: &mut [u8]) -> Made<()> {
-        mfs::delete(image, k, cwd, path, time, work)
+        mfs::delete(image, k, CODE, cwd, path, time, work)
     }
 
     fn write(&self, image: &mut [u8], k: u32, handle: &mut Handle, buf: &[u8], time: u64, work: &mut [u8]) -> Made<usize> {
-        mfs::write(image, k, handle, buf, time, work)
+        mfs::write(image, k, CODE, handle, buf, time, work)
     }
 }
 

@@ -66,7 +66,7 @@ impl Library {
     pub fn check_again(&mut self, k: u32, guarded: Guarded) -> u32 {
         self.work.place(&vec![UNTOUCHED; mfs::work_len(self.image.len())], guarded);
         guard::start_clock();
-        unsafe { raw::mfs_c_check(self.image.ptr(), self.image.len(), k, self.work.ptr(), self.work.len()) }
+        unsafe { raw::mfs_c_check(self.image.ptr(), self.image.len(), k, CODE, self.work.ptr(), self.work.len()) }
     }
 
     /// Asks for room once more. Of the image only the bytes up to `end` are there, and a guard page right after them; its length is
@@ -78,7 +78,7 @@ impl Library {
         }
         guard::start_clock();
         match unsafe {
-            raw::mfs_c_room(self.image.ptr(), case.image.len(), case.k, count, self.outs[0].ptr(), self.outs[1].ptr())
+            raw::mfs_c_room(self.image.ptr(), case.image.len(), case.k, CODE, count, self.outs[0].ptr(), self.outs[1].ptr())
         } {
             0 => Ok(self.answered_room()),
             refusal => Err(refusal),
@@ -106,18 +106,18 @@ impl Library {
         let (number, name, len) = (self.number.ptr(), self.name.ptr(), case.handle.len);
         let [a, b, c] = &self.outs;
         match case.call {
-            Call::Format => raw::mfs_c_format(img, img_len, k),
-            Call::Usage => raw::mfs_c_usage(img, img_len, k, a.ptr(), b.ptr(), c.ptr()),
-            Call::Room(count) => raw::mfs_c_room(img, img_len, k, count, a.ptr(), b.ptr()),
-            Call::Check => raw::mfs_c_check(img, img_len, k, work, work_len),
-            Call::Open => raw::mfs_c_open(img, img_len, k, cwd, cwd_len, path, path_len, number, name, self.len.ptr()),
+            Call::Format => raw::mfs_c_format(img, img_len, k, CODE),
+            Call::Usage => raw::mfs_c_usage(img, img_len, k, CODE, a.ptr(), b.ptr(), c.ptr()),
+            Call::Room(count) => raw::mfs_c_room(img, img_len, k, CODE, count, a.ptr(), b.ptr()),
+            Call::Check => raw::mfs_c_check(img, img_len, k, CODE, work, work_len),
+            Call::Open => raw::mfs_c_open(img, img_len, k, CODE, cwd, cwd_len, path, path_len, number, name, self.len.ptr()),
             Call::Info => {
-                raw::mfs_c_info(img, img_len, k, cwd, cwd_len, path, path_len, a.ptr(), b.ptr(), c.ptr(), name, self.len.ptr())
+                raw::mfs_c_info(img, img_len, k, CODE, cwd, cwd_len, path, path_len, a.ptr(), b.ptr(), c.ptr(), name, self.len.ptr())
             }
             Call::List => {
-                raw::mfs_c_list(img, img_len, k, cwd, cwd_len, path, path_len, case.from, buf, buf_len, a.ptr(), b.ptr())
+                raw::mfs_c_list(img, img_len, k, CODE, cwd, cwd_len, path, path_len, case.from, buf, buf_len, a.ptr(), b.ptr())
             }
-            Call::Read => raw::mfs_c_read(img, img_len, k, number, name, len, buf, buf_len, a.ptr()),
+            Call::Read => raw::mfs_c_read(img, img_len, k, CODE, number, name, len, buf, buf_len, a.ptr()),
             Call::Seek(SeekFrom::Start(to)) => raw::mfs_c_seek_start(number, name, len, to),
             Call::Seek(SeekFrom::Current(by)) => raw::mfs_c_seek_current(number, name, len, by),
             Call::Seek(SeekFrom::End(by)) => raw::mfs_c_seek_end(number, name, len, by),
@@ -125,6 +125,7 @@ impl Library {
                 img,
                 img_len,
                 k,
+                CODE,
                 cwd,
                 cwd_len,
                 path,
@@ -136,9 +137,9 @@ impl Library {
                 name,
                 self.len.ptr(),
             ),
-            Call::CreateDir => raw::mfs_c_create_dir(img, img_len, k, cwd, cwd_len, path, path_len, case.time, work, work_len),
-            Call::Delete => raw::mfs_c_delete(img, img_len, k, cwd, cwd_len, path, path_len, case.time, work, work_len),
-            Call::Write => raw::mfs_c_write(img, img_len, k, number, name, len, buf, buf_len, case.time, work, work_len, a.ptr()),
+            Call::CreateDir => raw::mfs_c_create_dir(img, img_len, k, CODE, cwd, cwd_len, path, path_len, case.time, work, work_len),
+            Call::Delete => raw::mfs_c_delete(img, img_len, k, CODE, cwd, cwd_len, path, path_len, case.time, work, work_len),
+            Call::Write => raw::mfs_c_write(img, img_len, k, CODE, number, name, len, buf, buf_len, case.time, work, work_len, a.ptr()),
         }
     }
 

@@ -44,7 +44,7 @@ impl Write {
         let (work, work_len) = (work.as_mut_ptr(), work.len());
         let refusal = unsafe {
             let (name, len) = (&handle.name, handle.len);
-            raw::mfs_c_write(img, img_len, K, &mut number, name, len, buf, buf_len, self.time, work, work_len, &mut bytes)
+            raw::mfs_c_write(img, img_len, K, CODE, &mut number, name, len, buf, buf_len, self.time, work, work_len, &mut bytes)
         };
         [handle.dir, handle.addr, handle.size, handle.position] = number;
         (if refusal == 0 { Ok(bytes) } else { Err(refusal) }, handle)

@@ -33,7 +33,7 @@ impl Card {
     fn judge(&mut self, name: &[u8]) -> bool {
         self.image[self.name_at..][..name.len()].copy_from_slice(name);
         let (mut ours, mut theirs) = ([0; 1024], [0; 1024]);
-        let checked = unsafe { raw::mfs_c_check(self.image.as_ptr(), self.image.len(), K, ours.as_mut_ptr(), ours.len()) };
+        let checked = unsafe { raw::mfs_c_check(self.image.as_ptr(), self.image.len(), K, CODE, ours.as_mut_ptr(), ours.len()) };
         assert_eq!(checked, number(&model::check(&self.image, K, &mut theirs)), "the check of a card with the name {name:x?}");
         assert_eq!(ours, theirs, "the work buffer for the name {name:x?}");
         let path = [b"/", name].concat();
@@ -46,7 +46,7 @@ impl Card {
         let (mut handle, mut name, mut len) = ([0; 4], [0; NAME_LEN], 0);
         let (image, size) = (self.image.as_ptr(), self.image.len());
         unsafe {
-            raw::mfs_c_open(image, size, K, cwd.as_ptr(), cwd.len(), path.as_ptr(), path.len(), &mut handle, &mut name, &mut len)
+            raw::mfs_c_open(image, size, K, CODE, cwd.as_ptr(), cwd.len(), path.as_ptr(), path.len(), &mut handle, &mut name, &mut len)
         }
     }
 
@@ -59,6 +59,7 @@ impl Card {
                 image,
                 size,
                 K,
+                CODE,
                 root.as_ptr(),
                 1,
                 path.as_ptr(),

@@ -6,23 +6,11 @@ use Rattle.check_bitmap.proofs.count_right.Lts as lts
 use Rattle.bits.proofs.count.Reads as count-reads
 use Rattle.block.proofs.offset.Reads as offset-reads
 use Rattle.super_block.proofs.SuperBlock.alloc_count.Reads as alloc-count-reads
-use Rattle.check_bitmap.proofs.Answers.{map-before, map-fits, limit-fits, bits-in, sum-fits, count-tested}
+use Rattle.check_bitmap.proofs.Answers.{bits-in, sum-fits, count-tested}
 
 -- src/lib.rt:67:9
 offset-requires : tie.Need-offset-requires
 offset-requires c κs = search needs
-
--- src/lib.rt:68:32
-sub-limit : tie.Need-sub-limit
-sub-limit c = search (map-before, needs)
-
--- src/lib.rt:68:17
-mul-limit : tie.Need-mul-limit
-mul-limit c = search (map-fits, needs)
-
--- src/lib.rt:64:17
-mul-limit-2 : tie.Need-mul-limit-2
-mul-limit-2 c = search (limit-fits, needs)
 
 -- src/lib.rt:69:9
 count-requires : tie.Need-count-requires
@@ -42,13 +30,4 @@ returns c = search (count-tested, needs)
 
 pub count-right-spec : {M : Type 1} → statement M
 count-right-spec =
-    tie.close
-    (tie.spec
-    offset-requires
-    sub-limit
-    mul-limit
-    mul-limit-2
-    count-requires
-    alloc-count-requires
-    add-result
-    returns)
+    tie.close (tie.spec offset-requires count-requires alloc-count-requires add-result returns)

@@ -11,7 +11,7 @@ use Rattle.delete_store.proofs.take_out.Reads as take-out-reads
 
 -- src/lib.rt:162:5
 take-out-requires : tie.Need-take-out-requires
-take-out-requires c κs = search needs
+take-out-requires c κs = (search needs, (search needs, (search needs, (search needs, search needs))))
 
 free-all-requires : tie.Need-free-all-requires
 free-all-requires c κs = search (still-fit, needs)

@@ -33,7 +33,7 @@ in-text-requires : tie.Need-in-text-requires
 in-text-requires c κs =
     let a = c .before .before .before .before .before .before .before .before .before .args in
     let s = c .before .before .before .list in
-    (answer-within (mount (a .k)) (a .img .now) (a .i) _ _ (λ j. c .before .before .before .before .before .before .before .before .shared-slice-known .given j .fits) (s .result) (s .ensures) (search needs), search needs)
+    (answer-within (mount (a .k) 0) (a .img .now) (a .i) _ _ (λ j. c .before .before .before .before .before .before .before .before .shared-slice-known .given j .fits) (s .result) (s .ensures) (search needs), search needs)
 
 -- src/lib.rt:52:1
 same-length : tie.Need-same-length
@@ -44,7 +44,7 @@ returns : tie.Need-returns
 returns c =
     let a = c .before .before .before .before .before .before .before .before .before .before .before .before .args in
     let s = c .before .before .before .before .before .before .list in
-    answer-turned (mount (a .k)) (a .img .now) (a .i) _ _ (λ j. c .before .before .before .before .before .before .before .before .before .before .before .shared-slice-known .given j .fits) (s .result) (a .out .now) _ _ (s .ensures) (c .before .before .in-text .ensures)
+    answer-turned (mount (a .k) 0) (a .img .now) (a .i) _ _ (λ j. c .before .before .before .before .before .before .before .before .before .before .before .shared-slice-known .given j .fits) (s .result) (a .out .now) _ _ (s .ensures) (c .before .before .in-text .ensures)
 
 pub page-spec : {M : Type 1} → statement M
 page-spec =

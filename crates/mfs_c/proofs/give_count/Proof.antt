@@ -6,8 +6,8 @@ use Rattle.mfs_c.proofs.give_count.Tie as tie
 enum-known-answer : tie.Need-enum-known-answer
 enum-known-answer c = search needs
 
-code-requires : tie.Need-code-requires
-code-requires c κs = search needs
+refusal-requires : tie.Need-refusal-requires
+refusal-requires c κs = search needs
 
 enum-known-answer-2 : tie.Need-enum-known-answer-2
 enum-known-answer-2 c = search needs
@@ -26,7 +26,7 @@ give-count-spec =
     tie.close
     (tie.spec
     enum-known-answer
-    code-requires
+    refusal-requires
     enum-known-answer-2
     numbers-of-requires
     returns

@@ -6,8 +6,8 @@ use Rattle.mfs_c.proofs.give_handle.Tie as tie
 enum-known-answer : tie.Need-enum-known-answer
 enum-known-answer c = search needs
 
-code-requires : tie.Need-code-requires
-code-requires c κs = search needs
+refusal-requires : tie.Need-refusal-requires
+refusal-requires c κs = search needs
 
 enum-told : tie.Need-enum-told
 enum-told c = search needs
@@ -24,4 +24,4 @@ returns-2 c = search handle-given
 pub give-handle-spec : {M : Type 1} → statement M
 give-handle-spec =
     tie.close
-    (tie.spec enum-known-answer code-requires enum-told numbers-of-requires returns returns-2)
+    (tie.spec enum-known-answer refusal-requires enum-told numbers-of-requires returns returns-2)

@@ -9,8 +9,8 @@ info-requires c κs = search needs
 enum-known-answer : tie.Need-enum-known-answer
 enum-known-answer c = search needs
 
-code-requires : tie.Need-code-requires
-code-requires c κs = search needs
+refusal-requires : tie.Need-refusal-requires
+refusal-requires c κs = search needs
 
 enum-told : tie.Need-enum-told
 enum-told c = search needs
@@ -30,7 +30,7 @@ mfs-c-info-spec =
     (tie.spec
     info-requires
     enum-known-answer
-    code-requires
+    refusal-requires
     enum-told
     byte-requires
     returns

@@ -9,8 +9,8 @@ list-requires c κs = search needs
 enum-known-listed : tie.Need-enum-known-listed
 enum-known-listed c = search needs
 
-code-requires : tie.Need-code-requires
-code-requires c κs = search needs
+refusal-requires : tie.Need-refusal-requires
+refusal-requires c κs = search needs
 
 enum-known-listed-2 : tie.Need-enum-known-listed-2
 enum-known-listed-2 c = search needs
@@ -33,7 +33,7 @@ mfs-c-list-spec =
     (tie.spec
     list-requires
     enum-known-listed
-    code-requires
+    refusal-requires
     enum-known-listed-2
     same-length
     returns

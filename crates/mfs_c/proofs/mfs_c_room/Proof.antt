@@ -5,7 +5,7 @@ use Rattle.mfs_c.proofs.mfs_c_room.Tie as tie
 use Rattle.mfs_c.proofs.mfs_c_room.Reads as reads
 use Rattle.mfs_c.proofs.mfs_c_room.Lts as lts
 use Rattle.mfs.proofs.room.Reads as room-reads
-use Rattle.mfs_c.proofs.code.Reads as code-reads
+use Rattle.mfs_c.proofs.refusal.Reads as refusal-reads
 use Rattle.mfs_c.proofs.flag.Reads as flag-reads
 
 -- src/lib.rt:156:9
@@ -17,8 +17,8 @@ enum-known-known : tie.Need-enum-known-known
 enum-known-known c = search needs
 
 -- src/lib.rt:158:32
-code-requires : tie.Need-code-requires
-code-requires c κs = search needs
+refusal-requires : tie.Need-refusal-requires
+refusal-requires c κs = search needs
 
 -- src/lib.rt:159:24
 enum-known-known-2 : tie.Need-enum-known-known-2
@@ -32,7 +32,7 @@ flag-requires c κs = search needs
 returns : tie.Need-returns
 returns c =
     let call = c .before .before .before .before .room in
-    room-refused _ _ _ _ _ (call .result) (call .ensures) _ _ (c .before .before .known .given .1) (c .code .ensures)
+    room-refused _ _ _ _ _ (call .result) (call .ensures) _ _ (c .before .before .known .given .1) (c .refusal .ensures)
 
 -- src/lib.rt:146:1
 returns-2 : tie.Need-returns-2
@@ -46,7 +46,7 @@ mfs-c-room-spec =
     (tie.spec
     room-requires
     enum-known-known
-    code-requires
+    refusal-requires
     enum-known-known-2
     flag-requires
     returns

@@ -9,8 +9,8 @@ usage-requires c κs = search needs
 enum-known-space : tie.Need-enum-known-space
 enum-known-space c = search needs
 
-code-requires : tie.Need-code-requires
-code-requires c κs = search needs
+refusal-requires : tie.Need-refusal-requires
+refusal-requires c κs = search needs
 
 enum-known-space-2 : tie.Need-enum-known-space-2
 enum-known-space-2 c = search needs
@@ -18,7 +18,7 @@ enum-known-space-2 c = search needs
 returns : tie.Need-returns
 returns c =
     let call = c .before .before .before .before .usage in
-    usage-refused _ _ _ _ _ (call .result) (call .ensures) _ _ (c .before .before .space .given .1) (c .code .ensures)
+    usage-refused _ _ _ _ _ (call .result) (call .ensures) _ _ (c .before .before .space .given .1) (c .refusal .ensures)
 
 returns-2 : tie.Need-returns-2
 returns-2 c =
@@ -28,4 +28,4 @@ returns-2 c =
 pub mfs-c-usage-spec : {M : Type 1} → statement M
 mfs-c-usage-spec =
     tie.close
-    (tie.spec usage-requires enum-known-space code-requires enum-known-space-2 returns returns-2)
+    (tie.spec usage-requires enum-known-space refusal-requires enum-known-space-2 returns returns-2)

@@ -12,8 +12,8 @@ seek-requires c κs = search needs
 enum-known-answer : tie.Need-enum-known-answer
 enum-known-answer c = search needs
 
-code-requires : tie.Need-code-requires
-code-requires c κs = search needs
+refusal-requires : tie.Need-refusal-requires
+refusal-requires c κs = search needs
 
 enum-told : tie.Need-enum-told
 enum-told c = search needs
@@ -34,7 +34,7 @@ seek-spec =
     handle-of-requires
     seek-requires
     enum-known-answer
-    code-requires
+    refusal-requires
     enum-told
     numbers-of-requires
     returns
