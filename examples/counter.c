@@ -7,7 +7,7 @@ static uint8_t work[MFS_WORK_BYTES(sizeof image)];
 
 int main(void)
 {
-    mfs_volume volume = {image, sizeof image, 8, work, sizeof work, "/"};
+    mfs_volume volume = {image, sizeof image, 8, MFS_CODE_512, work, sizeof work, "/"};
     mfs_handle water;
     char text[8];
     size_t bytes = 0;

@@ -11,7 +11,7 @@
 
 static uint8_t image[4200 * MFS_BLOCK_SIZE];
 static uint8_t work[MFS_WORK_BYTES(sizeof image)];
-static const mfs_volume volume = {image, sizeof image, 8, work, sizeof work, "/"};
+static const mfs_volume volume = {image, sizeof image, 8, MFS_CODE_512, work, sizeof work, "/"};
 
 /* assert.h's assert is nothing where NDEBUG is set. */
 #define EXPECT(condition) expect(condition, #condition, __LINE__)
@@ -105,7 +105,7 @@ static void records_are_walked(void)
 /* The calls that change nothing, each on the volume and on a const volume in the same image. */
 static void a_const_volume_answers_the_same(void)
 {
-    const mfs_const_volume by_hand = {image, sizeof image, 8, "/"};
+    const mfs_const_volume by_hand = {image, sizeof image, 8, MFS_CODE_512, "/"};
     const mfs_const_volume made = mfs_const_of(&volume);
     mfs_handle handle, other;
     mfs_entry entry, same;
@@ -115,6 +115,7 @@ static void a_const_volume_answers_the_same(void)
     size_t bytes, count;
     uint32_t next, number, enough[2], read[2];
     EXPECT(made.image == image && made.image_len == sizeof image && made.k == 8);
+    EXPECT(made.code == MFS_CODE_512);
     EXPECT(same_text(made.cwd, by_hand.cwd));
     EXPECT(mfs_const_check(&made, work, sizeof work) == MFS_OK);
     EXPECT(mfs_const_check(&made, work, 0) == MFS_SHORT_WORK);
@@ -228,6 +229,36 @@ static void every_number_has_its_words(void)
     }
 }
 
+/* An unknown size code is refused ahead of a length that no image has. */
+static void every_call_names_the_size_code(void)
+{
+    mfs_volume other = volume;
+    mfs_const_volume view;
+    mfs_handle handle;
+    mfs_entry entry;
+    uint64_t totals[3];
+    uint8_t buf[300];
+    size_t bytes;
+    uint32_t next, enough, read;
+    EXPECT(mfs_create_file(&volume, "/coded", 0, &handle) == MFS_OK);
+    other.code = 2;
+    other.image_len = 511;
+    view = mfs_const_of(&other);
+    EXPECT(mfs_format(&other) == MFS_NOT_MFS);
+    EXPECT(mfs_check(&other) == MFS_NOT_MFS);
+    EXPECT(mfs_usage(&other, totals, totals + 1, totals + 2) == MFS_NOT_MFS);
+    EXPECT(mfs_const_room(&view, 1, &enough, &read) == MFS_NOT_MFS);
+    EXPECT(mfs_const_open(&view, "/coded", &handle) == MFS_NOT_MFS);
+    EXPECT(mfs_info(&other, "/coded", &entry) == MFS_NOT_MFS);
+    EXPECT(mfs_list(&other, "/", 0, buf, sizeof buf, &bytes, &next) == MFS_NOT_MFS);
+    EXPECT(mfs_read(&other, &handle, buf, sizeof buf, &bytes) == MFS_NOT_MFS);
+    EXPECT(mfs_write(&other, &handle, "x", 1, 0) == MFS_NOT_MFS);
+    EXPECT(mfs_create_file(&other, "/new", 0, &handle) == MFS_NOT_MFS);
+    EXPECT(mfs_create_dir(&other, "/new", 0) == MFS_NOT_MFS);
+    EXPECT(mfs_delete(&other, "/coded", 0) == MFS_NOT_MFS);
+    EXPECT(mfs_delete(&volume, "/coded", 0) == MFS_OK);
+}
+
 int main(void)
 {
     EXPECT(sizeof work == 525);
@@ -243,6 +274,7 @@ int main(void)
     a_handle_is_current_while_the_size_stays();
     other_bytes_are_no_record();
     every_number_has_its_words();
+    every_call_names_the_size_code();
     EXPECT(mfs_check(&volume) == MFS_OK);
     puts("all so");
     return EXIT_SUCCESS;

@@ -20,8 +20,8 @@ static void find(void *library, const char *name, void *function)
 int main(int count, char **word)
 {
     uint32_t (*version)(void);
-    uint32_t (*format)(uint8_t *img, size_t img_len, uint32_t k);
-    uint32_t (*usage)(const uint8_t *img, size_t img_len, uint32_t k,
+    uint32_t (*format)(uint8_t *img, size_t img_len, uint32_t k, uint32_t code);
+    uint32_t (*usage)(const uint8_t *img, size_t img_len, uint32_t k, uint32_t code,
                       uint64_t *size, uint64_t *used, uint64_t *free);
     uint64_t size, used, rest;
     void *library = count == 2 ? dlopen(word[1], RTLD_NOW) : NULL;
@@ -36,8 +36,8 @@ int main(int count, char **word)
     }
     find(library, "mfs_c_format", &format);
     find(library, "mfs_c_usage", &usage);
-    if (format(image, sizeof image, 8) != MFS_OK ||
-        usage(image, sizeof image, 8, &size, &used, &rest) != MFS_OK) {
+    if (format(image, sizeof image, 8, MFS_CODE_512) != MFS_OK ||
+        usage(image, sizeof image, 8, MFS_CODE_512, &size, &used, &rest) != MFS_OK) {
         puts("refused");
         return 1;
     }

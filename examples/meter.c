@@ -131,7 +131,7 @@ static void keep_a_log(const mfs_volume *volume)
 
 int main(void)
 {
-    mfs_volume volume = {image, sizeof image, SUPERBLOCK, work, sizeof work, "/"};
+    mfs_volume volume = {image, sizeof image, SUPERBLOCK, MFS_CODE_512, work, sizeof work, "/"};
     mfs_handle none;
 
     tell("check of zeros", mfs_check(&volume), MFS_NOT_MFS);

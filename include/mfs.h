@@ -1,6 +1,6 @@
 /*
- * MFS, proved: the file system of MOROS on a lent image of 512-byte blocks. For C99 and C++98 and
- * all later ones.
+ * MFS, proved: the file system of MOROS on a lent image of 512-byte blocks, or of 1,024. For C99 and
+ * C++98 and all later ones.
  *
  * Link with libmfs_c (x86-64; made by `rt staticlib mfs_c`). It needs memcpy and memset and nothing
  * else: no allocation, no operating system, no global state.
@@ -27,7 +27,7 @@
  * - A refusal changes nothing. Image, handle, read buffer and every out parameter stay byte for
  *   byte as they were; only the work buffer may change, as the next point says.
  * - The work buffer is for the check of the whole volume, which the check itself and every changing
- *   call (create, delete, write) run first. It has one bit for each block of the data area: with n
+ *   call (create, delete, write, patch) run first. It has one bit for each block of the data area: with n
  *   blocks in the volume and D the first of its data area, ceil((n - D) / 8) bytes are used, and
  *   MFS_WORK_BYTES(image_len) is always enough. What stands in them on entry does not matter. They
  *   are zero after a call that reached the check, whatever it answers then. A call that is refused
@@ -52,12 +52,15 @@
  * After a create, a delete, or a write that adds or frees blocks, the volume may then be one that
  * the check refuses, and so every changing call (17); the bytes of the other files stand. Where
  * that must not happen, keep what the changed blocks held (a copy of the image, or a log of them
- * beside it) until all are stored, and put it back after a cut.
+ * beside it) until all are stored, and put it back after a cut. A patch needs none of that: with any
+ * of its blocks stored and the others not, the volume is well formed, and nothing but the patched
+ * bytes and the time in the entry may be either the old or the new ones.
  *
  * K is the number of the block that holds the superblock (8,192 in MOROS itself). Blocks below K
  * and block K + 1 are never touched. The size code says in which blocks K and every address count.
- * Every call takes it beside K, since the superblock cannot be found without it; MFS_CODE_512 is
- * the only one there is, and any other is refused before all else (MFS_NOT_MFS).
+ * Every call takes it beside K, since the superblock cannot be found without it. MFS_CODE_512 is that
+ * of MOROS, and MFS_CODE_1024 that of larger cards; any other is refused before all else
+ * (MFS_NOT_MFS), and so is a volume of another code than the call's where it is looked at.
  *
  * A path that starts with '/' is a full path. Another one is taken from the working directory, cwd,
  * which must start with '/' then. "." and ".." are plain names. Slashes at the end are dropped, but
@@ -65,7 +68,7 @@
  * says which bytes a path may have.
  *
  * Allocation reaches 4096 * floor(n / 4096) blocks of the data area at most, so on a volume of
- * fewer than 4,096 blocks nothing can be created: MFS_NO_ROOM.
+ * fewer than 4,096 blocks nothing can be created: MFS_NO_ROOM. In blocks of 1,024 bytes it is 8,192.
  */
 #ifndef MFS_H
 #define MFS_H
@@ -97,9 +100,9 @@ static inline const char *mfs_refusal_text(uint32_t number)
     case MFS_OK:
         return "not refused";
     case MFS_BAD_IMAGE:
-        return "the image is empty, not whole blocks of 512 bytes, too long, or too short for K";
+        return "the image is empty, not whole blocks, too long, or too short for K";
     case MFS_NOT_MFS:
-        return "block K is no MFS superblock of a known version and block size";
+        return "unknown size code, or no MFS superblock of that code and a known version in block K";
     case MFS_BAD_COUNT:
         return "the volume's block count is above the image's, or leaves no data area";
     case MFS_BAD_PATH:
@@ -130,6 +133,8 @@ static inline const char *mfs_refusal_text(uint32_t number)
         return "the work buffer has less than one bit for each block of the data area";
     case MFS_DAMAGED:
         return "the volume is damaged";
+    case MFS_PAST_END:
+        return "the bytes would go past the end of the file";
     default:
         return "no refusal has that number";
     }
@@ -144,13 +149,13 @@ static inline const char *mfs_refusal_text(uint32_t number)
 /*
  * A volume: where its image and its work buffer are, and the working directory. The caller fills it
  * in, and no call changes it. Check, usage, room, open, info, list and read leave the image as it is, and
- * only check, create, delete and write use the work buffer.
+ * only check, create, delete, write and patch use the work buffer.
  */
 typedef struct mfs_volume {
     uint8_t *image;
     size_t image_len;
     uint32_t k;    /* the superblock's block */
-    uint32_t code; /* the code of the block size: MFS_CODE_512 */
+    uint32_t code; /* the code of the block size: MFS_CODE_512 or MFS_CODE_1024 */
     uint8_t *work;
     size_t work_len; /* MFS_WORK_BYTES(image_len) is enough */
     const char *cwd; /* "/" for the root */
@@ -411,6 +416,21 @@ static inline mfs_refusal mfs_write(const mfs_volume *volume, mfs_handle *handle
 {
     size_t bytes; /* len, where the write is accepted */
     return mfs_answer(mfs_c_write(volume->image, volume->image_len, volume->k, volume->code,
+                                  handle->number, handle->name, handle->name_len,
+                                  MFS_VALUE_AS(const uint8_t *, buf), len,
+                                  time, volume->work, volume->work_len, &bytes));
+}
+
+/*
+ * Puts len bytes over those that the file has at the position, all or none; what follows them stays.
+ * To renew one record in the middle of a file, seek to it and patch.
+ */
+MFS_NONNULL MFS_MUST_USE
+static inline mfs_refusal mfs_patch(const mfs_volume *volume, mfs_handle *handle,
+                                    const void *buf, size_t len, uint64_t time)
+{
+    size_t bytes; /* len, where the patch is accepted */
+    return mfs_answer(mfs_c_patch(volume->image, volume->image_len, volume->k, volume->code,
                                   handle->number, handle->name, handle->name_len,
                                   MFS_VALUE_AS(const uint8_t *, buf), len,
                                   time, volume->work, volume->work_len, &bytes));

@@ -17,12 +17,16 @@ extern "C" {
 /* ---- Limits ---------------------------------------------------------------------------------- */
 
 #define MFS_CODE_512 0               /* size code: blocks of 512 bytes */
-#define MFS_BLOCK_SIZE 512           /* bytes of a block of that code */
-#define MFS_IMAGE_MAX_BLOCKS 8388608 /* blocks of the largest image (4 GiB) */
+#define MFS_CODE_1024 1              /* size code: blocks of 1,024 bytes */
+#define MFS_BLOCK_SIZE 512           /* bytes of a block of code 0 */
+#define MFS_IMAGE_MAX_BLOCKS 8388608 /* such blocks of the largest image (4 GiB, with any code) */
 #define MFS_NAME_MAX 255             /* bytes of the longest name */
 #define MFS_PATH_MAX 1024            /* bytes of the longest full path */
 #define MFS_FILE_MAX 2147483647      /* bytes of the largest file */
 #define MFS_DEPTH_MAX 16             /* depth of the deepest directory; the root is at 0 */
+
+/* Bytes of a block, by the size code. */
+#define MFS_BLOCK_BYTES(code) (MFS_BLOCK_SIZE << (code))
 
 /* Bytes of work buffer that are enough for any volume in an image of image_len bytes. */
 #define MFS_WORK_BYTES(image_len) (((image_len) / MFS_BLOCK_SIZE + 7) / 8)
@@ -37,9 +41,10 @@ extern "C" {
 /* Why a call is refused. N is n - K - 2: the blocks of bitmap and data area together. */
 typedef enum mfs_refusal {
     MFS_OK = 0,           /* not refused */
-    MFS_BAD_IMAGE = 1,    /* image empty, no multiple of 512, over the limit, or no block K + 2 */
+    MFS_BAD_IMAGE = 1,    /* image empty, not whole blocks, over the limit, or no block K + 2 */
     MFS_NOT_MFS = 2,      /* unknown size code; another signature, version or code in block K */
-    MFS_BAD_COUNT = 3,    /* n above the image's blocks, N below 2, or N mod 4097 = 1 */
+    MFS_BAD_COUNT = 3,    /* n above the image's, N below 2, or N mod 4097 (code 1: 8193) = 1;
+                             version 1: n above the image's, or N below 4097 */
     MFS_BAD_PATH = 4,     /* full path too long or a byte of it; a needed cwd without '/' first */
     MFS_NOT_FOUND = 5,    /* nothing of that name, or (not for create) an empty last name */
     MFS_WRONG_KIND = 6,   /* part of the path no directory; open of no file; list of no directory */
@@ -49,11 +54,12 @@ typedef enum mfs_refusal {
     MFS_TOO_LARGE = 10,   /* file would pass 2,147,483,647 bytes; open: it does */
     MFS_STALE = 11,       /* handle's own fields out of range, or no such file in its directory */
     MFS_BAD_SEEK = 12,    /* target below 0 or above the file's size */
-    MFS_EMPTY_WRITE = 13, /* write of no bytes */
+    MFS_EMPTY_WRITE = 13, /* write or patch of no bytes */
     MFS_NOT_EMPTY = 14,   /* delete: the directory has entries */
     MFS_TOO_DEEP = 15,    /* the new directory would be at depth 17 */
     MFS_SHORT_WORK = 16,  /* work buffer shorter than ceil((n - D) / 8) bytes */
-    MFS_DAMAGED = 17      /* check, changing calls: not well formed; others: damage on the way */
+    MFS_DAMAGED = 17,     /* check, changing calls: not well formed; others: damage on the way */
+    MFS_PAST_END = 19     /* patch: the bytes would go past the file's end */
 } mfs_refusal;
 
 /* What an entry is. */
@@ -248,6 +254,18 @@ uint32_t mfs_c_delete(uint8_t *img, size_t img_len, uint32_t k, uint32_t code,
  */
 MFS_NONNULL MFS_MUST_USE
 uint32_t mfs_c_write(uint8_t *img, size_t img_len, uint32_t k, uint32_t code,
+                     uint32_t number[4], const uint8_t name[255], size_t len,
+                     const uint8_t *buf, size_t buf_len,
+                     uint64_t time, uint8_t *work, size_t work_len, size_t *bytes);
+
+/*
+ * Puts all of buf over bytes that the file has already, from the position on, or nothing. The file's
+ * size, its blocks and its other bytes stay. Its entry gets the time, number the position behind
+ * buf, and bytes is buf_len. Every handle on the file that was current stays current.
+ * Refusals: 1, 2, 3, 16, 17, 13, 11 (also for a directory not reached from the root), 19.
+ */
+MFS_NONNULL MFS_MUST_USE
+uint32_t mfs_c_patch(uint8_t *img, size_t img_len, uint32_t k, uint32_t code,
                      uint32_t number[4], const uint8_t name[255], size_t len,
                      const uint8_t *buf, size_t buf_len,
                      uint64_t time, uint8_t *work, size_t work_len, size_t *bytes);

@@ -188,7 +188,7 @@ mod tests {
         for fill in [Fill::Long, Fill::Scattered, Fill::Short] {
             let volume = full(8, fill);
             let mut work = vec![0; mfs::work_len(volume.image.len())];
-            assert_eq!(mfs::check(&volume.image, K, CODE, &mut work), Ok(()));
+            assert_eq!(mfs::check(&volume.image, K, mfs::CODE_512, &mut work), Ok(()));
         }
     }
 
@@ -197,7 +197,7 @@ mod tests {
         for is_full in [false, true] {
             let image = meters(8, 1010, is_full);
             for i in [0, 999, 1000, 1009] {
-                let file = mfs::open(&image, K, CODE, b"/", meter(i).as_bytes()).expect("a meter's file");
+                let file = mfs::open(&image, K, mfs::CODE_512, b"/", meter(i).as_bytes()).expect("a meter's file");
                 assert_eq!(file.size(), COUNTER);
             }
         }

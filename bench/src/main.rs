@@ -253,7 +253,7 @@ fn write_image(holds: &str, mib: &str, file: &str) -> Option<()> {
 fn check_names_once(count: &str) -> Option<()> {
     let image = images::directory(64, count.parse().ok()?);
     let mut work = vec![0; image.len() / 4096];
-    mfs::check(&image, original_k8::K, CODE, &mut work).expect("a well-formed volume");
+    mfs::check(&image, original_k8::K, mfs::CODE_512, &mut work).expect("a well-formed volume");
     Some(())
 }
 

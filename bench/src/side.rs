@@ -2,6 +2,7 @@
 use mfs::{Handle, Kind};
 use original_k8::{File, Turn, K};
 use std::hint::black_box;
+use volumes::{Geometry, BLOCK_SIZE};
 
 /// The time that both clocks show.
 const TIME: u64 = 1_700_000_000;
@@ -38,6 +39,8 @@ pub trait Side {
     fn read(&self, file: &mut Self::Open, buf: &mut [u8]) -> usize;
     fn seek(&self, file: &mut Self::Open, position: u32);
     fn write(&mut self, file: &mut Self::Open, bytes: &[u8]);
+    /// Puts bytes over those at the position, and keeps the file's tail.
+    fn patch(&mut self, file: &mut Self::Open, bytes: &[u8]);
     fn create(&mut self, path: &str) -> Self::Open;
     fn delete(&mut self, path: &str);
 
@@ -69,20 +72,20 @@ impl Side for Ours {
     type Open = Handle;
 
     fn check(&mut self) {
-        mfs::check(&self.image, K, CODE, &mut self.work).expect("a well-formed volume");
+        mfs::check(&self.image, K, mfs::CODE_512, &mut self.work).expect("a well-formed volume");
     }
 
     fn format(&mut self) {
-        mfs::format(&mut self.image, K, CODE).expect("format");
+        mfs::format(&mut self.image, K, mfs::CODE_512).expect("format");
     }
 
     fn usage(&self) -> [u64; 3] {
-        let usage = mfs::usage(&self.image, K, CODE).expect("usage");
+        let usage = mfs::usage(&self.image, K, mfs::CODE_512).expect("usage");
         [usage.size, usage.used, usage.free]
     }
 
     fn info(&self, path: &str) -> Entry {
-        let info = mfs::info(&self.image, K, CODE, ROOT, path.as_bytes()).expect("info");
+        let info = mfs::info(&self.image, K, mfs::CODE_512, ROOT, path.as_bytes()).expect("info");
         let kind = match info.kind {
             Kind::Dir => 0,
             Kind::File => 1,
@@ -92,15 +95,15 @@ impl Side for Ours {
     }
 
     fn open(&self, path: &str) -> Handle {
-        mfs::open(&self.image, K, CODE, ROOT, path.as_bytes()).expect("open")
+        mfs::open(&self.image, K, mfs::CODE_512, ROOT, path.as_bytes()).expect("open")
     }
 
     fn list(&self, path: &str, buf: &mut [u8]) -> usize {
-        mfs::list(&self.image, K, CODE, ROOT, path.as_bytes(), 0, buf).expect("list").bytes
+        mfs::list(&self.image, K, mfs::CODE_512, ROOT, path.as_bytes(), 0, buf).expect("list").bytes
     }
 
     fn read(&self, file: &mut Handle, buf: &mut [u8]) -> usize {
-        mfs::read(&self.image, K, CODE, file, buf).expect("read")
+        mfs::read(&self.image, K, mfs::CODE_512, file, buf).expect("read")
     }
 
     fn seek(&self, file: &mut Handle, position: u32) {
@@ -108,15 +111,19 @@ impl Side for Ours {
     }
 
     fn write(&mut self, file: &mut Handle, bytes: &[u8]) {
-        mfs::write(&mut self.image, K, CODE, file, bytes, TIME, &mut self.work).expect("write");
+        mfs::write(&mut self.image, K, mfs::CODE_512, file, bytes, TIME, &mut self.work).expect("write");
+    }
+
+    fn patch(&mut self, file: &mut Handle, bytes: &[u8]) {
+        mfs::patch(&mut self.image, K, mfs::CODE_512, file, bytes, TIME, &mut self.work).expect("patch");
     }
 
     fn create(&mut self, path: &str) -> Handle {
-        mfs::create_file(&mut self.image, K, CODE, ROOT, path.as_bytes(), TIME, &mut self.work).expect("create")
+        mfs::create_file(&mut self.image, K, mfs::CODE_512, ROOT, path.as_bytes(), TIME, &mut self.work).expect("create")
     }
 
     fn delete(&mut self, path: &str) {
-        mfs::delete(&mut self.image, K, CODE, ROOT, path.as_bytes(), TIME, &mut self.work).expect("delete");
+        mfs::delete(&mut self.image, K, mfs::CODE_512, ROOT, path.as_bytes(), TIME, &mut self.work).expect("delete");
     }
 
     fn place(file: &Handle) -> [u32; 2] {
@@ -145,8 +152,16 @@ impl Original {
         self.0.load(image);
     }
 
-    /// Ends the program where the device is not the other side's image.
+    /// Ends the program where the device is not the other side's image. A block that is given back keeps its bytes on the device and is
+    /// zero there: so what is free and zero there becomes zero on the device first.
     pub fn assert_image(&self, image: &[u8], after: &str) {
+        let geometry = Geometry::of(image, K).expect("a volume");
+        let bytes = |addr: u32| &image[geometry.place(addr)..][..BLOCK_SIZE];
+        for addr in (geometry.data()..geometry.blocks()).filter(|&addr| !geometry.taken(image, addr)) {
+            if bytes(addr).iter().all(|&byte| byte == 0) {
+                self.0.wipe(addr);
+            }
+        }
         let difference = self.0.first_difference(image);
         assert_eq!(difference, None, "the images differ after: {after}; the number is that of the first block that does");
     }
@@ -189,6 +204,17 @@ impl Side for Original {
 
     fn write(&mut self, file: &mut File, bytes: &[u8]) {
         assert_eq!(file.write(&self.0, bytes), Ok(bytes.len()), "write");
+    }
+
+    /// There is no such call: the file's tail is read, and written once more behind the bytes.
+    fn patch(&mut self, file: &mut File, bytes: &[u8]) {
+        let (start, end) = (file.position(), file.position() + bytes.len() as u32);
+        let mut behind = vec![0; file.size() - end as usize];
+        self.seek(file, end);
+        assert_eq!(file.read(&self.0, &mut behind), Ok(behind.len()), "read");
+        self.seek(file, start);
+        self.write(file, &[bytes, &behind].concat());
+        self.seek(file, end);
     }
 
     fn create(&mut self, path: &str) -> File {

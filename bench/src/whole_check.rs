@@ -42,7 +42,7 @@ impl Full {
 
     /// The check, which must find the volume well formed.
     pub fn check(&mut self) {
-        mfs::check(&self.image, K, CODE, &mut self.work).expect("a well-formed volume");
+        mfs::check(&self.image, K, mfs::CODE_512, &mut self.work).expect("a well-formed volume");
     }
 
     /// The plain loop, which must come to every block.

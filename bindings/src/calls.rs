@@ -257,7 +257,15 @@ pub fn seek(handle: &mut Handle, from: SeekFrom) -> Result<(), Refusal> {
 /// Creates a file of 0 bytes at a path, and opens it. The holding directory's own entry gets its new size and the time.
 ///
 #[doc = errors!(create_file)]
-pub fn create_file(image: &mut [u8], k: u32, code: u32, cwd: &[u8], path: &[u8], time: u64, work: &mut [u8]) -> Result<Handle, Refusal> {
+pub fn create_file(
+    image: &mut [u8],
+    k: u32,
+    code: u32,
+    cwd: &[u8],
+    path: &[u8],
+    time: u64,
+    work: &mut [u8],
+) -> Result<Handle, Refusal> {
     same_version()?;
     let mut h = Handle::empty();
     // SAFETY: as the top of this file says.
@@ -285,7 +293,15 @@ pub fn create_file(image: &mut [u8], k: u32, code: u32, cwd: &[u8], path: &[u8],
 /// Creates an empty directory at a path. The holding directory's own entry gets its new size and the time.
 ///
 #[doc = errors!(create_dir)]
-pub fn create_dir(image: &mut [u8], k: u32, code: u32, cwd: &[u8], path: &[u8], time: u64, work: &mut [u8]) -> Result<(), Refusal> {
+pub fn create_dir(
+    image: &mut [u8],
+    k: u32,
+    code: u32,
+    cwd: &[u8],
+    path: &[u8],
+    time: u64,
+    work: &mut [u8],
+) -> Result<(), Refusal> {
     same_version()?;
     // SAFETY: as the top of this file says.
     let number = unsafe {
@@ -336,12 +352,57 @@ pub fn delete(image: &mut [u8], k: u32, code: u32, cwd: &[u8], path: &[u8], time
 /// has not, they stay current.
 ///
 #[doc = errors!(write)]
-pub fn write(image: &mut [u8], k: u32, code: u32, handle: &mut Handle, buf: &[u8], time: u64, work: &mut [u8]) -> Result<usize, Refusal> {
+pub fn write(
+    image: &mut [u8],
+    k: u32,
+    code: u32,
+    handle: &mut Handle,
+    buf: &[u8],
+    time: u64,
+    work: &mut [u8],
+) -> Result<usize, Refusal> {
     same_version()?;
     let mut bytes = 0usize;
     // SAFETY: as the top of this file says.
     let number = unsafe {
         raw::mfs_c_write(
+            image.as_mut_ptr(),
+            image.len(),
+            k,
+            code,
+            &mut handle.number,
+            &handle.name,
+            handle.len,
+            buf.as_ptr(),
+            buf.len(),
+            time,
+            work.as_mut_ptr(),
+            work.len(),
+            &mut bytes,
+        )
+    };
+    answer(number, bytes)
+}
+
+/// Puts all of the buffer over bytes that the file has already, from the handle's position on, or nothing. Its size, its
+/// blocks and its other bytes stay; the position moves behind the buffer, and the entry gets the time. The answer counts
+/// the bytes. Every other handle on the file that was current stays current.
+///
+#[doc = errors!(patch)]
+pub fn patch(
+    image: &mut [u8],
+    k: u32,
+    code: u32,
+    handle: &mut Handle,
+    buf: &[u8],
+    time: u64,
+    work: &mut [u8],
+) -> Result<usize, Refusal> {
+    same_version()?;
+    let mut bytes = 0usize;
+    // SAFETY: as the top of this file says.
+    let number = unsafe {
+        raw::mfs_c_patch(
             image.as_mut_ptr(),
             image.len(),
             k,

@@ -32,8 +32,9 @@ impl<'a> Entries<'a> {
 
     /// Reads the next page. The buffer has room for any record, so one without records is the end.
     fn turn(&mut self) -> Result<(), Refusal> {
-        let (image, k, cwd) = (self.volume.image(), self.volume.k(), self.volume.cwd().as_bytes());
-        let listed = crate::list(image, k, cwd, &self.path, self.from, &mut self.page)?;
+        let (image, cwd) = (self.volume.image(), self.volume.cwd().as_bytes());
+        let (k, code) = (self.volume.k(), self.volume.code());
+        let listed = crate::list(image, k, code, cwd, &self.path, self.from, &mut self.page)?;
         self.over = listed.bytes == 0;
         self.ready.extend(records(&self.page[..listed.bytes]).map(Info::from));
         self.from = listed.next;

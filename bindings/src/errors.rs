@@ -21,7 +21,7 @@ macro_rules! in_order {
 /// `#[doc = errors!(open)]` is the section of [`open`](crate::open).
 macro_rules! errors {
     (format) => {
-        in_order!(refusals!(BadImage, BadCount))
+        in_order!(refusals!(NotMfs), " (the size code alone), ", refusals!(BadImage, BadCount))
     };
     (usage) => {
         in_order!(refusals!(BadImage, NotMfs, BadCount, Damaged), " (a used count above the block count)")

@@ -6,7 +6,7 @@ use std::io::{self, Read, Seek, Write};
 ///
 /// - [`VolumeRef::file`] and [`Volume::file`] make one to read, [`Volume::file_mut`] one to write.
 /// - A write is the library's: it goes to the position, all of it or nothing, and **the file ends behind it**. To
-///   append, seek to the end.
+///   append, seek to the end. To change bytes and keep what follows them, there is [`patch`](File::patch).
 /// - Each write checks the whole volume first. Write a file's bytes at once, or through a `BufWriter` with a buffer of
 ///   many blocks.
 /// - A seek goes to 0 up to the file's size; another target is an error, and the position stays.
@@ -17,7 +17,7 @@ use std::io::{self, Read, Seek, Write};
 ///
 /// # fn main() -> std::io::Result<()> {
 /// # let mut image = vec![0; 4200 * mfs::BLOCK_SIZE];
-/// let mut volume = mfs::Volume::format(&mut image, 8, 0)?;
+/// let mut volume = mfs::Volume::format(&mut image, 8, mfs::CODE_512)?;
 /// volume.create_file("/log", 1_700_000_000)?;
 ///
 /// let mut log = volume.file_mut("/log", 1_700_000_060)?;
@@ -59,6 +59,13 @@ impl File<&mut Volume<'_>> {
     /// Sets the time of the writes that follow.
     pub fn set_time(&mut self, time: u64) {
         self.time = time;
+    }
+
+    /// Puts all of the buffer over bytes that the file has at the position, or nothing; what follows them stays.
+    ///
+    #[doc = errors!(patch)]
+    pub fn patch(&mut self, buf: &[u8]) -> Result<usize, Refusal> {
+        self.volume.patch(&mut self.handle, buf, self.time)
     }
 }
 

@@ -1,11 +1,11 @@
-//! A proved MFS file system on a lent image of 512-byte blocks: safe Rust over the exports of `libmfs_c.a`.
+//! A proved MFS file system on a lent image of blocks of 512 or 1,024 bytes: safe Rust over the exports of `libmfs_c.a`.
 //!
 //! ```
 //! use mfs::{Refusal, SeekFrom, Volume};
 //!
 //! fn main() -> Result<(), Refusal> {
 //!     let mut image = vec![0; 4200 * mfs::BLOCK_SIZE];
-//!     let mut volume = Volume::format(&mut image, 8, 0)?;
+//!     let mut volume = Volume::format(&mut image, 8, mfs::CODE_512)?;
 //!
 //!     let mut water = volume.create_file("/water", 1_700_000_000)?;
 //!     volume.write(&mut water, b"00000041", 1_700_000_060)?;
@@ -38,8 +38,10 @@
 //!   `/` then. Which bytes it may have, [`Refusal::BadPath`] says. `.` and `..` are plain names. Slashes at the end are
 //!   dropped, but not in a listing.
 //! - `k` is the number of the superblock's block (8,192 in MOROS itself). Blocks below it and the one after it are never touched.
+//! - `code` is the code of the block size, in which `k` and every address count: [`CODE_512`] or [`CODE_1024`]. The superblock
+//!   cannot be found without it, so any other is refused before all else ([`Refusal::NotMfs`]).
 //! - A time is the caller's number; it is stored and never looked at.
-//! - On a volume of fewer than 4,096 blocks nothing can be created ([`Refusal::NoRoom`]).
+//! - On a volume of fewer than 4,096 blocks, or 8,192 of 1,024 bytes, nothing can be created ([`Refusal::NoRoom`]).
 //! - The limits are [`IMAGE_BLOCKS`], [`NAME_LEN`], [`PATH_LEN`], [`FILE_LEN`] and [`DEPTH`].
 //! - At the first call the version of the library's exports is compared with the one that these bindings call,
 //!   [`EXPORTS_VERSION`]. Where it is another, every call answers [`Refusal::OtherVersion`], and no other export is
@@ -52,7 +54,9 @@
 //! that** can leave some of them stored and others not. After a create, a delete, or a write that adds or frees blocks,
 //! the volume may then be one that [`check`] refuses, and so every changing call ([`Refusal::Damaged`]); the bytes of
 //! the other files stand. Where that must not happen, keep what the changed blocks held (a copy of the image, or a log
-//! of them beside it) until all are stored, and put it back after a cut.
+//! of them beside it) until all are stored, and put it back after a cut. [`patch`] needs none of that: with any of its
+//! blocks stored and the others not, the volume is well formed, and nothing but the patched bytes and the time in the
+//! entry may be either the old or the new ones.
 //!
 //! # Features
 //!
@@ -85,8 +89,8 @@ mod view;
 mod volume;
 
 pub use calls::{
-    check, create_dir, create_file, delete, format, info, list, open, read, room, seek, usage, work_len, write, Info, Listed,
-    Room, Usage,
+    check, create_dir, create_file, delete, format, info, list, open, patch, read, room, seek, usage, work_len, write, Info,
+    Listed, Room, Usage,
 };
 pub use entries::{Entries, Walk, Walked};
 #[cfg(feature = "std")]
@@ -98,9 +102,27 @@ pub use version::EXPORTS_VERSION;
 pub use view::VolumeRef;
 pub use volume::Volume;
 
-/// Bytes of a block.
+/// The size code of blocks of 512 bytes.
+pub const CODE_512: u32 = 0;
+/// The size code of blocks of 1,024 bytes.
+///
+/// ```
+/// # fn main() -> Result<(), mfs::Refusal> {
+/// let mut image = vec![0; 8300 * 1024];
+/// let mut volume = mfs::Volume::format(&mut image, 8, mfs::CODE_1024)?;
+/// volume.write_file("/water", &[0; 1021], 1_700_000_000)?;
+/// // 12 blocks before the data area, the root's, and two for the file: a block has room for 1,020 of its bytes.
+/// assert_eq!(volume.usage()?.used, 15 * 1024);
+/// // Without its size code the card is none.
+/// let other = mfs::VolumeRef::new(&image, 8, mfs::CODE_512);
+/// assert_eq!(other.check(), Err(mfs::Refusal::NotMfs));
+/// # Ok(())
+/// # }
+/// ```
+pub const CODE_1024: u32 = 1;
+/// Bytes of a block of code 0.
 pub const BLOCK_SIZE: usize = 512;
-/// Blocks of the largest image: 4 GiB.
+/// Such blocks of the largest image: 4 GiB, with any code.
 pub const IMAGE_BLOCKS: usize = 8_388_608;
 /// Bytes of the longest name.
 pub const NAME_LEN: usize = 255;

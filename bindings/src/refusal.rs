@@ -9,11 +9,12 @@ use core::fmt;
 #[derive(Clone, Copy, Debug, PartialEq, Eq, Hash)]
 #[non_exhaustive]
 pub enum Refusal {
-    /// 1: the image is empty, no multiple of 512, over the limit, or has no block K + 2.
+    /// 1: the image is empty, no multiple of the block size, over the limit, or has no block K + 2.
     BadImage,
-    /// 2: signature, version or size code.
+    /// 2: a size code that is not known; or signature, version or size code in block K.
     NotMfs,
-    /// 3: the volume's block count n is above the image's, or N = n - K - 2 is below 2 or 1 modulo 4097.
+    /// 3: the volume's block count n is above the image's, or N = n - K - 2 is below 2 or 1 modulo 4097 (8193 with blocks of
+    /// 1,024 bytes).
     BadCount,
     /// 4: the full path's length, a byte of it that no path may have (the words of this refusal say which), or a
     /// working directory that is needed and does not start with `/`.
@@ -114,8 +115,8 @@ impl Refusal {
 impl fmt::Display for Refusal {
     fn fmt(&self, f: &mut fmt::Formatter<'_>) -> fmt::Result {
         f.pad(match self {
-            Refusal::BadImage => "the image is empty, not whole blocks of 512 bytes, too long, or too short for K",
-            Refusal::NotMfs => "block K is no MFS superblock of a known version and block size",
+            Refusal::BadImage => "the image is empty, not whole blocks, too long, or too short for K",
+            Refusal::NotMfs => "unknown size code, or no MFS superblock of that code and a known version in block K",
             Refusal::BadCount => "the volume's block count is above the image's, or leaves no data area",
             Refusal::BadPath => "the path is over 1024 bytes, is not UTF-8 or has a control byte, or no '/' first",
             Refusal::NotFound => "nothing has that name, or the name is empty",

@@ -11,8 +11,8 @@ use core::fmt;
 /// ```
 /// # fn main() -> Result<(), mfs::Refusal> {
 /// # let mut image = vec![0; 4200 * mfs::BLOCK_SIZE];
-/// # mfs::Volume::format(&mut image, 8, 0)?.write_file("/water", b"00000041", 0)?;
-/// let volume = mfs::VolumeRef::new(&image, 8, 0);
+/// # mfs::Volume::format(&mut image, 8, mfs::CODE_512)?.write_file("/water", b"00000041", 0)?;
+/// let volume = mfs::VolumeRef::new(&image, 8, mfs::CODE_512);
 /// assert_eq!(volume.read_file("/water")?, b"00000041");
 /// assert!(!volume.exists("/gas")?);
 /// # Ok(())

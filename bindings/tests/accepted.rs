@@ -173,7 +173,7 @@ fn a_volume_does_what_the_functions_do() {
     assert_eq!(volume.usage(), mfs::usage(&by_functions, K, CODE));
     assert_eq!(volume.list("/d"), Ok(vec![info_of(Kind::File, 3, 3, b"f")]));
     assert_eq!(volume.check(), Ok(()));
-    assert_eq!(format!("{volume:?}"), r#"Volume { k: 8, cwd: "/d", .. }"#);
+    assert_eq!(format!("{volume:?}"), r#"Volume { k: 8, code: 0, cwd: "/d", .. }"#);
 }
 
 #[test]

@@ -109,7 +109,18 @@ fn list(image: &[u8], path: &[u8], buf: &mut [u8], outs: &mut Outs) -> u32 {
 
 fn read(image: &[u8], name: &[u8; NAME_LEN], len: usize, buf: &mut [u8], outs: &mut Outs) -> u32 {
     unsafe {
-        raw::mfs_c_read(image.as_ptr(), image.len(), K, CODE, &mut outs.number, name, len, buf.as_mut_ptr(), buf.len(), &mut outs.bytes)
+        raw::mfs_c_read(
+            image.as_ptr(),
+            image.len(),
+            K,
+            CODE,
+            &mut outs.number,
+            name,
+            len,
+            buf.as_mut_ptr(),
+            buf.len(),
+            &mut outs.bytes,
+        )
     }
 }
 

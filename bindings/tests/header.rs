@@ -84,7 +84,10 @@ fn the_exports_have_one_version() {
 #[test]
 fn limits_are_the_same() {
     let limit = |name: &str| between(EXPORTS, &format!("#define {name} "), " ").trim().parse::<usize>().unwrap();
+    assert_eq!(limit("MFS_CODE_512"), mfs::CODE_512 as usize);
+    assert_eq!(limit("MFS_CODE_1024"), mfs::CODE_1024 as usize);
     assert_eq!(limit("MFS_BLOCK_SIZE"), mfs::BLOCK_SIZE);
+    assert_eq!(between(EXPORTS, "#define MFS_BLOCK_BYTES(code) ", "\n"), "(MFS_BLOCK_SIZE << (code))");
     assert_eq!(limit("MFS_IMAGE_MAX_BLOCKS"), mfs::IMAGE_BLOCKS);
     assert_eq!(limit("MFS_NAME_MAX"), mfs::NAME_LEN);
     assert_eq!(limit("MFS_PATH_MAX"), mfs::PATH_LEN);

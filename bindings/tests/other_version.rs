@@ -10,7 +10,7 @@ const PROGRAM: &str = r#"fn main() {
     let mut image = vec![7; 4200 * mfs::BLOCK_SIZE];
     let mut handle = mfs::Handle::from_parts(0, 0, 0, 0, [0; mfs::NAME_LEN], 1);
     let other = mfs::Refusal::OtherVersion(mfs::EXPORTS_VERSION + 1);
-    let mut volume = mfs::Volume::new(&mut image, 8, CODE);
+    let mut volume = mfs::Volume::new(&mut image, 8, mfs::CODE_512);
     assert_eq!(volume.check(), Err(other));
     assert_eq!(volume.usage(), Err(other));
     assert_eq!(volume.open("/x"), Err(other));
@@ -22,7 +22,7 @@ const PROGRAM: &str = r#"fn main() {
     assert_eq!(volume.create_dir("/x", 1), Err(other));
     assert_eq!(volume.delete("/x", 1), Err(other));
     assert_eq!(volume.write(&mut handle, b"x", 1), Err(other));
-    println!("{}", mfs::Volume::format(&mut image, 8, CODE).unwrap_err());
+    println!("{}", mfs::Volume::format(&mut image, 8, mfs::CODE_512).unwrap_err());
 }
 "#;
 
@@ -60,5 +60,5 @@ fn no_export_of_another_version_is_called() {
     let mut cargo = Command::new(env!("CARGO"));
     cargo.args(["run", "--quiet", "--offline", "--target-dir", "target"]);
     let printed = run(cargo.current_dir(&folder).env("MFS_LIB_DIR", &folder));
-    assert_eq!(printed, "the library's exports have version 2, these bindings call version 1\n");
+    assert_eq!(printed, "the library's exports have version 3, these bindings call version 2\n");
 }

@@ -123,6 +123,29 @@ fn refusal_2_no_superblock() {
     }
 }
 
+/// Ahead of 1: without a size nothing can be said of the image.
+#[test]
+fn refusal_2_an_unknown_size_code_before_all_others() {
+    for image in [listed(), Vec::new(), vec![0; 511]] {
+        for code in [2, u32::MAX] {
+            let (mut work, mut handle) = (work_for(&image), some_handle());
+            assert_refused(&image, Refusal::NotMfs, |image| mfs::format(image, K, code));
+            assert_refused(&image, Refusal::NotMfs, |image| mfs::usage(image, K, code));
+            assert_refused(&image, Refusal::NotMfs, |image| mfs::room(image, K, code, 0));
+            assert_refused(&image, Refusal::NotMfs, |image| mfs::check(image, K, code, &mut work));
+            assert_refused(&image, Refusal::NotMfs, |image| mfs::open(image, K, code, b"/", b"/m1"));
+            assert_refused(&image, Refusal::NotMfs, |image| mfs::info(image, K, code, b"/", b"/m1"));
+            assert_refused(&image, Refusal::NotMfs, |image| mfs::list(image, K, code, b"/", b"/", 0, &mut [0; 300]));
+            assert_refused(&image, Refusal::NotMfs, |image| mfs::read(image, K, code, &mut handle, &mut [0; 3]));
+            assert_refused(&image, Refusal::NotMfs, |image| mfs::create_file(image, K, code, b"/", b"/new", 9, &mut work));
+            assert_refused(&image, Refusal::NotMfs, |image| mfs::create_dir(image, K, code, b"/", b"/new", 9, &mut work));
+            assert_refused(&image, Refusal::NotMfs, |image| mfs::delete(image, K, code, b"/", b"/m1", 9, &mut work));
+            assert_refused(&image, Refusal::NotMfs, |image| mfs::write(image, K, code, &mut handle, b"abc", 9, &mut work));
+            assert_eq!(handle, some_handle());
+        }
+    }
+}
+
 #[test]
 fn refusal_3_a_block_count_without_a_layout() {
     for blocks in [11, 4108] {

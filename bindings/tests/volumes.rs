@@ -28,7 +28,7 @@ fn a_view_answers_what_the_functions_do() {
     let mut buf = [7; 5];
     assert_eq!(moved.read(&mut moved.open("f").unwrap(), &mut buf), Ok(3));
     assert_eq!(&buf, b"abc\x07\x07");
-    assert_eq!(format!("{moved:?}"), r#"VolumeRef { k: 8, cwd: "/d", .. }"#);
+    assert_eq!(format!("{moved:?}"), r#"VolumeRef { k: 8, code: 0, cwd: "/d", .. }"#);
 
     let mut same = image.clone();
     let mut by_volume = Volume::new(&mut same, K, CODE);

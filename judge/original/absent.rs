@@ -32,6 +32,14 @@ impl Turn {
         match *self {}
     }
 
+    pub fn block(&self, _addr: u32) -> Vec<u8> {
+        match *self {}
+    }
+
+    pub fn wipe(&self, _addr: u32) {
+        match *self {}
+    }
+
     pub fn set_time(&self, _time: u64) {
         match *self {}
     }

@@ -57,6 +57,16 @@ impl Turn {
         first
     }
 
+    /// One block of the device.
+    pub fn block(&self, addr: u32) -> Vec<u8> {
+        Device::block(addr).to_vec()
+    }
+
+    /// Makes one block of the device zero, which no call of the original does.
+    pub fn wipe(&self, addr: u32) {
+        Device::wipe(addr);
+    }
+
     /// The clock stands at this time from now on.
     pub fn set_time(&self, time: u64) {
         clk::set_time(time);

@@ -4,7 +4,7 @@ _mfs() {
     local word=${COMP_WORDS[COMP_CWORD]} before=${COMP_WORDS[COMP_CWORD - 1]} command='' i
     case $before in
     -k) mapfile -t COMPREPLY < <(compgen -W 'auto 0 1 8 8192' -- "$word") && return ;;
-    --code) mapfile -t COMPREPLY < <(compgen -W '0 auto' -- "$word") && return ;;
+    --code) mapfile -t COMPREPLY < <(compgen -W '0 1 auto' -- "$word") && return ;;
     --time | --blocks) return ;;
     --svg) mapfile -t COMPREPLY < <(compgen -f -- "$word") && return ;;
     esac

@@ -20,6 +20,8 @@ pub enum Place {
 #[derive(Clone, Debug)]
 pub struct Options {
     pub place: Place,
+    /// The card's size code; none where it is found with the mark, or 0 for a format.
+    pub code: Option<u8>,
     pub json: bool,
     pub quiet: bool,
     pub progress: bool,
@@ -78,7 +80,7 @@ pub fn wants_json(words: &[OsString]) -> bool {
 pub fn parse(words: Vec<OsString>) -> Result<Call, Failure> {
     let mut parser = Parser {
         command: None,
-        options: Options { place: Place::Usual, json: false, quiet: false, progress: true },
+        options: Options { place: Place::Usual, code: None, json: false, quiet: false, progress: true },
         flags: Flags::default(),
         words: Vec::new(),
     };
@@ -162,7 +164,7 @@ impl Parser {
         match name {
             "-k" if text == "auto" => self.options.place = Place::Auto,
             "-k" => self.options.place = Place::Block(self.number(name, &text)?),
-            "--code" => code::accept(&text)?,
+            "--code" => self.options.code = code::accept(&text)?,
             _ => {
                 self.must_take(name)?;
                 match name {

@@ -1,22 +1,35 @@
-//! The size code of a card's blocks. The library knows code 0, blocks of 512 bytes; code 1, blocks of 1,024, comes with it.
+//! The size code of a card's blocks: 0 is blocks of 512 bytes, 1 of 1,024.
 use crate::failure::Failure;
 
-/// Takes `--code`: 0 and auto mean blocks of 512 bytes today.
-pub fn accept(word: &str) -> Result<(), Failure> {
-    let reason = match word {
-        "0" | "auto" => return Ok(()),
-        "1" => {
-            "--code 1 (blocks of 1024 bytes) is not supported yet: this version knows --code 0 (blocks of 512 bytes)".to_string()
-        }
-        other => format!("--code takes 0, 1 or auto, not '{other}'"),
-    };
-    Err(Failure::Usage { reason, command: None })
+/// The codes that the library takes.
+pub const CODES: [u8; 2] = [0, 1];
+
+/// What `--code` says: a code, or none where the card itself is to say it.
+pub fn accept(word: &str) -> Result<Option<u8>, Failure> {
+    match word {
+        "auto" => Ok(None),
+        "0" => Ok(Some(0)),
+        "1" => Ok(Some(1)),
+        other => Err(Failure::Usage { reason: format!("--code takes 0, 1 or auto, not '{other}'"), command: None }),
+    }
 }
 
-/// What to say of a card with another size code than 0.
-pub fn explain(code: u8) -> String {
+/// The words beside a card's size code.
+pub fn words(code: u8) -> &'static str {
     match code {
-        1 => "size code 1 (blocks of 1024 bytes) is not supported yet".to_string(),
-        code => format!("size code {code} is unknown"),
+        0 => "size code (0: 512 bytes)",
+        _ => "size code (1: 1024 bytes)",
+    }
+}
+
+/// What to say of a superblock at block `k` with another size code than the one that it was looked for by.
+pub fn explain(found: u8, k: u32, asked: u8) -> (String, &'static str) {
+    if CODES.contains(&found) {
+        (
+            format!("the superblock at block {k} has size code {found}, and not {asked}"),
+            "use another --code or -k, or leave them out",
+        )
+    } else {
+        (format!("size code {found} is unknown"), "a newer tool may read it")
     }
 }

@@ -6,7 +6,7 @@ use crate::failure::{Failure, Tally};
 use crate::human;
 use crate::image::Reading;
 use crate::json::Object;
-use crate::layout::{file_blocks, Geometry};
+use crate::layout::Geometry;
 use crate::library::{Entry, Kind};
 use crate::listing::{join, Budget};
 use crate::output::Output;
@@ -148,20 +148,20 @@ fn put_bytes(change: &mut Change, path: &[u8], bytes: &[u8]) -> Result<(), Failu
 
 /// Refuses what would not fit (9) or be too large (10) before the first call changes anything.
 fn must_have_room(change: &Change, path: &[u8], old: Option<&Entry>, size: u64) -> Result<(), Failure> {
-    let (image, k) = (change.image.bytes(), change.image.k);
+    let (image, mount) = (change.image.bytes(), change.image.mount);
     let subject = advice::subject(&change.image.name, path);
     if size > FILE_LIMIT {
         return Err(too_large(&subject, size));
     }
     let needs = match old {
-        Some(old) => file_blocks(size).saturating_sub(file_blocks(u64::from(old.size))),
-        None => file_blocks(size) - 1 + advice::needs_to_create(image, k, path),
+        Some(old) => mount.file_blocks(size).saturating_sub(mount.file_blocks(u64::from(old.size))),
+        None => mount.file_blocks(size) - 1 + advice::needs_to_create(image, mount, path),
     };
-    let in_reach = Geometry::of(image, k).map_or(0, |geometry| geometry.free_in_reach(image));
+    let in_reach = Geometry::of(image, mount).map_or(0, |geometry| geometry.free_in_reach(image));
     // A name that is taken by something else, or no name, is for the library to refuse.
     let is_for_the_library = old.is_none() && !can_be_created(change, path);
     if needs > u64::from(in_reach) && !is_for_the_library {
-        return Err(advice::no_room(image, k, &subject, needs));
+        return Err(advice::no_room(image, mount, &subject, needs));
     }
     Ok(())
 }

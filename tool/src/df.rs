@@ -4,7 +4,6 @@ use crate::failure::Failure;
 use crate::human;
 use crate::image::Reading;
 use crate::json::Object;
-use crate::layout::BLOCK;
 use crate::output::Output;
 
 pub fn df(call: &Call) -> Result<(), Failure> {
@@ -15,14 +14,14 @@ pub fn df(call: &Call) -> Result<(), Failure> {
     let in_reach = u64::from(geometry.free_in_reach(image.bytes()));
     if out.json {
         let object = Object::new().text("image", &image.name).number("size", usage.size).number("used", usage.used);
-        let object = object.number("free", usage.free).number("free_in_reach", in_reach * BLOCK as u64);
+        let object = object.number("free", usage.free).number("free_in_reach", in_reach * image.mount.block() as u64);
         out.object(&object.number("blocks_in_reach", in_reach))?;
         return out.end();
     }
     out.line("    Size     Used     Free  In reach  Use%  Image")?;
     let [size, used, free] = [usage.size, usage.used, usage.free].map(human::size);
     let percent = (usage.used * 100).div_ceil(usage.size.max(1));
-    let reach = human::size(in_reach * BLOCK as u64);
+    let reach = human::size(in_reach * image.mount.block() as u64);
     out.line(&format!("{size:>8} {used:>8} {free:>8} {reach:>9} {percent:>4}%  {}", image.name))?;
     out.line(&format!("{} in reach of allocation", human::count(in_reach, "block")))?;
     out.end()

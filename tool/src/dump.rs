@@ -4,7 +4,7 @@ use crate::failure::Failure;
 use crate::human;
 use crate::image::Reading;
 use crate::json::{hex, Object};
-use crate::layout::{self, Geometry, Superblock, BLOCK};
+use crate::layout::{Geometry, Superblock};
 use crate::output::Output;
 
 pub fn dump(call: &Call) -> Result<(), Failure> {
@@ -26,21 +26,22 @@ pub fn dump(call: &Call) -> Result<(), Failure> {
 }
 
 fn dump_superblock(image: &Reading, out: &mut Output) -> Result<(), Failure> {
-    let superblock = Superblock::at(image.bytes(), image.k).ok_or_else(|| image.geometry().expect_err("no such block"))?;
+    let superblock = Superblock::at(image.bytes(), image.mount).ok_or_else(|| image.geometry().expect_err("no such block"))?;
     let Superblock { signature, version, size_code, blocks, used, first_stray } = superblock;
     if out.json {
-        let object = Object::new().number("superblock", image.k).bytes("signature", &signature).number("version", version);
+        let object = Object::new().number("superblock", image.mount.k).bytes("signature", &signature).number("version", version);
         let object = object.number("size_code", size_code).number("blocks", blocks).number("used", used);
         return out.object(&object.flag("rest_is_zero", first_stray.is_none()));
     }
-    out.line(&format!("superblock at block {}", image.k))?;
+    out.line(&format!("superblock at block {}", image.mount.k))?;
     out.line(&format!("  bytes 0-7    signature    {}", human::name(&signature)))?;
     out.line(&format!("  byte  8      version      {version}"))?;
     out.line(&format!("  byte  9      size code    {size_code}"))?;
     out.line(&format!("  bytes 10-13  block count  {blocks}"))?;
     out.line(&format!("  bytes 14-17  used count   {used}"))?;
     let rest = first_stray.map_or("zero".to_string(), |byte| format!("not zero at byte {byte}"));
-    out.line(&format!("  bytes 18-511              {rest}"))
+    let last = image.mount.block() - 1;
+    out.line(&format!("  {:<13}             {rest}", format!("bytes 18-{last}")))
 }
 
 /// Runs of equal bits. Blocks beyond the reach are free and can't be allocated.
@@ -49,7 +50,8 @@ fn dump_bitmap(image: &Reading, geometry: Geometry, out: &mut Output) -> Result<
     let state = |index: u32| match bit(index) {
         true => "used",
         false if index < geometry.reach() => "free",
-        false => "out of reach",
+        false if index < geometry.bits() => "out of reach",
+        false => "without a bit",
     };
     if !out.json {
         let (first, last) = (geometry.bitmap(), geometry.data() - 1);
@@ -71,12 +73,12 @@ fn dump_bitmap(image: &Reading, geometry: Geometry, out: &mut Output) -> Result<
 
 /// Sixteen bytes a line, as `hexdump -C` has them.
 fn dump_block(call: &Call, image: &Reading, addr: u32, out: &mut Output) -> Result<(), Failure> {
-    let blocks = image.bytes().len() / BLOCK;
-    let block = layout::block_at(image.bytes(), addr);
+    let blocks = image.mount.blocks_of(image.bytes());
+    let block = image.mount.block_at(image.bytes(), addr);
     let block = block.ok_or_else(|| call.usage(format!("there is no block {addr}: the image has {blocks}")))?;
     if out.json {
         return out.object(
-            &Object::new().number("block", addr).number("next", layout::next(image.bytes(), addr)).text("hex", &hex(block)),
+            &Object::new().number("block", addr).number("next", image.mount.next(image.bytes(), addr)).text("hex", &hex(block)),
         );
     }
     let part = part_of(image, addr);
@@ -95,15 +97,20 @@ fn spaced(bytes: &[u8]) -> String {
 
 /// What a block is by its place.
 fn part_of(image: &Reading, addr: u32) -> String {
-    let Some(geometry) = Geometry::of(image.bytes(), image.k) else {
+    let Some(geometry) = Geometry::of(image.bytes(), image.mount) else {
         return "no volume around it".to_string();
     };
     if geometry.holds(addr) {
-        let state = if geometry.bit(image.bytes(), addr - geometry.data()) { "used" } else { "free" };
-        return format!("data area, {state}, next {}", layout::next(image.bytes(), addr));
+        let index = addr - geometry.data();
+        let state = match geometry.bit(image.bytes(), index) {
+            true => "used",
+            false if index < geometry.bits() => "free",
+            false => "without a bit",
+        };
+        return format!("data area, {state}, next {}", image.mount.next(image.bytes(), addr));
     }
     let part = match addr {
-        addr if addr == geometry.k => "superblock",
+        addr if addr == geometry.mount.k => "superblock",
         addr if (geometry.bitmap()..geometry.data()).contains(&addr) => "bitmap",
         addr if addr < geometry.blocks => "not part of the volume",
         _ => "behind the volume",

@@ -190,7 +190,8 @@ const OPTIONS: &str = "\
 Options, anywhere on the line:
   -k BLOCK|auto   the superblock's block; auto looks for it and says what it took, and so it is if -k is left out,
                   but without a word where it is block 8
-  --code 0|auto   the card's size code: 0 is blocks of 512 bytes, and the only one yet
+  --code 0|1|auto the card's size code: 0 is blocks of 512 bytes, 1 of 1024; auto goes by the card's own mark, and so it
+                  is if --code is left out, but a format takes 0 then
   --json          one object a line
   -q, --quiet     no progress bar, and no remark but that a change was rolled back
   --no-progress   no progress bar";

@@ -1,23 +1,81 @@
 //! Where the parts of a volume lie and what stands in them, read plainly. The tool uses this to find a volume, to explain and to
 //! draw; what a card holds is for the proved library to say.
 
-pub const BLOCK: usize = 512;
-/// Bytes of a linked block after the address of the next.
-pub const CAPACITY: usize = BLOCK - 4;
+/// A block of the smallest size, in which files are stored and marks are looked for.
+pub const SECTOR: usize = 512;
+/// Bytes of the largest image.
+pub const IMAGE_BYTES: u64 = 1 << 32;
+/// Bytes of a linked block before its data: the address of the next.
+const LINK: usize = 4;
 /// Bytes of an entry before its name.
 pub const HEADER: usize = 18;
-/// Where the last entry of a block ends at the latest.
-const LAST_END: usize = CAPACITY - 1;
-/// Bits of a bitmap block.
-const BITS: u32 = 8 * BLOCK as u32;
-/// Blocks of the largest image.
-pub const IMAGE_BLOCKS: u64 = 8_388_608;
-/// Below so many blocks nothing is in reach of allocation.
-pub const SMALLEST_USEFUL: u32 = BITS;
 /// Where a format puts the superblock unless it is told otherwise.
 pub const USUAL_K: u32 = 8;
 pub const SIGNATURE: &[u8; 8] = b"MOROS FS";
-pub const VERSION: u8 = 2;
+/// The version that a format writes.
+const NEWEST: u8 = 2;
+/// The versions that the library takes.
+pub const VERSIONS: &[u8] = &[NEWEST];
+
+/// Where a superblock is: its block, and the size code in which blocks are counted.
+#[derive(Clone, Copy, Debug, PartialEq, Eq)]
+pub struct Mount {
+    pub k: u32,
+    pub code: u8,
+}
+
+impl Mount {
+    /// Bytes of a block.
+    pub fn block(self) -> usize {
+        SECTOR << self.code
+    }
+
+    /// Bits of a bitmap block. Below so many blocks nothing is in reach of allocation.
+    pub fn bits(self) -> u32 {
+        8 * self.block() as u32
+    }
+
+    /// Blocks of the largest image.
+    pub fn most_blocks(self) -> u64 {
+        IMAGE_BYTES / self.block() as u64
+    }
+
+    /// Blocks of an image.
+    pub fn blocks_of(self, image: &[u8]) -> u32 {
+        (image.len() / self.block()) as u32
+    }
+
+    /// Blocks of a file of that size.
+    pub fn file_blocks(self, size: u64) -> u64 {
+        size.div_ceil((self.block() - LINK) as u64).max(1)
+    }
+
+    /// The block of that number; none past the image's end.
+    pub fn block_at(self, image: &[u8], addr: u32) -> Option<&[u8]> {
+        let start = addr as usize * self.block();
+        image.get(start..start + self.block())
+    }
+
+    /// The block of a number that is known to be inside the image.
+    pub fn block_in(self, image: &[u8], addr: u32) -> &[u8] {
+        self.block_at(image, addr).expect("a block of the image")
+    }
+
+    /// The address that a linked block leads to; 0 ends a chain.
+    pub fn next(self, image: &[u8], addr: u32) -> u32 {
+        be32(self.block_in(image, addr))
+    }
+
+    /// What stands in a linked block after the address of the next.
+    pub fn data(self, image: &[u8], addr: u32) -> &[u8] {
+        &self.block_in(image, addr)[LINK..]
+    }
+
+    /// The sectors of a block.
+    pub fn sectors(self, addr: u32) -> std::ops::Range<u32> {
+        addr << self.code..(addr + 1) << self.code
+    }
+}
 
 /// The fields of a superblock, whether or not they make sense.
 #[derive(Clone, Copy, Debug, PartialEq, Eq)]
@@ -45,9 +103,9 @@ impl Superblock {
         }
     }
 
-    /// Block `k` of an image, where there is one.
-    pub fn at(image: &[u8], k: u32) -> Option<Superblock> {
-        block_at(image, k).map(Superblock::of_block)
+    /// The block of an image that is named, where there is one.
+    pub fn at(image: &[u8], mount: Mount) -> Option<Superblock> {
+        mount.block_at(image, mount.k).map(Superblock::of_block)
     }
 
     pub fn is_marked(&self) -> bool {
@@ -55,34 +113,51 @@ impl Superblock {
     }
 }
 
-/// Where the parts of a volume of `blocks` blocks with its superblock in block `k` lie.
+/// Where the parts of a volume of `blocks` blocks with its superblock where the mount says lie.
 #[derive(Clone, Copy, Debug, PartialEq, Eq)]
 pub struct Geometry {
-    pub k: u32,
+    pub version: u8,
+    pub mount: Mount,
     pub blocks: u32,
 }
 
 impl Geometry {
-    /// None where no volume can be: fewer than two blocks from the bitmap on, or one over by 4,097.
-    pub fn new(k: u32, blocks: u32) -> Option<Geometry> {
-        let from_bitmap = blocks.checked_sub(k.checked_add(2)?)?;
-        let fits = from_bitmap >= 2 && from_bitmap % (BITS + 1) != 1 && u64::from(blocks) <= IMAGE_BLOCKS;
-        fits.then_some(Geometry { k, blocks })
+    /// The volume that a format makes.
+    pub fn new(mount: Mount, blocks: u32) -> Option<Geometry> {
+        Geometry::of_version(NEWEST, mount, blocks)
     }
 
-    /// The volume that the superblock in block `k` describes, if the image has all of it.
-    pub fn of(image: &[u8], k: u32) -> Option<Geometry> {
-        let geometry = Geometry::new(k, Superblock::at(image, k)?.blocks)?;
-        (geometry.blocks as usize <= image.len() / BLOCK).then_some(geometry)
+    /// None where no volume can be: fewer than two blocks from the bitmap on, or one over by a bitmap block and the blocks of its
+    /// bits; of version 1 fewer than these.
+    pub fn of_version(version: u8, mount: Mount, blocks: u32) -> Option<Geometry> {
+        let from_bitmap = blocks.checked_sub(mount.k.checked_add(2)?)?;
+        let fits = match version {
+            1 => from_bitmap > mount.bits(),
+            _ => from_bitmap >= 2 && from_bitmap % (mount.bits() + 1) != 1,
+        };
+        (fits && u64::from(blocks) <= mount.most_blocks()).then_some(Geometry { version, mount, blocks })
+    }
+
+    /// The volume that the superblock describes, if the image has all of it.
+    pub fn of(image: &[u8], mount: Mount) -> Option<Geometry> {
+        let superblock = Superblock::at(image, mount)?;
+        let geometry = Geometry::of_version(superblock.version, mount, superblock.blocks)?;
+        (geometry.blocks <= mount.blocks_of(image)).then_some(geometry)
     }
 
     pub fn bitmap(self) -> u32 {
-        self.k + 2
+        self.mount.k + 2
     }
 
     /// The first block of the data area, where the root directory begins.
     pub fn data(self) -> u32 {
-        self.bitmap() + (self.blocks - self.bitmap()).div_ceil(BITS + 1)
+        let from_bitmap = self.blocks - self.bitmap();
+        self.bitmap()
+            + match self.version {
+                // Rounded down, so that the last data blocks may have no bit.
+                1 => from_bitmap / (self.mount.bits() + 1),
+                _ => from_bitmap.div_ceil(self.mount.bits() + 1),
+            }
     }
 
     pub fn data_blocks(self) -> u32 {
@@ -91,12 +166,12 @@ impl Geometry {
 
     /// So many blocks from the start of the data area can be allocated.
     pub fn reach(self) -> u32 {
-        self.data_blocks().min(self.blocks / BITS * BITS)
+        self.data_blocks().min(self.blocks / self.mount.bits() * self.mount.bits()).min(self.bits())
     }
 
-    /// Bits of all bitmap blocks: as many as data blocks, or more.
+    /// Bits of all bitmap blocks: as many as data blocks, or more, but on a card of version 1.
     pub fn bits(self) -> u32 {
-        (self.data() - self.bitmap()) * BITS
+        (self.data() - self.bitmap()) * self.mount.bits()
     }
 
     pub fn holds(self, addr: u32) -> bool {
@@ -105,12 +180,12 @@ impl Geometry {
 
     /// The bitmap's bytes, one bit a block of the data area from the lowest bit of the first byte on.
     pub fn bitmap_bytes(self, image: &[u8]) -> &[u8] {
-        &image[self.bitmap() as usize * BLOCK..self.data() as usize * BLOCK]
+        &image[self.bitmap() as usize * self.mount.block()..self.data() as usize * self.mount.block()]
     }
 
-    /// Whether the bit of that index is set; an index may be past the data area's last.
+    /// Whether the bit of that index is set; an index may be past the data area's last, or past the last bit.
     pub fn bit(self, image: &[u8], index: u32) -> bool {
-        self.bitmap_bytes(image)[index as usize / 8] >> (index % 8) & 1 == 1
+        index < self.bits() && self.bitmap_bytes(image)[index as usize / 8] >> (index % 8) & 1 == 1
     }
 
     /// Clear bits among the first `indexes`.
@@ -163,26 +238,26 @@ pub fn slots(data: &[u8]) -> Vec<Slot<'_>> {
 
 /// No entry stands at the block's last bytes, where the kind is unknown or the name is empty, or where it would pass the end.
 fn slot_at(data: &[u8], offset: usize) -> Option<Slot<'_>> {
-    if offset >= CAPACITY - HEADER {
+    if offset >= data.len() - HEADER {
         return None;
     }
     let (kind, len) = (data[offset], data[offset + HEADER - 1] as usize);
     let end = offset + HEADER + len;
-    if kind > 2 || len == 0 || end > LAST_END {
+    if kind > 2 || len == 0 || end > last_end(data) {
         return None;
     }
     let (addr, size) = (be32(&data[offset + 1..]), be32(&data[offset + 5..]));
     Some(Slot { offset, kind, addr, size, name: &data[offset + HEADER..end] })
 }
 
-/// Whether an entry with a name of that length fits behind the entries of a directory block.
-pub fn has_room(data: &[u8], name_len: usize) -> bool {
-    slots(data).last().map_or(0, Slot::end) + HEADER + name_len <= LAST_END
+/// Where the last entry of a block with that data ends at the latest.
+fn last_end(data: &[u8]) -> usize {
+    data.len() - 1
 }
 
-/// Blocks of a file of that size.
-pub fn file_blocks(size: u64) -> u64 {
-    size.div_ceil(CAPACITY as u64).max(1)
+/// Whether an entry with a name of that length fits behind the entries of a directory block.
+pub fn has_room(data: &[u8], name_len: usize) -> bool {
+    slots(data).last().map_or(0, Slot::end) + HEADER + name_len <= last_end(data)
 }
 
 /// The blocks of a chain, until it leaves the data area or has passed as many as there are.
@@ -191,7 +266,7 @@ pub fn chain(image: &[u8], geometry: Geometry, first: u32) -> Vec<u32> {
     let mut addr = first;
     while geometry.holds(addr) && blocks.len() < geometry.data_blocks() as usize {
         blocks.push(addr);
-        addr = next(image, addr);
+        addr = geometry.mount.next(image, addr);
     }
     blocks
 }
@@ -201,31 +276,10 @@ pub fn find_dir(image: &[u8], geometry: Geometry, path: &[u8]) -> Option<u32> {
     let mut at = geometry.data();
     for piece in path.split(|&byte| byte == b'/').filter(|piece| !piece.is_empty()) {
         let blocks = chain(image, geometry, at);
-        let mut all = blocks.iter().flat_map(|&addr| slots(data(image, addr)));
+        let mut all = blocks.iter().flat_map(|&addr| slots(geometry.mount.data(image, addr)));
         at = all.find(|slot| slot.kind == 0 && slot.name == piece)?.addr;
     }
     Some(at)
-}
-
-/// The block of that number; none past the image's end.
-pub fn block_at(image: &[u8], addr: u32) -> Option<&[u8]> {
-    let start = addr as usize * BLOCK;
-    image.get(start..start + BLOCK)
-}
-
-/// The block of a number that is known to be inside the image.
-pub fn block(image: &[u8], addr: u32) -> &[u8] {
-    block_at(image, addr).expect("a block of the image")
-}
-
-/// The address that a linked block leads to; 0 ends a chain.
-pub fn next(image: &[u8], addr: u32) -> u32 {
-    be32(block(image, addr))
-}
-
-/// What stands in a linked block after the address of the next.
-pub fn data(image: &[u8], addr: u32) -> &[u8] {
-    &block(image, addr)[4..]
 }
 
 fn be32(bytes: &[u8]) -> u32 {
@@ -236,20 +290,42 @@ fn be32(bytes: &[u8]) -> u32 {
 mod tests {
     use super::*;
 
+    const NARROW: Mount = Mount { k: 8, code: 0 };
+    const WIDE: Mount = Mount { k: 8, code: 1 };
+
     #[test]
     fn the_parts_lie_where_the_rules_put_them() {
-        let at = |blocks| Geometry::new(8, blocks).map(|g| (g.data(), g.reach()));
+        let at = |blocks| Geometry::new(NARROW, blocks).map(|g| (g.data(), g.reach()));
         assert_eq!([at(11), at(12), at(4107)], [None, Some((11, 0)), Some((11, 4096))]);
         assert_eq!([at(4108), at(4109)], [None, Some((12, 4096))]);
-        assert_eq!([0, 508, 509, 1016].map(file_blocks), [1, 1, 2, 2]);
+        assert_eq!([0, 508, 509, 1016].map(|size| NARROW.file_blocks(size)), [1, 1, 2, 2]);
+    }
+
+    #[test]
+    fn the_parts_of_a_card_with_large_blocks() {
+        let at = |blocks| Geometry::new(WIDE, blocks).map(|g| (g.data(), g.reach()));
+        assert_eq!([at(11), at(12), at(8203)], [None, Some((11, 0)), Some((11, 8192))]);
+        assert_eq!([at(8204), at(8205)], [None, Some((12, 8192))]);
+        assert_eq!([0, 1020, 1021, 2040].map(|size| WIDE.file_blocks(size)), [1, 1, 2, 2]);
+    }
+
+    /// First data block, data blocks, bits and reach of a card of version 1.
+    #[test]
+    fn the_parts_of_an_old_card() {
+        let at = |blocks| Geometry::of_version(1, NARROW, blocks).map(|g| [g.data(), g.data_blocks(), g.bits(), g.reach()]);
+        assert_eq!([at(12), at(4106)], [None, None]);
+        assert_eq!(at(10 + 4097), Some([11, 4096, 4096, 4096]));
+        assert_eq!(at(10 + 4098), Some([11, 4097, 4096, 4096]));
+        assert_eq!(at(10 + 8193), Some([11, 8192, 4096, 4096]));
+        assert_eq!(at(10 + 8194), Some([12, 8192, 8192, 8192]));
     }
 
     #[test]
     fn clear_bits_are_counted_to_the_last() {
-        let geometry = Geometry::new(0, 30).expect("a volume");
-        let mut image = vec![0; 30 * BLOCK];
-        image[2 * BLOCK] = 0b101;
-        image[2 * BLOCK + 3] = 0b11;
+        let geometry = Geometry::new(Mount { k: 0, code: 0 }, 30).expect("a volume");
+        let mut image = vec![0; 30 * SECTOR];
+        image[2 * SECTOR] = 0b101;
+        image[2 * SECTOR + 3] = 0b11;
         assert_eq!((geometry.data(), geometry.data_blocks(), geometry.clear(&image, 27)), (3, 27, 23));
         assert_eq!(geometry.free_in_reach(&image), 0);
     }

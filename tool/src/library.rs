@@ -2,6 +2,7 @@
 //!
 //! Calls that only read take a shared slice, so that a read-only mapping is enough; calls that change take a [`Volume`] over a
 //! private mapping. Refusals pass as numbers and words, so that new ones need no change here.
+use crate::layout::Mount;
 use mfs::{Handle, SeekFrom};
 
 /// Paths of the command line are full paths, with or without the first slash.
@@ -86,27 +87,27 @@ pub struct Room {
 #[derive(Clone, Copy)]
 pub struct View<'a> {
     pub image: &'a [u8],
-    pub k: u32,
+    pub mount: Mount,
 }
 
 impl View<'_> {
     /// The proved verdict.
     pub fn check(self) -> Result<(), Refusal> {
-        Ok(mfs::check(self.image, self.k, &mut vec![0; mfs::work_len(self.image.len())])?)
+        Ok(mfs::check(self.image, self.mount.k, self.mount.code.into(), &mut vec![0; mfs::work_len(self.image.len())])?)
     }
 
     pub fn usage(self) -> Result<Usage, Refusal> {
-        let mfs::Usage { size, used, free, .. } = mfs::usage(self.image, self.k)?;
+        let mfs::Usage { size, used, free, .. } = mfs::usage(self.image, self.mount.k, self.mount.code.into())?;
         Ok(Usage { size, used, free })
     }
 
     pub fn room(self, count: u32) -> Result<Room, Refusal> {
-        let mfs::Room { enough, bytes, .. } = mfs::room(self.image, self.k, count)?;
+        let mfs::Room { enough, bytes, .. } = mfs::room(self.image, self.mount.k, self.mount.code.into(), count)?;
         Ok(Room { enough, bytes })
     }
 
     pub fn info(self, path: &[u8]) -> Result<Entry, Refusal> {
-        let mfs::Info { kind, size, time, name, .. } = mfs::info(self.image, self.k, CWD, path)?;
+        let mfs::Info { kind, size, time, name, .. } = mfs::info(self.image, self.mount.k, self.mount.code.into(), CWD, path)?;
         Ok(Entry { kind: Kind::of(kind), size, time, name })
     }
 
@@ -114,7 +115,7 @@ impl View<'_> {
     pub fn list(self, path: &[u8]) -> Result<Vec<Entry>, Refusal> {
         let (mut entries, mut page, mut from) = (Vec::new(), vec![0; PAGE], 0);
         loop {
-            let listed = mfs::list(self.image, self.k, CWD, path, from, &mut page)?;
+            let listed = mfs::list(self.image, self.mount.k, self.mount.code.into(), CWD, path, from, &mut page)?;
             if listed.bytes == 0 {
                 return Ok(entries);
             }
@@ -125,12 +126,12 @@ impl View<'_> {
     }
 
     pub fn open(self, path: &[u8]) -> Result<OpenFile, Refusal> {
-        Ok(OpenFile(mfs::open(self.image, self.k, CWD, path)?))
+        Ok(OpenFile(mfs::open(self.image, self.mount.k, self.mount.code.into(), CWD, path)?))
     }
 
     /// The file's next bytes; 0 of them at its end.
     pub fn read(self, file: &mut OpenFile, buffer: &mut [u8]) -> Result<usize, Refusal> {
-        Ok(mfs::read(self.image, self.k, &mut file.0, buffer)?)
+        Ok(mfs::read(self.image, self.mount.k, self.mount.code.into(), &mut file.0, buffer)?)
     }
 }
 
@@ -154,36 +155,36 @@ impl OpenFile {
 /// A volume that is changed. Every change runs the whole proved check first, and leaves a well-formed volume.
 pub struct Volume<'a> {
     image: &'a mut [u8],
-    k: u32,
+    mount: Mount,
     time: u64,
     work: Vec<u8>,
 }
 
 impl<'a> Volume<'a> {
-    pub fn new(image: &'a mut [u8], k: u32, time: u64) -> Volume<'a> {
+    pub fn new(image: &'a mut [u8], mount: Mount, time: u64) -> Volume<'a> {
         let work = vec![0; mfs::work_len(image.len())];
-        Volume { image, k, time, work }
+        Volume { image, mount, time, work }
     }
 
     pub fn create_file(&mut self, path: &[u8]) -> Result<OpenFile, Refusal> {
-        Ok(OpenFile(mfs::create_file(self.image, self.k, CWD, path, self.time, &mut self.work)?))
+        Ok(OpenFile(mfs::create_file(self.image, self.mount.k, self.mount.code.into(), CWD, path, self.time, &mut self.work)?))
     }
 
     pub fn create_dir(&mut self, path: &[u8]) -> Result<(), Refusal> {
-        Ok(mfs::create_dir(self.image, self.k, CWD, path, self.time, &mut self.work)?)
+        Ok(mfs::create_dir(self.image, self.mount.k, self.mount.code.into(), CWD, path, self.time, &mut self.work)?)
     }
 
     pub fn delete(&mut self, path: &[u8]) -> Result<(), Refusal> {
-        Ok(mfs::delete(self.image, self.k, CWD, path, self.time, &mut self.work)?)
+        Ok(mfs::delete(self.image, self.mount.k, self.mount.code.into(), CWD, path, self.time, &mut self.work)?)
     }
 
     /// Writes all of the bytes at the file's position, where it ends then.
     pub fn write(&mut self, file: &mut OpenFile, bytes: &[u8]) -> Result<usize, Refusal> {
-        Ok(mfs::write(self.image, self.k, &mut file.0, bytes, self.time, &mut self.work)?)
+        Ok(mfs::write(self.image, self.mount.k, self.mount.code.into(), &mut file.0, bytes, self.time, &mut self.work)?)
     }
 }
 
 /// Makes the whole image a volume with an empty root.
-pub fn format(image: &mut [u8], k: u32) -> Result<(), Refusal> {
-    Ok(mfs::format(image, k)?)
+pub fn format(image: &mut [u8], mount: Mount) -> Result<(), Refusal> {
+    Ok(mfs::format(image, mount.k, mount.code.into())?)
 }

@@ -1,10 +1,11 @@
 //! `ls`, `tree` and `info`.
 use crate::args::{card_path, Call};
+use crate::code;
 use crate::failure::{Failure, DAMAGED};
 use crate::human;
 use crate::image::Reading;
 use crate::json::Object;
-use crate::layout::{self, Superblock};
+use crate::layout::{Superblock, SECTOR};
 use crate::library::{Entry, Kind, Refusal, View};
 use crate::output::Output;
 
@@ -23,7 +24,7 @@ pub struct Budget(u64);
 
 impl Budget {
     pub fn of(image: &[u8]) -> Budget {
-        Budget((image.len() / layout::BLOCK) as u64)
+        Budget((image.len() / SECTOR) as u64)
     }
 
     /// Lists a directory, and counts its entries.
@@ -170,17 +171,17 @@ pub fn info(call: &Call) -> Result<(), Failure> {
 fn volume_info(image: &Reading, out: &mut Output) -> Result<(), Failure> {
     let usage = image.view().usage().map_err(|refusal| image.refused(refusal, b""))?;
     let geometry = image.geometry()?;
-    let superblock = Superblock::at(image.bytes(), image.k).expect("the library has taken it");
+    let superblock = Superblock::at(image.bytes(), image.mount).expect("the library has taken it");
     let facts = [
-        ("image_blocks", (image.bytes().len() / layout::BLOCK) as u64, "blocks of the image"),
+        ("image_blocks", u64::from(image.mount.blocks_of(image.bytes())), "blocks of the image"),
         ("blocks", u64::from(geometry.blocks), "blocks of the volume"),
         ("used", u64::from(superblock.used), "blocks used"),
-        ("superblock", u64::from(geometry.k), "superblock's block"),
+        ("superblock", u64::from(geometry.mount.k), "superblock's block"),
         ("bitmap", u64::from(geometry.bitmap()), "first bitmap block"),
         ("data", u64::from(geometry.data()), "first data block (root directory)"),
         ("reach", u64::from(geometry.reach()), "data blocks in reach of allocation"),
         ("version", u64::from(superblock.version), "version"),
-        ("size_code", u64::from(superblock.size_code), "size code (0: 512 bytes)"),
+        ("size_code", u64::from(superblock.size_code), code::words(superblock.size_code)),
     ];
     if out.json {
         let object = Object::new().text("image", &image.name).number("size", usage.size);

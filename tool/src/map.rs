@@ -85,7 +85,7 @@ impl<'a> Card<'a> {
         let geometry = image.geometry()?;
         let walk = walker::walk(image.bytes(), geometry);
         let found = walk.findings.iter().map(|finding| finding.block).collect();
-        let blocks = (image.bytes().len() / crate::layout::BLOCK) as u32;
+        let blocks = image.mount.blocks_of(image.bytes());
         Ok(Card { name: &image.name, blocks, geometry, walk, found })
     }
 
@@ -100,7 +100,7 @@ impl<'a> Card<'a> {
         }
         if !geometry.holds(addr) {
             return match addr {
-                addr if addr == geometry.k => Part::Superblock,
+                addr if addr == geometry.mount.k => Part::Superblock,
                 addr if (geometry.bitmap()..geometry.data()).contains(&addr) => Part::Bitmap,
                 _ => Part::Outside,
             };

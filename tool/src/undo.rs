@@ -6,7 +6,7 @@
 //! just removed.
 use crate::failure::Failure;
 use crate::human;
-use crate::layout::BLOCK;
+use crate::layout::SECTOR;
 use crate::output::Output;
 use std::fs::{self, File, OpenOptions};
 use std::io::{self, Write};
@@ -18,7 +18,7 @@ const MARK: &[u8; 8] = b"MFSUNDO1";
 /// Mark, image's length, count of blocks.
 const HEAD: usize = 24;
 /// A record: block number, digest of the new bytes, the old bytes.
-const RECORD: usize = 16 + BLOCK;
+const RECORD: usize = 16 + SECTOR;
 
 /// The log's name: beside the image, so that it is on the same disk.
 pub fn log_of(image: &Path) -> PathBuf {
@@ -80,15 +80,15 @@ impl Store<'_> {
     /// Neighbours are stored together.
     fn write_blocks(&self) -> io::Result<()> {
         for run in self.blocks.chunk_by(|a, b| a + 1 == *b) {
-            let start = run[0] as usize * BLOCK;
-            self.image.write_all_at(&self.new[start..start + run.len() * BLOCK], start as u64)?;
+            let start = run[0] as usize * SECTOR;
+            self.image.write_all_at(&self.new[start..start + run.len() * SECTOR], start as u64)?;
         }
         self.image.sync_all()
     }
 }
 
 fn block(image: &[u8], addr: u32) -> &[u8] {
-    &image[addr as usize * BLOCK..][..BLOCK]
+    &image[addr as usize * SECTOR..][..SECTOR]
 }
 
 /// FNV-1a, which tells a log that was cut short, and old from new.
@@ -105,7 +105,7 @@ struct Log {
 struct Record {
     offset: u64,
     new_digest: u64,
-    old: [u8; BLOCK],
+    old: [u8; SECTOR],
 }
 
 impl Log {
@@ -122,7 +122,7 @@ impl Log {
         }
         let record = |r: &[u8]| Record {
             // A block number that is no block lies past every end, where reading fails.
-            offset: number(&r[..8]).saturating_mul(BLOCK as u64),
+            offset: number(&r[..8]).saturating_mul(SECTOR as u64),
             new_digest: number(&r[8..]),
             old: r[16..].try_into().expect("a block"),
         };
@@ -135,7 +135,7 @@ impl Log {
             return Ok(false);
         }
         for record in &self.records {
-            let mut now = [0; BLOCK];
+            let mut now = [0; SECTOR];
             image.read_exact_at(&mut now, record.offset)?;
             if now != record.old && digest(&now) != record.new_digest {
                 return Ok(false);

@@ -56,8 +56,15 @@ pub struct Walk<'a> {
 
 /// Walks a volume whose superblock the library has taken.
 pub fn walk(image: &[u8], geometry: Geometry) -> Walk<'_> {
-    let root =
-        Node { parent: 0, name: Vec::new(), kind: Kind::Dir, depth: 0, addr: geometry.data(), size: 0, stands_in: geometry.k };
+    let root = Node {
+        parent: 0,
+        name: Vec::new(),
+        kind: Kind::Dir,
+        depth: 0,
+        addr: geometry.data(),
+        size: 0,
+        stands_in: geometry.mount.k,
+    };
     let owners = vec![NOBODY; geometry.data_blocks() as usize];
     let mut walk = Walk { image, geometry, nodes: vec![root], owners, findings: Vec::new() };
     walk.look_at_superblock();
@@ -122,9 +129,9 @@ impl Walk<'_> {
 
     /// W1, what refusals 1, 2 and 3 leave of it: the superblock's other bytes are zero.
     fn look_at_superblock(&mut self) {
-        let superblock = Superblock::at(self.image, self.geometry.k).expect("the library has taken the superblock");
+        let superblock = Superblock::at(self.image, self.geometry.mount).expect("the library has taken the superblock");
         if let Some(byte) = superblock.first_stray {
-            self.find_of_volume(1, self.geometry.k, format!("byte {byte} of the superblock is not zero"));
+            self.find_of_volume(1, self.geometry.mount.k, format!("byte {byte} of the superblock is not zero"));
         }
     }
 
@@ -167,7 +174,7 @@ impl Walk<'_> {
             }
             blocks.push(addr);
             from = addr;
-            addr = layout::next(self.image, addr);
+            addr = self.geometry.mount.next(self.image, addr);
             if addr == 0 {
                 return (blocks, true);
             }
@@ -191,7 +198,7 @@ impl Walk<'_> {
     fn look_at_dir(&mut self, id: u32, blocks: &[u32]) -> u64 {
         let (mut sum, mut names) = (0, HashSet::new());
         for (place, &addr) in blocks.iter().enumerate() {
-            let data = layout::data(self.image, addr);
+            let data = self.geometry.mount.data(self.image, addr);
             let slots = layout::slots(data);
             let end = slots.last().map_or(0, Slot::end);
             if let Some(stray) = data[end..].iter().position(|&byte| byte != 0) {
@@ -232,17 +239,19 @@ impl Walk<'_> {
         if size > FILE_LIMIT {
             self.find(4, id, stands_in, format!("the file's size is {size}, above {FILE_LIMIT}"));
         }
-        let needs = layout::file_blocks(u64::from(size));
+        let needs = self.geometry.mount.file_blocks(u64::from(size));
         if whole && has != needs {
             self.find(4, id, stands_in, format!("the file of {size} bytes has {has} blocks, and should have {needs}"));
         }
     }
 
-    /// W5: bits against the blocks reached, in runs, since one broken chain leaves many blocks unreached.
+    /// W5: bits against the blocks reached, in runs, since one broken chain leaves many blocks unreached. W2: every block that is
+    /// reached has a bit.
     fn look_at_bitmap(&mut self) {
         let mut run: Option<(Wrong, u32)> = None;
-        for index in 0..=self.geometry.bits() {
-            let wrong = (index < self.geometry.bits()).then(|| self.wrong_bit(index)).flatten();
+        let end = self.geometry.bits().max(self.geometry.data_blocks());
+        for index in 0..=end {
+            let wrong = (index < end).then(|| self.wrong_bit(index)).flatten();
             if run.map(|(kind, _)| kind) != wrong {
                 if let Some((kind, first)) = run {
                     self.find_run(kind, first, index - 1);
@@ -252,9 +261,9 @@ impl Walk<'_> {
         }
         let set = self.geometry.bits() - self.geometry.clear_bits(self.image);
         let counted = u64::from(self.geometry.data()) + u64::from(set);
-        let used = Superblock::at(self.image, self.geometry.k).map_or(0, |superblock| superblock.used);
+        let used = Superblock::at(self.image, self.geometry.mount).map_or(0, |superblock| superblock.used);
         if u64::from(used) != counted {
-            self.find_of_volume(5, self.geometry.k, format!("the used count is {used}, and should be {counted}"));
+            self.find_of_volume(5, self.geometry.mount.k, format!("the used count is {used}, and should be {counted}"));
         }
     }
 
@@ -265,6 +274,7 @@ impl Walk<'_> {
         }
         match (set, self.owners[index as usize] != NOBODY) {
             (true, false) => Some(Wrong::SetAndNotReached),
+            (false, true) if index >= self.geometry.bits() => Some(Wrong::ReachedWithoutBit),
             (false, true) => Some(Wrong::ClearAndReached),
             _ => None,
         }
@@ -283,6 +293,10 @@ impl Walk<'_> {
                 let owner = self.owners[first as usize];
                 self.find(5, owner, from, format!("{blocks}: marked as free, though a chain has it"));
             }
+            Wrong::ReachedWithoutBit => {
+                let owner = self.owners[first as usize];
+                self.find(2, owner, from, format!("{blocks}: a chain has it, and the bitmap has no bit for it"));
+            }
         }
     }
 }
@@ -293,6 +307,8 @@ enum Wrong {
     SetAndNotReached,
     ClearAndReached,
     SetPastTheData,
+    /// On a card of version 1, whose bitmap may be too short for the last data blocks.
+    ReachedWithoutBit,
 }
 
 /// W3: the place of the first byte that no name may have: a slash, a control byte, or one that is no text. An entry's name is

@@ -5,6 +5,9 @@ use mfs::{Handle, Refusal, BLOCK_SIZE, NAME_LEN};
 
 pub const K: u32 = 8;
 
+/// The images have blocks of 512 bytes.
+pub const CODE: u32 = mfs::CODE_512;
+
 /// Blocks of a volume on which creates have room: 4,096 or more.
 pub const ROOMY: usize = 4200;
 

@@ -70,8 +70,8 @@ pub fn create_file(
     time: u64,
     work: &mut [u8],
 ) -> OpenOut
-    ensures { λ o. ⌜ CreatesFile (mount k code) (now (img .entry)) (now (work .entry)) (now (cwd .entry)) (now (path .entry)) time o
-        (now (img .exit)) (now (work .exit)) ⌝ }
+    ensures { λ o. ⌜ CreatesFile (mount k code) (now (img .entry)) (now (work .entry)) (now (cwd .entry)) (now (path .entry)) time
+        o (now (img .exit)) (now (work .exit)) ⌝ }
 {
     let checked = call_volume::open_checked(img, k, code, work);
     match checked {
@@ -111,8 +111,8 @@ pub fn create_dir(
     time: u64,
     work: &mut [u8],
 ) -> Answer
-    ensures { λ r. ⌜ CreatesDir (mount k code) (now (img .entry)) (now (work .entry)) (now (cwd .entry)) (now (path .entry)) time r
-        (now (img .exit)) (now (work .exit)) ⌝ }
+    ensures { λ r. ⌜ CreatesDir (mount k code) (now (img .entry)) (now (work .entry)) (now (cwd .entry)) (now (path .entry)) time
+        r (now (img .exit)) (now (work .exit)) ⌝ }
 {
     let checked = call_volume::open_checked(img, k, code, work);
     match checked {
@@ -172,8 +172,8 @@ pub fn write(
     time: u64,
     work: &mut [u8],
 ) -> CountedOut
-    ensures { λ o. ⌜ Writes (mount k code) (now (img .entry)) (now (work .entry)) handle (now (buf .entry)) time o (now (img .exit))
-        (now (work .exit)) ⌝ }
+    ensures { λ o. ⌜ Writes (mount k code) (now (img .entry)) (now (work .entry)) handle (now (buf .entry)) time o
+        (now (img .exit)) (now (work .exit)) ⌝ }
 {
     let checked = call_volume::open_checked(img, k, code, work);
     match checked {

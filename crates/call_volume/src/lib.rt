@@ -34,7 +34,8 @@ fn lay(img: &mut [u8], s: SuperBlock)
     bitmap_block::take(img, s, Index(0));
 }
 
-// Makes the whole image a volume with an empty root directory. Refusals: 1, 3.
+// Makes the whole image a volume with an empty root directory. Refusals: 1, 3; as in every call that
+// takes a size code, 2 before them where the code is not known.
 pub fn format(img: &mut [u8], k: u32, code: u32) -> Answer
     ensures { λ r. ⌜ Formats (mount k code) (now (img .entry)) r (now (img .exit)) ⌝ }
 {

@@ -1040,8 +1040,8 @@ fn image_step(img: &mut [u8], base: &mut [u8], letter: u8, b: &[u8], p: Row) {
 
 // ---- steps
 
-// What the lines so far leave: how many bytes the image has, its mount, the length of the work buffer, the image's digest at the last
-// title, the handles.
+// What the lines so far leave: how many bytes the image has, its mount, the length of the work buffer, the image's digest at the
+// last title, the handles.
 struct State {
     len: usize,
     m: Mount,
@@ -1139,7 +1139,8 @@ fn volume(img: &mut [u8], s: State, letter: u8, v: Row) -> State {
     let mut t = s;
     t.len = v.n[0] as usize;
     let code = t.m.code;
-    t.m = Mount { k, code };
+    let m = Mount { k, code };
+    t.m = m;
     t
 }
 
@@ -1161,7 +1162,8 @@ fn yardstick(s: State, code: u64) -> State {
     let mut t = s;
     let k = t.m.k;
     let code = (code % 4_294_967_296) as u32;
-    t.m = Mount { k, code };
+    let m = Mount { k, code };
+    t.m = m;
     t
 }
 

@@ -1,15 +1,14 @@
--- The marked examples E1 to E12 (K = 8), as one table: what the definitions give, and what the rules say. Definitions alone.
+-- The marked examples E1 to E23 (K = 8), as one table: what the definitions give, and what the rules say. Definitions alone.
 use mathlib.Core.Path.{_≡_}
 use mathlib.Core.List.{List, [], _∷_, _++_}
-use Prim.Native.Nat.{ℕ, _+_, _-_, _*_}
+use Prim.Native.Nat.{ℕ, _-_, _*_}
 use lib.IntN.{negsuc}
 use lib.ListN.{replicate}
 use Rattle.wire.specs.Be.{zeros, splice}
 use Rattle.bits.specs.Bit.{withBit}
-use Rattle.block.specs.Block.{blockBytes}
 use Rattle.model.specs.Answers.{Reply, accepted, refused, settle}
-use Rattle.model.specs.Geometry.{mount, geo, dataAt, reach, superBytes, openRefusal, formatRefusal}
-use Rattle.model.specs.Tree.{Block, Tree, used, insert}
+use Rattle.model.specs.Geometry.{Mount, Geo, mount, mounted, blockSize, numbered, geo, dataAt, reach, superBytes, openRefusal, formatRefusal}
+use Rattle.model.specs.Tree.{Entry, Block, Tree, used, insert}
 use Rattle.model.specs.Render.{padded}
 use Rattle.model.specs.Volume.{All, blocksFor}
 use Rattle.model.specs.Calls.{entryRoom, toCreate, fileEntry}
@@ -32,16 +31,26 @@ pub record Example : Type 0 where
 abbrev pub row : ℕ → List ℕ → List ℕ → Example
 row k g s = record { number = k; given = g; said = s }
 
--- an image of n blocks whose superblock says n; the refusal of formatting one, and of opening it; D and the reach of a volume of
--- n blocks
-abbrev pub imageOf : ℕ → List ℕ
-imageOf n = splice (zeros (blockBytes * n)) (blockBytes * 8) (superBytes (geo (mount 8 0) n) (dataAt (geo (mount 8 0) n)))
+-- K = 8, with blocks of 512 bytes and of 1,024
+abbrev pub narrow : Mount
+narrow = mount 8 0
 
-abbrev pub refusalsOf : ℕ → List ℕ
-refusalsOf n = formatRefusal (mount 8 0) (blockBytes * n) ∷ (openRefusal (mount 8 0) (imageOf n) ∷ [])
+abbrev pub wide : Mount
+wide = mount 8 1
 
-abbrev pub areasOf : ℕ → List ℕ
-areasOf n = dataAt (geo (mount 8 0) n) ∷ (reach (geo (mount 8 0) n) ∷ [])
+-- an image of just the blocks of a volume, whose superblock has its numbers; the refusal of opening it, and that of formatting
+-- one of its length before that; D and the reach
+abbrev pub imageOf : Geo → List ℕ
+imageOf g = splice (zeros (blockSize g * g .n)) (blockSize g * g .K) (superBytes g (dataAt g))
+
+abbrev pub opening : Geo → ℕ
+opening g = openRefusal (mounted g) (imageOf g)
+
+abbrev pub refusalsOf : Geo → List ℕ
+refusalsOf g = formatRefusal (mounted g) (blockSize g * g .n) ∷ (opening g ∷ [])
+
+abbrev pub areasOf : Geo → List ℕ
+areasOf g = dataAt g ∷ (reach g ∷ [])
 
 -- a handle on a file of 10 bytes, at position 4; the refusal of a seek, 0 where it is accepted, and then its place
 abbrev pub atFour : Handle
@@ -62,8 +71,8 @@ entryA = record { kind = Dir; addr = record { 0 = 12 }; size = 0; time = 0; len 
 
 abbrev pub volumeA : List ℕ
 volumeA =
-    zeros (blockBytes * 8) ++ (superBytes (geo (mount 8 0) 13) 13 ++ (zeros blockBytes
-    ++ (padded blockBytes (3 ∷ []) ++ (padded blockBytes (zeros 4 ++ (headBytes entryA ++ (97 ∷ []))) ++ zeros blockBytes))))
+    zeros (512 * 8) ++ (superBytes (geo narrow 13) 13 ++ (zeros 512
+    ++ (padded 512 (3 ∷ []) ++ (padded 512 (zeros 4 ++ (headBytes entryA ++ (97 ∷ []))) ++ zeros 512))))
 
 -- the number of an answer's refusal, 0 where it is accepted
 abbrev pub refusalIn : {A : Type 0} → Reply A → ℕ
@@ -77,32 +86,36 @@ pathA = 47 ∷ (97 ∷ [])
 abbrev pub pathB : List ℕ
 pathB = 47 ∷ (97 ∷ (47 ∷ (47 ∷ (98 ∷ []))))
 
--- a block with one entry whose name has 236 bytes; where the entries of a directory's first block end
-abbrev pub after236 : Tree 0
-after236 = record { at = 11; entries = fileEntry (replicate 236 97) 0 0 [] ∷ [] } ∷ []
+-- a directory of one block, with a file for each length, its name as long; where the entries of a directory's first block end
+abbrev pub filesOf : {X : Type 0} → List ℕ → List (Entry X)
+filesOf [] = []
+filesOf (k ∷ ks) = fileEntry (replicate k 97) 0 0 [] ∷ filesOf ks
+
+abbrev pub holding : List ℕ → Tree 0
+holding ks = record { at = 11; entries = filesOf ks } ∷ []
 
 abbrev pub endIn : {X : Type 0} → List (Block X) → ℕ
 endIn [] = 0
 endIn (b ∷ bs) = used (b .entries)
 
 -- of a create there with a name of k bytes: how many blocks it adds, and where the first block's entries end then
-abbrev pub createAfter : ℕ → List ℕ
-createAfter k =
-    toCreate (entryRoom (geo (mount 8 0) 12)) (replicate k 98) after236
-    ∷ (endIn (insert (entryRoom (geo (mount 8 0) 12)) 12 (fileEntry (replicate k 98) 0 0 []) after236) ∷ [])
+abbrev pub createIn : Geo → Tree 0 → ℕ → List ℕ
+createIn g t k =
+    toCreate (entryRoom g) (replicate k 98) t
+    ∷ (endIn (insert (entryRoom g) 12 (fileEntry (replicate k 98) 0 0 []) t) ∷ [])
 
 unfoldable pub markedExamples : List Example
 markedExamples =
     -- E1: of format and of open
-    row 1 (refusalsOf 11) (3 ∷ (3 ∷ []))
+    row 1 (refusalsOf (geo narrow 11)) (3 ∷ (3 ∷ []))
     -- E2
-    ∷ (row 2 (areasOf 12) (11 ∷ (0 ∷ []))
+    ∷ (row 2 (areasOf (geo narrow 12)) (11 ∷ (0 ∷ []))
     -- E3
-    ∷ (row 3 (areasOf 4107) (11 ∷ (4096 ∷ []))
+    ∷ (row 3 (areasOf (geo narrow 4107)) (11 ∷ (4096 ∷ []))
     -- E4: of format and of open
-    ∷ (row 4 (refusalsOf 4108) (3 ∷ (3 ∷ []))
+    ∷ (row 4 (refusalsOf (geo narrow 4108)) (3 ∷ (3 ∷ []))
     -- E5
-    ∷ (row 5 (areasOf 4109) (12 ∷ (4096 ∷ []))
+    ∷ (row 5 (areasOf (geo narrow 4109)) (12 ∷ (4096 ∷ []))
     -- E6: the bit set in four clear bytes
     ∷ (row 6 (withBit (zeros 4) 0 (24 - 11) 1) (0 ∷ (32 ∷ (0 ∷ (0 ∷ []))))
     -- E7
@@ -114,12 +127,34 @@ markedExamples =
     -- E10
     ∷ (row 10 (partsOf (47 ∷ (47 ∷ (97 ∷ [])))) (47 ∷ (0 ∷ (97 ∷ [])))
     -- E11: on a volume where a listing of `/a` is accepted, so that it is a directory, open of `/a//b` gives 5
-    ∷ (row 11 (partsOf pathB ++ (refusalIn (listReply (mount 8 0) volumeA [] pathA 0 0) ∷ (refusalIn (openReply (mount 8 0) volumeA [] pathB) ∷ [])))
+    ∷ (row 11 (partsOf pathB ++ (refusalIn (listReply narrow volumeA [] pathA 0 0) ∷
+    (refusalIn (openReply narrow volumeA [] pathB) ∷ [])))
     (47 ∷ (97 ∷ (47 ∷ (0 ∷ (98 ∷ (0 ∷ (5 ∷ [])))))))
     -- E12: the name of 235 goes into the block, whose entries end at 507 then; that of 236 leaves the block as it was, its
     -- entries ending at 254
-    ∷ (row 12 (createAfter 235 ++ createAfter 236) (1 ∷ (507 ∷ (2 ∷ (254 ∷ []))))
-    ∷ [])))))))))))
+    ∷ (row 12 (createIn (geo narrow 12) (holding (236 ∷ [])) 235 ++ createIn (geo narrow 12) (holding (236 ∷ [])) 236)
+    (1 ∷ (507 ∷ (2 ∷ (254 ∷ []))))
+    -- E13 to E17, as E1 to E5, in blocks of 1,024 bytes
+    ∷ (row 13 (refusalsOf (geo wide 11)) (3 ∷ (3 ∷ []))
+    ∷ (row 14 (areasOf (geo wide 12)) (11 ∷ (0 ∷ []))
+    ∷ (row 15 (areasOf (geo wide 8203)) (11 ∷ (8192 ∷ []))
+    ∷ (row 16 (refusalsOf (geo wide 8204)) (3 ∷ (3 ∷ []))
+    ∷ (row 17 (areasOf (geo wide 8205)) (12 ∷ (8192 ∷ []))
+    -- E18
+    ∷ (row 18 (blocksFor 1024 0 ∷ (blocksFor 1024 1020 ∷ (blocksFor 1024 1021 ∷ (blocksFor 1024 2040 ∷ []))))
+    (1 ∷ (1 ∷ (2 ∷ (2 ∷ []))))
+    -- E19: behind three of the longest names, as E12
+    ∷ (row 19 (createIn (geo wide 12) (holding (255 ∷ (255 ∷ (255 ∷ [])))) 182 ++ createIn (geo wide 12)
+    (holding (255 ∷ (255 ∷ (255 ∷ [])))) 183)
+    (1 ∷ (1019 ∷ (2 ∷ (819 ∷ []))))
+    -- E20: of format and of open, though the image is empty
+    ∷ (row 20 (formatRefusal (mount 8 2) 0 ∷ (openRefusal (mount 8 2) [] ∷ [])) (2 ∷ (2 ∷ []))
+    -- E21: version 1 in blocks of 1,024 bytes
+    ∷ (row 21 (opening (numbered wide 1 8203) ∷ []) (2 ∷ [])
+    -- E22, E23: version 1
+    ∷ (row 22 (opening (numbered narrow 1 4106) ∷ []) (3 ∷ [])
+    ∷ (row 23 (areasOf (numbered narrow 1 4107) ++ areasOf (numbered narrow 1 8203)) (11 ∷ (4096 ∷ (11 ∷ (4096 ∷ []))))
+    ∷ []))))))))))))))))))))))
 
 -- The one statement: in every row the definitions give what the rules say.
 abbrev pub AsSaid : List Example → Type 0

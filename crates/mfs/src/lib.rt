@@ -1,4 +1,5 @@
-// The public calls on an MFS volume. An image is a lent slice of 512-byte blocks, and k the block of its superblock.
+// The public calls on an MFS volume. An image is a lent slice of blocks, k the block of its superblock, and code the code of the
+// block size; one that is not known is refused by 2 before the refusals that stand with each call.
 // No call requires anything: every image gets the one answer that the rules give it, and a refusal changes nothing.
 // Each call is one of call_volume, call_room, call_read or call_change under the name that callers know, with the same contract.
 use call_read::InfoOut;

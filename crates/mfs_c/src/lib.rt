@@ -1,5 +1,6 @@
 // The public calls for programs in C and Rust, on numbers, byte slices and arrays of fixed size. Each answers 0, or the number of
-// its refusal; a refusal leaves every out parameter as it was. include/mfs_c.h declares them.
+// its refusal; a refusal leaves every out parameter as it was. A size code that is not known is refused by 2, before the refusals
+// that stand with each call. include/mfs_c.h declares them.
 use block::Addr;
 use call_read::Listing;
 use call_read::OpenOut;

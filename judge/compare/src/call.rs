@@ -73,6 +73,13 @@ pub enum Call {
         seed: u8,
         time: u64,
     },
+    /// Puts the same bytes over bytes of the file.
+    Patch {
+        slot: usize,
+        len: usize,
+        seed: u8,
+        time: u64,
+    },
 }
 
 /// What can be seen of a file's handle.
@@ -118,12 +125,18 @@ impl Call {
             Call::CreateDir { .. } => "create directory",
             Call::Delete { .. } => "delete",
             Call::Write { .. } => "write",
+            Call::Patch { .. } => "patch",
         }
     }
 
     /// Whether the call may change the image.
     pub fn changes(&self) -> bool {
-        matches!(self, Call::Format | Call::CreateFile { .. } | Call::CreateDir { .. } | Call::Delete { .. } | Call::Write { .. })
+        matches!(self, Call::Format | Call::CreateFile { .. } | Call::CreateDir { .. } | Call::Delete { .. }) || self.stores()
+    }
+
+    /// Whether the call stores a buffer.
+    pub fn stores(&self) -> bool {
+        matches!(self, Call::Write { .. } | Call::Patch { .. })
     }
 
     /// The working directory and path that the call names.
@@ -146,7 +159,8 @@ impl Call {
             | Call::Read { slot, .. }
             | Call::Seek { slot, .. }
             | Call::CreateFile { slot, .. }
-            | Call::Write { slot, .. } => Some(slot),
+            | Call::Write { slot, .. }
+            | Call::Patch { slot, .. } => Some(slot),
             _ => None,
         }
     }
@@ -171,7 +185,9 @@ impl fmt::Display for Call {
             Call::Seek { slot, to } => write!(f, "{kind} slot {slot} to {to:?}"),
             Call::CreateFile { slot, place, time } => write!(f, "{kind} {place} at time {time} into slot {slot}"),
             Call::CreateDir { place, time } | Call::Delete { place, time } => write!(f, "{kind} {place} at time {time}"),
-            Call::Write { slot, len, seed, time } => write!(f, "{kind} slot {slot}, {len} bytes, seed {seed}, at time {time}"),
+            Call::Write { slot, len, seed, time } | Call::Patch { slot, len, seed, time } => {
+                write!(f, "{kind} slot {slot}, {len} bytes, seed {seed}, at time {time}")
+            }
         }
     }
 }

@@ -20,18 +20,25 @@ pub struct Drawer {
     longest: usize,
     /// Whether new names may have characters of more than one byte.
     accents: bool,
+    /// Whether bytes inside files are changed.
+    patches: bool,
     /// Calls that belong together and come next.
     queue: VecDeque<Call>,
 }
 
 impl Drawer {
     pub fn new(rng: Rng, longest: usize) -> Drawer {
-        Drawer { rng, longest, accents: false, queue: VecDeque::new() }
+        Drawer { rng, longest, accents: false, patches: false, queue: VecDeque::new() }
     }
 
     /// With characters of two to four bytes in new names.
     pub fn with_accents(self) -> Drawer {
         Drawer { accents: true, ..self }
+    }
+
+    /// With changes of bytes inside files.
+    pub fn with_patches(self, patches: bool) -> Drawer {
+        Drawer { patches, ..self }
     }
 
     /// The next call.
@@ -52,6 +59,7 @@ impl Drawer {
             580..=679 => self.draw_create_file(sides),
             680..=739 => Call::CreateDir { place: self.draw_new_place(sides), time: self.draw_time() },
             740..=839 => Call::Delete { place: self.draw_doomed(sides), time: self.draw_time() },
+            _ if self.patches && self.rng.one_in(3) => self.draw_patch(sides),
             _ => self.draw_write(sides),
         }
     }
@@ -229,6 +237,21 @@ impl Drawer {
             _ => self.draw_len(1),
         };
         Call::Write { slot, len, seed: self.rng.below(251) as u8, time: self.draw_time() }
+    }
+
+    /// To the end of the block, to the file's end or one byte behind, or shorter.
+    fn draw_patch(&mut self, sides: &Sides) -> Call {
+        let Some((slot, file)) = self.draw_opened(sides) else { return self.draw_open(sides) };
+        let position = self.rng.below(u64::from(file.size) + 1) as usize;
+        let left = file.size as usize - position;
+        let len = match self.rng.below(4) {
+            0 => self.draw_len(CAPACITY - position % CAPACITY),
+            1 => (left + 1).saturating_sub(self.rng.below(3) as usize),
+            _ => self.rng.below(left as u64 + 1) as usize,
+        };
+        let (len, seed, time) = (len.min(self.longest), self.rng.below(251) as u8, self.draw_time());
+        self.queue.push_back(Call::Patch { slot, len, seed, time });
+        Call::Seek { slot, to: Seek::Start(position as u32) }
     }
 
     /// A length that takes all free blocks in reach, one byte more, or less, where these are few.

@@ -2,7 +2,7 @@
 //! fits, the name that just fits.
 use crate::call::{Call, Place, Seek};
 use crate::original::{original, Original};
-use crate::party::LIBRARY;
+use crate::party::{LIBRARY, MODEL};
 use crate::sides::Verdict;
 use crate::tally::Tally;
 use crate::trial::{Found, Start};
@@ -25,6 +25,7 @@ pub fn compare_edges(tally: &mut Tally) -> Result<(), Box<Found>> {
     let mut judge = Judge { original: original.as_mut(), tally };
     judge.reads()?;
     judge.writes()?;
+    judge.patches()?;
     judge.listings()?;
     judge.creates()?;
     judge.accents()
@@ -108,6 +109,21 @@ impl Judge<'_> {
         Ok(())
     }
 
+    /// Bytes inside files of every size, from every position and of every length that ends in the file, and of one byte more.
+    fn patches(&mut self) -> Result<(), Box<Found>> {
+        let by = if LIBRARY.known().patch { LIBRARY } else { MODEL };
+        let start = Start { by, ..files(0) };
+        for size in SIZES {
+            for position in positions(size) {
+                let left = (size - position) as usize;
+                for len in lens().into_iter().filter(|&len| len <= left).chain([left + 1]) {
+                    self.compare(&start, patch_and_look(size, position, len))?;
+                }
+            }
+        }
+        Ok(())
+    }
+
     /// Every first entry, and buffers for so many records, one byte more and less.
     fn listings(&mut self) -> Result<(), Box<Found>> {
         let names: Vec<Vec<u8>> = (0..9).map(|number| vec![b'a' + number; 1 + 30 * number as usize]).collect();
@@ -178,6 +194,21 @@ fn write_and_look(size: u32, position: u32, len: usize) -> Vec<Call> {
         Call::Write { slot: 0, len: 1, seed: 2, time: 1_700_000_001 },
         Call::Seek { slot: 0, to: Seek::Start(0) },
         Call::Read { slot: 0, len: position as usize + len + 2 },
+        Call::Info { place },
+        Call::Usage,
+    ]
+}
+
+/// Two patches, one behind the other, and then another handle on the file, which is current all the same.
+fn patch_and_look(size: u32, position: u32, len: usize) -> Vec<Call> {
+    let place = file_of(size);
+    vec![
+        Call::Open { slot: 0, place: place.clone() },
+        Call::Open { slot: 1, place: place.clone() },
+        Call::Seek { slot: 0, to: Seek::Start(position) },
+        Call::Patch { slot: 0, len, seed: 1, time: 1_700_000_000 },
+        Call::Patch { slot: 0, len: 1, seed: 2, time: 1_700_000_001 },
+        Call::Read { slot: 1, len: size as usize + 1 },
         Call::Info { place },
         Call::Usage,
     ]

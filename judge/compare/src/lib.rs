@@ -18,3 +18,4 @@ pub mod sides;
 pub mod tally;
 pub mod trial;
 pub mod watch;
+pub mod wipe;

@@ -9,6 +9,10 @@ pub trait Original {
     fn dump(&self) -> Vec<u8>;
     /// The first block in which the device differs from an image.
     fn first_difference(&self, image: &[u8]) -> Option<usize>;
+    /// One block of the device.
+    fn block(&self, addr: u32) -> Vec<u8>;
+    /// Makes one block of the device zero.
+    fn wipe(&mut self, addr: u32);
     /// Makes a call, whose slot or page must be in use if the call wants it so.
     fn make(&mut self, call: &Call) -> Answer;
     /// The file of a slot.

@@ -87,6 +87,11 @@ impl Ours {
                 let count = by.write(image, *k, handle, &written_bytes(*len, *seed), *time, work)?;
                 Ok(Answer::Written { count, file: state_of(handle) })
             }
+            Call::Patch { slot, len, seed, time } => {
+                let handle = opened(files, *slot);
+                let count = by.patch(image, *k, handle, &written_bytes(*len, *seed), *time, work)?;
+                Ok(Answer::Written { count, file: state_of(handle) })
+            }
         }
     }
 

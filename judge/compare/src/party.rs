@@ -7,6 +7,8 @@ type Made<T> = Result<T, Refusal>;
 /// The calls, as the library's bindings have them.
 pub trait Party: Sync {
     fn name(&self) -> &'static str;
+    /// What it takes, and which rules it follows.
+    fn known(&self) -> Known;
     fn format(&self, image: &mut [u8], k: u32) -> Made<()>;
     fn usage(&self, image: &[u8], k: u32) -> Made<Usage>;
     fn check(&self, image: &[u8], k: u32, work: &mut [u8]) -> Made<()>;
@@ -19,6 +21,7 @@ pub trait Party: Sync {
     fn create_dir(&self, image: &mut [u8], k: u32, cwd: &[u8], path: &[u8], time: u64, work: &mut [u8]) -> Made<()>;
     fn delete(&self, image: &mut [u8], k: u32, cwd: &[u8], path: &[u8], time: u64, work: &mut [u8]) -> Made<()>;
     fn write(&self, image: &mut [u8], k: u32, handle: &mut Handle, buf: &[u8], time: u64, work: &mut [u8]) -> Made<usize>;
+    fn patch(&self, image: &mut [u8], k: u32, handle: &mut Handle, buf: &[u8], time: u64, work: &mut [u8]) -> Made<usize>;
 }
 
 pub const LIBRARY: &dyn Party = &Library;
@@ -41,32 +44,36 @@ impl Party for Library {
         "library"
     }
 
+    fn known(&self) -> Known {
+        Known::TODAY
+    }
+
     fn format(&self, image: &mut [u8], k: u32) -> Made<()> {
-        mfs::format(image, k, CODE)
+        mfs::format(image, k, mfs::CODE_512)
     }
 
     fn usage(&self, image: &[u8], k: u32) -> Made<Usage> {
-        mfs::usage(image, k, CODE)
+        mfs::usage(image, k, mfs::CODE_512)
     }
 
     fn check(&self, image: &[u8], k: u32, work: &mut [u8]) -> Made<()> {
-        mfs::check(image, k, CODE, work)
+        mfs::check(image, k, mfs::CODE_512, work)
     }
 
     fn open(&self, image: &[u8], k: u32, cwd: &[u8], path: &[u8]) -> Made<Handle> {
-        mfs::open(image, k, CODE, cwd, path)
+        mfs::open(image, k, mfs::CODE_512, cwd, path)
     }
 
     fn info(&self, image: &[u8], k: u32, cwd: &[u8], path: &[u8]) -> Made<Info> {
-        mfs::info(image, k, CODE, cwd, path)
+        mfs::info(image, k, mfs::CODE_512, cwd, path)
     }
 
     fn list(&self, image: &[u8], k: u32, cwd: &[u8], path: &[u8], from: u32, buf: &mut [u8]) -> Made<Listed> {
-        mfs::list(image, k, CODE, cwd, path, from, buf)
+        mfs::list(image, k, mfs::CODE_512, cwd, path, from, buf)
     }
 
     fn read(&self, image: &[u8], k: u32, handle: &mut Handle, buf: &mut [u8]) -> Made<usize> {
-        mfs::read(image, k, CODE, handle, buf)
+        mfs::read(image, k, mfs::CODE_512, handle, buf)
     }
 
     fn seek(&self, handle: &mut Handle, from: SeekFrom) -> Made<()> {
@@ -74,19 +81,23 @@ impl Party for Library {
     }
 
     fn create_file(&self, image: &mut [u8], k: u32, cwd: &[u8], path: &[u8], time: u64, work: &mut [u8]) -> Made<Handle> {
-        mfs::create_file(image, k, CODE, cwd, path, time, work)
+        mfs::create_file(image, k, mfs::CODE_512, cwd, path, time, work)
     }
 
     fn create_dir(&self, image: &mut [u8], k: u32, cwd: &[u8], path: &[u8], time: u64, work: &mut [u8]) -> Made<()> {
-        mfs::create_dir(image, k, CODE, cwd, path, time, work)
+        mfs::create_dir(image, k, mfs::CODE_512, cwd, path, time, work)
     }
 
     fn delete(&self, image: &mut [u8], k: u32, cwd: &[u8], path: &[u8], time: u64, work: &mut [u8]) -> Made<()> {
-        mfs::delete(image, k, CODE, cwd, path, time, work)
+        mfs::delete(image, k, mfs::CODE_512, cwd, path, time, work)
     }
 
     fn write(&self, image: &mut [u8], k: u32, handle: &mut Handle, buf: &[u8], time: u64, work: &mut [u8]) -> Made<usize> {
-        mfs::write(image, k, CODE, handle, buf, time, work)
+        mfs::write(image, k, mfs::CODE_512, handle, buf, time, work)
+    }
+
+    fn patch(&self, image: &mut [u8], k: u32, handle: &mut Handle, buf: &[u8], time: u64, work: &mut [u8]) -> Made<usize> {
+        mfs::patch(image, k, mfs::CODE_512, handle, buf, time, work)
     }
 }
 
@@ -95,6 +106,10 @@ struct Model;
 impl Party for Model {
     fn name(&self) -> &'static str {
         "model"
+    }
+
+    fn known(&self) -> Known {
+        Known::ALL
     }
 
     fn format(&self, image: &mut [u8], k: u32) -> Made<()> {
@@ -144,6 +159,10 @@ impl Party for Model {
 
     fn write(&self, image: &mut [u8], k: u32, handle: &mut Handle, buf: &[u8], time: u64, work: &mut [u8]) -> Made<usize> {
         through(handle, |theirs| model::write(image, mount(k), theirs, buf, time, work))
+    }
+
+    fn patch(&self, image: &mut [u8], k: u32, handle: &mut Handle, buf: &[u8], time: u64, work: &mut [u8]) -> Made<usize> {
+        through(handle, |theirs| model::patch(image, mount(k), theirs, buf, time, work))
     }
 }
 

@@ -186,6 +186,7 @@ fn request(sides: &Sides, call: &Call) -> String {
         Call::CreateDir { place: p, time } => format!("m {} {time}", place(p)),
         Call::Delete { place: p, time } => format!("d {} {time}", place(p)),
         Call::Write { slot, len, seed, time } => format!("w {slot} {len} {seed} {time}"),
+        Call::Patch { .. } => unreachable!("no patch is drawn for the list: the original has no such call"),
     }
 }
 

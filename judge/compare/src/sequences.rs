@@ -47,7 +47,7 @@ fn compare_one(draw: Draw, seed: u64, originals: &mut [Box<dyn Original>]) -> Re
     let mut tally = Tally::default();
     let mut made = Vec::new();
     let length = rng.between(50, 400);
-    let mut drawer = Drawer::new(rng, LONGEST).with_accents();
+    let mut drawer = Drawer::new(rng, LONGEST).with_accents().with_patches(start.by.known().patch);
     for step in 0..length {
         let call = if start.raw && step == 0 { Call::Format } else { drawer.draw(&sides) };
         let verdict = sides.step(&call);

@@ -80,6 +80,26 @@ impl Side {
         }
     }
 
+    /// The original has no such call, and this is what it means in the original's own: the bytes behind are read, and written
+    /// once more behind the new ones.
+    fn patch(&mut self, slot: usize, bytes: &[u8]) -> Answer {
+        let file = self.files[slot].as_mut().expect("a file is open in this slot");
+        let (start, size) = (file.position(), file.size());
+        let end = start + bytes.len() as u32;
+        let mut behind = vec![UNTOUCHED; size - end as usize];
+        let steps = [
+            file.seek(moros::SeekFrom::Start(end)).is_ok(),
+            file.read(&self.turn, &mut behind) == Ok(behind.len()),
+            file.seek(moros::SeekFrom::Start(start)).is_ok(),
+            file.write(&self.turn, &[bytes, &behind].concat()) == Ok(size - start as usize),
+            file.seek(moros::SeekFrom::Start(end)).is_ok(),
+        ];
+        if steps.contains(&false) {
+            return Answer::Refused;
+        }
+        Answer::Written { count: bytes.len(), file: state_of(file) }
+    }
+
     fn info(&self, place: &Place) -> Answer {
         match self.turn.info(&self.at(place)) {
             Some(info) => Answer::Info { kind: info.kind, size: info.size, time: info.time, name: info.name.into_bytes() },
@@ -101,6 +121,14 @@ impl Original for Side {
 
     fn first_difference(&self, image: &[u8]) -> Option<usize> {
         self.turn.first_difference(image)
+    }
+
+    fn block(&self, addr: u32) -> Vec<u8> {
+        self.turn.block(addr)
+    }
+
+    fn wipe(&mut self, addr: u32) {
+        self.turn.wipe(addr);
     }
 
     fn make(&mut self, call: &Call) -> Answer {
@@ -135,6 +163,10 @@ impl Original for Side {
             Call::Write { slot, len, seed, time } => {
                 self.turn.set_time(*time);
                 self.write(*slot, &written_bytes(*len, *seed))
+            }
+            Call::Patch { slot, len, seed, time } => {
+                self.turn.set_time(*time);
+                self.patch(*slot, &written_bytes(*len, *seed))
             }
         }
     }

@@ -4,7 +4,7 @@ use crate::domain::{full_path, outside, Before, Reason};
 use crate::original::Original;
 use crate::ours::Ours;
 use crate::party::Party;
-use crate::watch;
+use crate::{watch, wipe};
 use mfs::{Handle, Refusal};
 use std::cell::OnceCell;
 use std::fmt;
@@ -96,14 +96,15 @@ impl<'a> Sides<'a> {
         }
         let listed = self.listed(call);
         let handle = call.slot().and_then(|slot| self.ours.handle(slot).cloned());
+        let before = wipe::Before::of(self.ours.by, call, &self.ours.image, self.k);
         let ours = self.ours.make(call);
         let verdict = match (&ours, listed) {
-            (Err(refusal), _) if outside(refusal.number()) => self.refused_outside(*refusal, call, handle.as_ref()),
+            (Err(refusal), _) if outside(refusal.number()) => self.refused_outside(*refusal, call, handle.as_ref(), before),
             (Ok(_), Some(reason)) | (Err(_), Some(reason @ Reason::SeekOverflows)) => {
                 self.undo(call, handle);
                 self.left_out(reason, call)
             }
-            _ => self.compare(call, ours),
+            _ => self.compare(call, ours, before),
         };
         self.note_cuts(call, &verdict);
         verdict
@@ -148,7 +149,9 @@ impl<'a> Sides<'a> {
 
     fn can_be_made(&self, call: &Call) -> bool {
         match call {
-            Call::Read { slot, .. } | Call::Seek { slot, .. } | Call::Write { slot, .. } => self.ours.handle(*slot).is_some(),
+            Call::Read { slot, .. } | Call::Seek { slot, .. } | Call::Write { slot, .. } | Call::Patch { slot, .. } => {
+                self.ours.handle(*slot).is_some()
+            }
             Call::ListOn { page, .. } => self.page_is_current(*page),
             Call::List { place, from, .. } if *from > 0 => self.dir_at(place).is_none_or(|dir| *from <= self.count_of(dir)),
             _ => true,
@@ -182,22 +185,31 @@ impl<'a> Sides<'a> {
     }
 
     /// The original isn't asked. The library must have had cause, and left its image as the original's is.
-    fn refused_outside(&mut self, refusal: Refusal, call: &Call, handle: Option<&Handle>) -> Verdict {
+    fn refused_outside(
+        &mut self,
+        refusal: Refusal,
+        call: &Call,
+        handle: Option<&Handle>,
+        before: Option<wipe::Before>,
+    ) -> Verdict {
         let number = refusal.number();
         let block = self.original.first_difference(&self.ours.image);
-        let before = self.before(handle);
-        if block.is_none() && before.nothing_to_create_with(number, call) {
-            return self.compare(call, Err(refusal));
+        let volume = self.before(handle);
+        if block.is_none() && volume.nothing_to_create_with(number, call) {
+            return self.compare(call, Err(refusal), before);
         }
-        if block.is_none() && before.gives_cause(number, call) {
+        if block.is_none() && volume.gives_cause(number, call) {
             return Verdict::LeftOut(Reason::Refusal(number));
         }
         let fault = if block.is_some() { "and changed the image" } else { "without cause" };
         Verdict::Differs(self.difference(format!("refused {number}, {fault}"), "not asked".to_string(), block))
     }
 
-    fn compare(&mut self, call: &Call, ours: Result<Answer, Refusal>) -> Verdict {
+    fn compare(&mut self, call: &Call, ours: Result<Answer, Refusal>, before: Option<wipe::Before>) -> Verdict {
         let original = self.make_original(call);
+        if let Some(before) = before {
+            before.wipe(self.original);
+        }
         if call.changes() {
             self.entries.take();
         }

@@ -47,7 +47,6 @@ impl Library {
 
     /// Makes the call of a case on the image and the buffer that stand already.
     pub fn run_on_standing(&mut self, case: &Case, guarded: Guarded) -> Answer {
-        assert_eq!(case.code, 0, "the exports take no size code");
         self.cwd.place(&case.cwd, guarded);
         self.path.place(&case.path, guarded);
         self.work.place(&case.work, guarded);
@@ -63,10 +62,10 @@ impl Library {
     }
 
     /// Checks the image that the last call left.
-    pub fn check_again(&mut self, k: u32, guarded: Guarded) -> u32 {
+    pub fn check_again(&mut self, case: &Case, guarded: Guarded) -> u32 {
         self.work.place(&vec![UNTOUCHED; mfs::work_len(self.image.len())], guarded);
         guard::start_clock();
-        unsafe { raw::mfs_c_check(self.image.ptr(), self.image.len(), k, CODE, self.work.ptr(), self.work.len()) }
+        unsafe { raw::mfs_c_check(self.image.ptr(), self.image.len(), case.k, case.code, self.work.ptr(), self.work.len()) }
     }
 
     /// Asks for room once more. Of the image only the bytes up to `end` are there, and a guard page right after them; its length is
@@ -78,7 +77,7 @@ impl Library {
         }
         guard::start_clock();
         match unsafe {
-            raw::mfs_c_room(self.image.ptr(), case.image.len(), case.k, CODE, count, self.outs[0].ptr(), self.outs[1].ptr())
+            raw::mfs_c_room(self.image.ptr(), case.image.len(), case.k, case.code, count, self.outs[0].ptr(), self.outs[1].ptr())
         } {
             0 => Ok(self.answered_room()),
             refusal => Err(refusal),
@@ -98,7 +97,7 @@ impl Library {
     }
 
     unsafe fn call_export(&mut self, case: &Case) -> u32 {
-        let (img, img_len, k) = (self.image.ptr(), self.image.len(), case.k);
+        let (img, img_len, k, code) = (self.image.ptr(), self.image.len(), case.k, case.code);
         let (cwd, cwd_len) = (self.cwd.ptr(), self.cwd.len());
         let (path, path_len) = (self.path.ptr(), self.path.len());
         let (buf, buf_len) = (self.buf.ptr(), self.buf.len());
@@ -106,18 +105,30 @@ impl Library {
         let (number, name, len) = (self.number.ptr(), self.name.ptr(), case.handle.len);
         let [a, b, c] = &self.outs;
         match case.call {
-            Call::Format => raw::mfs_c_format(img, img_len, k, CODE),
-            Call::Usage => raw::mfs_c_usage(img, img_len, k, CODE, a.ptr(), b.ptr(), c.ptr()),
-            Call::Room(count) => raw::mfs_c_room(img, img_len, k, CODE, count, a.ptr(), b.ptr()),
-            Call::Check => raw::mfs_c_check(img, img_len, k, CODE, work, work_len),
-            Call::Open => raw::mfs_c_open(img, img_len, k, CODE, cwd, cwd_len, path, path_len, number, name, self.len.ptr()),
-            Call::Info => {
-                raw::mfs_c_info(img, img_len, k, CODE, cwd, cwd_len, path, path_len, a.ptr(), b.ptr(), c.ptr(), name, self.len.ptr())
-            }
+            Call::Format => raw::mfs_c_format(img, img_len, k, code),
+            Call::Usage => raw::mfs_c_usage(img, img_len, k, code, a.ptr(), b.ptr(), c.ptr()),
+            Call::Room(count) => raw::mfs_c_room(img, img_len, k, code, count, a.ptr(), b.ptr()),
+            Call::Check => raw::mfs_c_check(img, img_len, k, code, work, work_len),
+            Call::Open => raw::mfs_c_open(img, img_len, k, code, cwd, cwd_len, path, path_len, number, name, self.len.ptr()),
+            Call::Info => raw::mfs_c_info(
+                img,
+                img_len,
+                k,
+                code,
+                cwd,
+                cwd_len,
+                path,
+                path_len,
+                a.ptr(),
+                b.ptr(),
+                c.ptr(),
+                name,
+                self.len.ptr(),
+            ),
             Call::List => {
-                raw::mfs_c_list(img, img_len, k, CODE, cwd, cwd_len, path, path_len, case.from, buf, buf_len, a.ptr(), b.ptr())
+                raw::mfs_c_list(img, img_len, k, code, cwd, cwd_len, path, path_len, case.from, buf, buf_len, a.ptr(), b.ptr())
             }
-            Call::Read => raw::mfs_c_read(img, img_len, k, CODE, number, name, len, buf, buf_len, a.ptr()),
+            Call::Read => raw::mfs_c_read(img, img_len, k, code, number, name, len, buf, buf_len, a.ptr()),
             Call::Seek(SeekFrom::Start(to)) => raw::mfs_c_seek_start(number, name, len, to),
             Call::Seek(SeekFrom::Current(by)) => raw::mfs_c_seek_current(number, name, len, by),
             Call::Seek(SeekFrom::End(by)) => raw::mfs_c_seek_end(number, name, len, by),
@@ -125,7 +136,7 @@ impl Library {
                 img,
                 img_len,
                 k,
-                CODE,
+                code,
                 cwd,
                 cwd_len,
                 path,
@@ -137,9 +148,16 @@ impl Library {
                 name,
                 self.len.ptr(),
             ),
-            Call::CreateDir => raw::mfs_c_create_dir(img, img_len, k, CODE, cwd, cwd_len, path, path_len, case.time, work, work_len),
-            Call::Delete => raw::mfs_c_delete(img, img_len, k, CODE, cwd, cwd_len, path, path_len, case.time, work, work_len),
-            Call::Write => raw::mfs_c_write(img, img_len, k, CODE, number, name, len, buf, buf_len, case.time, work, work_len, a.ptr()),
+            Call::CreateDir => {
+                raw::mfs_c_create_dir(img, img_len, k, code, cwd, cwd_len, path, path_len, case.time, work, work_len)
+            }
+            Call::Delete => raw::mfs_c_delete(img, img_len, k, code, cwd, cwd_len, path, path_len, case.time, work, work_len),
+            Call::Write => {
+                raw::mfs_c_write(img, img_len, k, code, number, name, len, buf, buf_len, case.time, work, work_len, a.ptr())
+            }
+            Call::Patch => {
+                raw::mfs_c_patch(img, img_len, k, code, number, name, len, buf, buf_len, case.time, work, work_len, a.ptr())
+            }
         }
     }
 
@@ -151,7 +169,7 @@ impl Library {
             Call::Open | Call::CreateFile => Values::Handle(self.answered_handle()),
             Call::Info => self.answered_info(),
             Call::List => Values::Listed(Listed { bytes: self.out(0) as usize, next: self.out(1) as u32 }),
-            Call::Read | Call::Write => Values::Bytes(self.out(0) as usize),
+            Call::Read | Call::Write | Call::Patch => Values::Bytes(self.out(0) as usize),
             Call::Format | Call::Check | Call::Seek(_) | Call::CreateDir | Call::Delete => Values::None,
         }
     }
@@ -230,7 +248,7 @@ fn out_sizes(call: Call) -> [usize; 3] {
         Call::Room(_) => [4, 4, 0],
         Call::Info => [1, 4, 8],
         Call::List => [size_of::<usize>(), 4, 0],
-        Call::Read | Call::Write => [size_of::<usize>(), 0, 0],
+        Call::Read | Call::Write | Call::Patch => [size_of::<usize>(), 0, 0],
         _ => [0; 3],
     }
 }

@@ -35,6 +35,7 @@ pub fn change(case: &Case, known: Known, image: &mut [u8], handle: &mut Handle, 
         Call::CreateDir => model::create_dir(image, mount, cwd, path, *time, work).map(|()| Values::None),
         Call::Delete => model::delete(image, mount, cwd, path, *time, work).map(|()| Values::None),
         Call::Write => model::write(image, mount, handle, buf, *time, work).map(Values::Bytes),
+        Call::Patch => model::patch(image, mount, handle, buf, *time, work).map(Values::Bytes),
         other => unreachable!("{other:?} changes no image"),
     };
     answer.map_err(Refusal::number)

@@ -18,6 +18,7 @@ pub enum Call {
     CreateDir,
     Delete,
     Write,
+    Patch,
 }
 
 /// The inputs of a call; those that the call doesn't take mean nothing.
@@ -34,7 +35,7 @@ pub struct Case {
     pub from: u32,
     pub time: u64,
     pub handle: Handle,
-    /// What a read or a listing fills, or what a write stores.
+    /// What a read or a listing fills, or what a write or a patch stores.
     pub buf: Vec<u8>,
     pub work: Vec<u8>,
 }
@@ -78,8 +79,8 @@ pub fn show(answer: &Answer) -> String {
 
 impl Call {
     /// All calls, by name, and the numbers of the refusals that the rules give each.
-    pub const TABLE: [(&'static str, &'static [u32]); 13] = [
-        ("format", if Known::TODAY.code_1 { &[1, 2, 3] } else { &[1, 3] }),
+    pub const TABLE: [(&'static str, &'static [u32]); 14] = [
+        ("format", &[1, 2, 3]),
         ("usage", &[1, 2, 3, 17]),
         ("check", &[1, 2, 3, 16, 17]),
         ("open", &[1, 2, 3, 4, 5, 6, 10, 17]),
@@ -92,7 +93,11 @@ impl Call {
         ("delete", &[1, 2, 3, 4, 5, 6, 14, 16, 17]),
         ("write", &[1, 2, 3, 9, 10, 11, 13, 16, 17]),
         ("room", &[1, 2, 3]),
+        ("patch", &[1, 2, 3, 11, 13, 16, 17, 19]),
     ];
+
+    /// How many rows of the table the library has calls for: the last is there once it has that one, too.
+    pub const ROWS: usize = Call::TABLE.len() - if Known::TODAY.patch { 0 } else { 1 };
 
     /// The call's row of the table.
     pub fn row(self) -> usize {
@@ -110,6 +115,7 @@ impl Call {
             Call::Delete => 10,
             Call::Write => 11,
             Call::Room(_) => 12,
+            Call::Patch => 13,
         }
     }
 
@@ -118,7 +124,7 @@ impl Call {
     }
 
     pub fn changes_the_image(self) -> bool {
-        matches!(self, Call::Format | Call::CreateFile | Call::CreateDir | Call::Delete | Call::Write)
+        matches!(self, Call::Format | Call::CreateFile | Call::CreateDir | Call::Delete | Call::Write | Call::Patch)
     }
 
     fn takes_work(self) -> bool {
@@ -130,11 +136,11 @@ impl Call {
     }
 
     pub fn takes_handle(self) -> bool {
-        matches!(self, Call::Read | Call::Seek(_) | Call::Write)
+        matches!(self, Call::Read | Call::Seek(_) | Call::Write | Call::Patch)
     }
 
     fn takes_buffer(self) -> bool {
-        matches!(self, Call::List | Call::Read | Call::Write)
+        matches!(self, Call::List | Call::Read | Call::Write | Call::Patch)
     }
 }
 

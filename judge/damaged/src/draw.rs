@@ -32,7 +32,8 @@ fn draw_inputs(scene: &mut Scene, call: Call, rng: &mut Rng) -> Case {
 fn draw_call(scene: &Scene, rng: &mut Rng) -> Call {
     // To the changing calls a damaged image has but one answer. A format leaves little to see.
     let calls = if scene.well_formed { 100 } else { 76 };
-    match rng.below(calls) {
+    let more = if scene.known.patch { 6 } else { 0 };
+    match rng.below(calls + more) {
         0 if !scene.well_formed || rng.one_in(3) => Call::Format,
         0..=2 => Call::Usage,
         3..=4 => Call::Room(draw_count(scene, rng)),
@@ -45,6 +46,7 @@ fn draw_call(scene: &Scene, rng: &mut Rng) -> Call {
         62..=65 | 76..=82 => Call::CreateFile,
         66..=68 | 83..=87 => Call::CreateDir,
         69..=71 | 88..=93 => Call::Delete,
+        _ if scene.known.patch && rng.one_in(2) => Call::Patch,
         _ => Call::Write,
     }
 }
@@ -98,7 +100,7 @@ fn draw_k(scene: &Scene, rng: &mut Rng) -> u32 {
 
 /// Mostly the card's own.
 fn draw_code(scene: &Scene, rng: &mut Rng) -> u32 {
-    if scene.known.code_1 && rng.one_in(40) {
+    if rng.one_in(40) {
         return *rng.pick(&[0, 1, 2, 3, 256, u32::MAX]);
     }
     scene.code()
@@ -134,11 +136,13 @@ fn draw_work(scene: &Scene, rng: &mut Rng) -> Vec<u8> {
     work
 }
 
-/// Lengths at the edges of blocks and records, and for a read at the file's end.
+/// Lengths at the edges of blocks and records, and for a read at the file's end. Half of the patches end inside the file, there, or
+/// one byte behind.
 fn draw_buffer(form: Form, call: Call, handle: &Handle, rng: &mut Rng) -> Vec<u8> {
     let left = u64::from(handle.size.saturating_sub(handle.position)).min(20_000);
     let len = match rng.below(4) {
-        0 if call == Call::Write && !rng.one_in(8) => rng.between(1, 60),
+        _ if call == Call::Patch && rng.one_in(2) => rng.below(left + 2),
+        0 if matches!(call, Call::Write | Call::Patch) && !rng.one_in(8) => rng.between(1, 60),
         0 => *rng.pick(&[0, 0, 1, 2, 14, 15, 16, 17, 31, 269, 270, 271]),
         1 if form == Form::Large => *rng.pick(&[1019, 1020, 1021, 2039, 2040, 2041, 3060, 3061, 4080, 5100]),
         1 => *rng.pick(&[507, 508, 509, 1015, 1016, 1017, 1524, 1525, 2032, 5080]),

@@ -4,6 +4,7 @@ use crate::by_model::{self, Outcome};
 use crate::case::{show, Answer, Call, Case, Values};
 use crate::guard::Guarded;
 use model::{Known, SIZES};
+use volumes::Geometry;
 
 /// The outcome that both sides agree on, or what is wrong.
 pub fn judge(case: &Case, guarded: Guarded, library: &mut Library) -> Result<Outcome, String> {
@@ -15,7 +16,8 @@ pub fn judge(case: &Case, guarded: Guarded, library: &mut Library) -> Result<Out
         read_no_further(case, count, room.bytes, &answer, library)?;
     }
     if answer.is_ok() && case.call.changes_the_image() {
-        let refusal = library.check_again(case.k, guarded);
+        look_at_free_blocks(case, library.image.bytes())?;
+        let refusal = library.check_again(case, guarded);
         if refusal != 0 {
             return Err(format!("the call is accepted, and then the check refuses the volume: {refusal}"));
         }
@@ -52,6 +54,25 @@ fn look_from_outside(answer: &Answer, case: &Case, library: &Library) -> Result<
         let handle_changed = case.call.takes_handle() && library.number.bytes() != number_bytes(&case.handle);
         if library.image.bytes() != case.image || library.buf.bytes() != case.buf || handle_changed {
             return Err("a refused call changed the image, the buffer or the handle".to_string());
+        }
+    }
+    Ok(())
+}
+
+/// What a call gave back is zero, and what was free before it and is free after it has the bytes that it had. A format looks at
+/// no bit that was there before.
+fn look_at_free_blocks(case: &Case, after: &[u8]) -> Result<(), String> {
+    let geometry = Geometry::read(after, case.k, case.code).filter(|_| case.call != Call::Format);
+    let Some(geometry) = geometry else { return Ok(()) };
+    let size = geometry.form().block_size();
+    let bytes = |image: &[u8], addr: u32| image[geometry.place(addr)..][..size].to_vec();
+    for addr in (geometry.data()..geometry.blocks()).filter(|&addr| !geometry.taken(after, addr)) {
+        let was_taken = geometry.taken(&case.image, addr);
+        if was_taken && Known::TODAY.wiping && bytes(after, addr).iter().any(|&byte| byte != 0) {
+            return Err(format!("block {addr} was given back, and is not zero"));
+        }
+        if !was_taken && bytes(after, addr) != bytes(&case.image, addr) {
+            return Err(format!("block {addr} is free and was, and has changed"));
         }
     }
     Ok(())

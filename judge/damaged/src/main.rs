@@ -9,6 +9,7 @@ mod forms;
 mod guard;
 mod handles;
 mod judge;
+mod patches;
 mod paths;
 mod rooms;
 mod scene;
@@ -56,6 +57,9 @@ fn main() {
         round += 1;
     }
     rooms::compare(&mut library, &mut tally);
+    if Known::TODAY.patch {
+        patches::compare(&mut library, &mut tally);
+    }
     println!("{round} rounds done; now images and buffers of some GiB");
     vast::compare(&mut library, &mut tally);
     println!("{tally}");

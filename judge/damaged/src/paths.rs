@@ -102,7 +102,7 @@ fn draw_fitting_path(scene: &Scene, rng: &mut Rng) -> Vec<u8> {
 pub fn draw_entry<'a>(scene: &'a Scene, call: Call, rng: &mut Rng) -> Option<&'a Entry> {
     let wanted = |entry: &&Entry| match call {
         Call::List => entry.kind == Kind::Dir,
-        Call::Open | Call::Read | Call::Write => entry.kind == Kind::File,
+        Call::Open | Call::Read | Call::Write | Call::Patch => entry.kind == Kind::File,
         _ => true,
     };
     let fitting: Vec<&Entry> = scene.entries.iter().filter(wanted).collect();

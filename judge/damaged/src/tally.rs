@@ -2,7 +2,11 @@
 use crate::case::{Answer, Call};
 use std::fmt;
 
-const NUMBERS: usize = 18;
+/// Refusals have numbers up to 19.
+const NUMBERS: usize = 20;
+
+/// The number that no refusal has any more.
+const UNUSED: usize = 18;
 
 pub struct Tally {
     counts: [[u64; NUMBERS]; Call::TABLE.len()],
@@ -25,7 +29,7 @@ impl Tally {
     /// The answers that the rules name for a call and that no call got.
     pub fn missed(&self) -> Vec<String> {
         let mut missed = Vec::new();
-        for ((name, refusals), counts) in Call::TABLE.iter().zip(&self.counts) {
+        for ((name, refusals), counts) in Call::TABLE.iter().zip(&self.counts).take(Call::ROWS) {
             for number in [0].iter().chain(refusals.iter()) {
                 if counts[*number as usize] == 0 {
                     missed.push(format!("{name} {number}"));
@@ -40,12 +44,13 @@ impl fmt::Display for Tally {
     fn fmt(&self, f: &mut fmt::Formatter) -> fmt::Result {
         write!(f, "{:<12}", "answer")?;
         write!(f, "{:>8}", "ok")?;
-        for number in 1..NUMBERS {
+        let numbers = || (1..NUMBERS).filter(|&number| number != UNUSED);
+        for number in numbers() {
             write!(f, "{number:>7}")?;
         }
-        for ((name, refusals), counts) in Call::TABLE.iter().zip(&self.counts) {
+        for ((name, refusals), counts) in Call::TABLE.iter().zip(&self.counts).take(Call::ROWS) {
             write!(f, "\n{name:<12}{:>8}", counts[0])?;
-            for (number, count) in counts.iter().enumerate().skip(1) {
+            for (number, count) in numbers().map(|number| (number, counts[number])) {
                 let cell = if refusals.contains(&(number as u32)) { count.to_string() } else { "-".to_string() };
                 write!(f, "{cell:>7}")?;
             }

@@ -56,14 +56,24 @@ fn longest_buffers(library: &mut Library, tally: &mut Tally) {
     let handle = model::open(&volume.image, K, b"/", b"/m1").expect("the file");
     let case = Case { handle, work: vec![0xff; 512], ..empty_case(Call::Write) };
     let (left, wide) = (MAX_FILE - 1000, u32::MAX as usize + 1);
-    for (call, position, len) in [
+    let mut calls = vec![
         (Call::Write, 1000, left),
         (Call::Write, 1000, left + 1),
         (Call::Write, 0, MAX_FILE + 1),
         (Call::Write, 1000, wide + 1),
         (Call::Read, 10, wide + 3),
         (Call::List, 0, wide + 1),
-    ] {
+    ];
+    if Known::TODAY.patch {
+        // In 32 bits the sum of the last two would lie inside the file.
+        calls.extend([
+            (Call::Patch, 1000, left),
+            (Call::Patch, 0, MAX_FILE + 1),
+            (Call::Patch, 0, wide),
+            (Call::Patch, 10, wide + 3),
+        ]);
+    }
+    for (call, position, len) in calls {
         let mut case = Case { call, path: b"/".to_vec(), ..case.clone() };
         case.handle.position = position;
         let mut pair = Pair::new(library, volume.image.len(), len);

@@ -4,6 +4,9 @@ use mfs::raw;
 use model::{Handle, SeekFrom};
 use volumes::{entries, random, Entry, Geometry, Kind, Rng, Size, Style, Tree, Wish, BLOCK_SIZE, CAPACITY, ROOT};
 
+/// The size code of the images: blocks of 512 bytes.
+const CODE: u32 = mfs::CODE_512;
+
 const K: u32 = 8;
 const NO_ROOM: u32 = 9;
 

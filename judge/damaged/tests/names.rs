@@ -4,6 +4,9 @@ use mfs::raw;
 use model::{Answer, Refusal, NAME_LEN};
 use volumes::{Geometry, Rng, Style, Tree, BLOCK_SIZE, HEADER, ROOT};
 
+/// The size code of the images: blocks of 512 bytes.
+const CODE: u32 = mfs::CODE_512;
+
 const K: u32 = 8;
 
 /// The edges of the ranges that a first byte may be in, with a byte before and behind.
@@ -46,7 +49,19 @@ impl Card {
         let (mut handle, mut name, mut len) = ([0; 4], [0; NAME_LEN], 0);
         let (image, size) = (self.image.as_ptr(), self.image.len());
         unsafe {
-            raw::mfs_c_open(image, size, K, CODE, cwd.as_ptr(), cwd.len(), path.as_ptr(), path.len(), &mut handle, &mut name, &mut len)
+            raw::mfs_c_open(
+                image,
+                size,
+                K,
+                CODE,
+                cwd.as_ptr(),
+                cwd.len(),
+                path.as_ptr(),
+                path.len(),
+                &mut handle,
+                &mut name,
+                &mut len,
+            )
         }
     }
 

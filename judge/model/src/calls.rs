@@ -1,7 +1,7 @@
 //! The calls (C1 to C12 and C18), each with its refusals in order (O1 to O12).
 use crate::check::{well_formed, MAX_DEPTH, MAX_FILE};
 use crate::directory::{self, Entry, Kind, Opened, HEADER};
-use crate::geometry::{Geometry, Mount, WRITTEN};
+use crate::geometry::{Geometry, Known, Mount, WRITTEN};
 use crate::path::{full_path, pieces, split};
 use crate::volume;
 use crate::{Answer, Refusal};
@@ -346,7 +346,8 @@ fn renew(image: &mut [u8], geo: Geometry, entry: &Entry, size: usize, time: u64)
 /// O8, O10. C11: the entry's bytes go; a block without entries that is not the first
 /// is given back, and then the entry's chain. C13.
 pub fn delete(image: &mut [u8], mount: impl Into<Mount>, cwd: &[u8], path: &[u8], time: u64, work: &mut [u8]) -> Answer<()> {
-    let geo = checked(image, mount.into(), work)?;
+    let mount = mount.into();
+    let geo = checked(image, mount, work)?;
     let full = full_path(cwd, path)?;
     let (holder, entry) = find(image, geo, &full)?;
     if entry.kind == Kind::Dir && !directory::walk(image, geo, entry.address).entries.is_empty() {
@@ -354,9 +355,9 @@ pub fn delete(image: &mut [u8], mount: impl Into<Mount>, cwd: &[u8], path: &[u8]
     }
 
     remove_entry(image, geo, &entry);
-    unlink_if_empty(image, geo, holder.first, entry.block);
+    unlink_if_empty(image, geo, holder.first, entry.block, mount.known);
     for block in volume::chain(image, geo, entry.address).blocks {
-        volume::free(image, geo, block);
+        volume::free(image, geo, block, mount.known);
     }
     renew_own_entry(image, geo, &holder, time);
     Ok(())
@@ -370,7 +371,7 @@ fn remove_entry(image: &mut [u8], geo: Geometry, entry: &Entry) {
 }
 
 /// C11: a block without entries, not the first, is linked past and given back
-fn unlink_if_empty(image: &mut [u8], geo: Geometry, first: usize, block: usize) {
+fn unlink_if_empty(image: &mut [u8], geo: Geometry, first: usize, block: usize, known: Known) {
     if block == first || directory::used_of_block(image, geo, block) > 0 {
         return;
     }
@@ -378,12 +379,11 @@ fn unlink_if_empty(image: &mut [u8], geo: Geometry, first: usize, block: usize) 
     let before = blocks.iter().position(|&address| address == block).expect("the entry was found in this chain") - 1;
     let after = volume::next(image, geo, block);
     volume::set_next(image, geo, blocks[before], after);
-    volume::free(image, geo, block);
+    volume::free(image, geo, block, known);
 }
 
 /// O8, O11. C12: the file is its first c bytes and then the buffer; in a kept
 /// block what is behind the end stays.
-/// H4: its directory is one reached from the root (by its first address, reading 9).
 pub fn write(
     image: &mut [u8],
     mount: impl Into<Mount>,
@@ -392,7 +392,49 @@ pub fn write(
     time: u64,
     work: &mut [u8],
 ) -> Answer<usize> {
-    let geo = checked(image, mount.into(), work)?;
+    let mount = mount.into();
+    let (geo, entry) = target(image, mount, handle, buf, work)?;
+    let end = handle.position as usize + buf.len();
+    if end > MAX_FILE {
+        return Err(Refusal::TooLarge);
+    }
+    let blocks = volume::chain(image, geo, entry.address).blocks;
+    volume::room_for(image, geo, geo.file_blocks(end).saturating_sub(blocks.len()))?;
+
+    let blocks = fit_chain(image, geo, blocks, geo.file_blocks(end), mount.known);
+    put_bytes(image, geo, &blocks, handle.position as usize, buf);
+    renew(image, geo, &entry, end, time);
+    handle.size = end as u32;
+    handle.position = end as u32;
+    Ok(buf.len())
+}
+
+/// The buffer over bytes that are in the file already: its size, its chain and all its other bytes stay, and the entry takes
+/// the time. Refused as a write is up to 11, and then by 19 where the buffer would go past the file's end.
+pub fn patch(
+    image: &mut [u8],
+    mount: impl Into<Mount>,
+    handle: &mut Handle,
+    buf: &[u8],
+    time: u64,
+    work: &mut [u8],
+) -> Answer<usize> {
+    let (geo, entry) = target(image, mount.into(), handle, buf, work)?;
+    let end = handle.position as usize + buf.len();
+    if end > entry.size {
+        return Err(Refusal::PastEnd);
+    }
+    let blocks = volume::chain(image, geo, entry.address).blocks;
+    put_bytes(image, geo, &blocks, handle.position as usize, buf);
+    renew(image, geo, &entry, entry.size, time);
+    handle.position = end as u32;
+    Ok(buf.len())
+}
+
+/// What the calls that store a buffer look at first: the whole check, 13, and 11.
+/// H4: the handle's directory is one reached from the root (by its first address, reading 9).
+fn target(image: &[u8], mount: Mount, handle: &Handle, buf: &[u8], work: &mut [u8]) -> Answer<(Geometry, Entry)> {
+    let geo = checked(image, mount, work)?;
     if buf.is_empty() {
         return Err(Refusal::EmptyWrite);
     }
@@ -400,33 +442,25 @@ pub fn write(
     if !directory::directories_under(image, geo, geo.d()).contains(&(handle.dir as usize)) {
         return Err(Refusal::Stale);
     }
-    let entry = handle.entry(image, geo)?;
-    let (start, end) = (handle.position as usize, handle.position as usize + buf.len());
-    if end > MAX_FILE {
-        return Err(Refusal::TooLarge);
-    }
-    let blocks = volume::chain(image, geo, entry.address).blocks;
-    volume::room_for(image, geo, geo.file_blocks(end).saturating_sub(blocks.len()))?;
+    Ok((geo, handle.entry(image, geo)?))
+}
 
-    let blocks = fit_chain(image, geo, blocks, geo.file_blocks(end));
+/// The buffer's bytes in a file of those blocks, from a position on.
+fn put_bytes(image: &mut [u8], geo: Geometry, blocks: &[usize], start: usize, buf: &[u8]) {
     let capacity = geo.size().capacity;
-    for (place, byte) in (start..end).zip(buf) {
+    for (place, byte) in (start..).zip(buf) {
         volume::data_mut(image, geo, blocks[place / capacity])[place % capacity] = *byte;
     }
-    renew(image, geo, &entry, end, time);
-    handle.size = end as u32;
-    handle.position = end as u32;
-    Ok(buf.len())
 }
 
 /// C12: what is missing is taken, what is not needed any more is given back.
-fn fit_chain(image: &mut [u8], geo: Geometry, mut blocks: Vec<usize>, wanted: usize) -> Vec<usize> {
+fn fit_chain(image: &mut [u8], geo: Geometry, mut blocks: Vec<usize>, wanted: usize, known: Known) -> Vec<usize> {
     while blocks.len() < wanted {
         let new = link_new_block(image, geo, &blocks);
         blocks.push(new);
     }
     for past in blocks.split_off(wanted) {
-        volume::free(image, geo, past);
+        volume::free(image, geo, past, known);
     }
     volume::set_next(image, geo, blocks[wanted - 1], 0);
     blocks

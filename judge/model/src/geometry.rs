@@ -28,18 +28,23 @@ pub const SIZES: [Size; 2] = [
 /// F2: the version that format writes.
 pub const WRITTEN: u8 = 2;
 
-/// Which volumes are taken besides those of version 2 and size code 0; all others are refused by 2.
+/// Which volumes are taken besides those of version 2 and size code 0, all others being refused by 2; and which of the rules
+/// hold that came later.
 #[derive(Clone, Copy, Debug, PartialEq, Eq)]
 pub struct Known {
     pub version_1: bool,
     pub code_1: bool,
+    /// A block that is given back becomes zero.
+    pub wiping: bool,
+    /// There is a call that changes bytes inside a file.
+    pub patch: bool,
 }
 
 impl Known {
-    /// What the library takes. The judges that run it ask for this.
-    pub const TODAY: Known = Known { version_1: false, code_1: false };
+    /// What the library does. The judges that run it ask for this.
+    pub const TODAY: Known = Known { version_1: false, code_1: false, wiping: false, patch: false };
     /// All that this model can do.
-    pub const ALL: Known = Known { version_1: true, code_1: true };
+    pub const ALL: Known = Known { version_1: true, code_1: true, wiping: true, patch: true };
 
     /// R2, the version: only version 2 has a size code other than 0.
     fn takes(self, version: u8, code: u32) -> bool {

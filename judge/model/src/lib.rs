@@ -11,12 +11,12 @@ mod path;
 mod tests;
 mod volume;
 
-pub use calls::{check, create_dir, create_file, delete, format, info, list, open, read, room, seek, usage, write};
+pub use calls::{check, create_dir, create_file, delete, format, info, list, open, patch, read, room, seek, usage, write};
 pub use calls::{Handle, Info, Listed, Room, SeekFrom, Usage, NAME_LEN};
 pub use directory::Kind;
 pub use geometry::{Geometry, Known, Mount, Size, SIZES};
 
-/// R1 to R17.
+/// R1 to R17, and 19.
 #[derive(Clone, Copy, Debug, PartialEq, Eq, Hash, PartialOrd, Ord)]
 #[repr(u8)]
 pub enum Refusal {
@@ -54,10 +54,12 @@ pub enum Refusal {
     ShortWork = 16,
     /// R17
     Damaged = 17,
+    /// R19
+    PastEnd = 19,
 }
 
 impl Refusal {
-    /// The number of the refusal: 1 to 17. (18 is not used: past the whole check the holding directory's own entry is there.)
+    /// The number of the refusal: 1 to 17, or 19. (18 is not used: past the whole check the holding directory's own entry is there.)
     pub fn number(self) -> u32 {
         self as u32
     }

@@ -1,5 +1,5 @@
 //! The store and its numbers: superblock, bitmap and linked blocks.
-use crate::geometry::{Geometry, Mount};
+use crate::geometry::{Geometry, Known, Mount};
 use crate::{Answer, Refusal};
 
 const SIGNATURE: &[u8; 8] = b"MOROS FS";
@@ -76,9 +76,13 @@ pub fn take(image: &mut [u8], geo: Geometry, address: usize) -> usize {
     address
 }
 
-/// F7: a block is given back; its bytes stay.
-pub fn free(image: &mut [u8], geo: Geometry, address: usize) {
+/// F7: a block is given back, and all its bytes become zero, so that none can be read on a card that was thrown away. Where
+/// wiping is not known they stay.
+pub fn free(image: &mut [u8], geo: Geometry, address: usize, known: Known) {
     let (place, mask) = geo.bit(geo.index(address));
+    if known.wiping {
+        block_mut(image, geo, address).fill(0);
+    }
     image[place] &= !mask;
     let count = used(image, geo);
     set_used(image, geo, count - 1);

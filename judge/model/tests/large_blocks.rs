@@ -192,7 +192,7 @@ fn the_code_of_the_card_and_its_version() {
 #[test]
 fn what_is_not_known_is_refused() {
     let image = formatted(12).unwrap();
-    let today = Mount { known: Known { version_1: true, code_1: false }, ..LARGE };
+    let today = Mount { known: Known { code_1: false, ..Known::ALL }, ..LARGE };
     assert_eq!(parts(&image, today), Err(Refusal::NotMfs));
     assert_eq!(parts(&[], today), Err(Refusal::NotMfs));
     assert_eq!(parts(&image, LARGE), Ok([11, 1, 8192, 0, 1]));

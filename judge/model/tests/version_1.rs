@@ -9,7 +9,7 @@ use volumes::{blank, random_of, Form, Rng, Size, Tree, Volume, Wish, ROOT};
 
 const OLD: Mount = Mount { k: K, code: 0, known: Known::ALL };
 /// For a model that does not know version 1.
-const UNKNOWN: Mount = Mount { known: Known { version_1: false, code_1: true }, ..OLD };
+const UNKNOWN: Mount = Mount { known: Known { version_1: false, ..Known::ALL }, ..OLD };
 const SUPERBLOCK: usize = 8 * 512;
 
 /// The places of a card with N blocks from the bitmap on.

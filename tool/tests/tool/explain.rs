@@ -1,8 +1,9 @@
 //! `check --explain`: damage of each kind is named, and on ten thousand damaged images the verdict is that of the judge's model.
 use crate::objects::{number, object, objects, text, Object};
 use crate::support::Bench;
+use model::Known;
 use std::collections::HashMap;
-use volumes::{random, Entry, Geometry, Rng, Size, Style, Tree, Volume, Wish, BLOCK_SIZE, HEADER, ROOT};
+use volumes::{random_of, Entry, Form, Geometry, Rng, Size, Style, Tree, Volume, Wish, BLOCK_SIZE, HEADER, ROOT};
 
 /// The judge's edits of volumes.
 #[path = "../../../judge/damaged/src/damage.rs"]
@@ -235,7 +236,8 @@ fn draw(k: u32, rng: &mut Rng) -> Vec<u8> {
     }
     let size = if rng.one_in(50) { Size::Usual } else { Size::Small };
     let (entries, depth) = (*rng.pick(&[0, 1, 3, 6, 12, 25]), *rng.pick(&[0, 0, 0, 2, 15, 16]));
-    let mut volume = random(Wish { k, size, entries, depth, free: None }, rng);
+    let form = if Known::TODAY.version_1 && rng.one_in(40) { Form::V1 } else { Form::V2 };
+    let mut volume = random_of(form, Wish { k, size, entries, depth, free: None }, rng);
     let edits = *rng.pick(&[1, 1, 1, 1, 2, 2, 3]);
     damage::damage(&mut volume, edits, rng);
     volume.image

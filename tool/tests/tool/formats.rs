@@ -13,7 +13,7 @@ fn format_makes_a_file_or_takes_a_blank_one() {
     bench.ok(&["-k", "0", "check", "blank.img"]);
     // The library's own answer on the same bytes.
     let mut meant = vec![0; 5000 * 512];
-    mfs::format(&mut meant, 0).expect("a volume");
+    mfs::format(&mut meant, 0, mfs::CODE_512).expect("a volume");
     assert!(bench.read("blank.img") == meant, "another image than the library's");
 }
 

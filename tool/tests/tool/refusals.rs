@@ -40,15 +40,20 @@ fn refusal_2_says_where_the_mark_is_or_what_the_card_is() {
     };
     bench.fails(&["ls", "zero.img"], 1, &no_mark("in any block"));
     bench.fails(&["-k", "8", "ls", "zero.img"], 1, &no_mark("at block 8, nor at another"));
-    bench.patch("card.img", 8 * 512 + 8, &[1]);
-    let version = "mfs: card.img: refused 2: the superblock at block 8 has version 1; this tool knows version 2: \
-                   an older or newer tool may read it";
+    let (unknown, known) = if model::Known::TODAY.version_1 { (3, "1 and 2") } else { (1, "2") };
+    bench.patch("card.img", 8 * 512 + 8, &[unknown]);
+    let version = format!(
+        "mfs: card.img: refused 2: the superblock at block 8 has version {unknown}; this tool knows version {known}: \
+         an older or newer tool may read it"
+    );
     for words in [&["ls", "card.img"][..], &["check", "card.img"], &["mkdir", "card.img", "/d"], &["map", "card.img"]] {
-        bench.fails(words, 1, version);
+        bench.fails(words, 1, &version);
     }
     bench.patch("card.img", 8 * 512 + 8, &[2, 1]);
-    let code = "mfs: card.img: refused 2: size code 1 (blocks of 1024 bytes) is not supported yet: a newer tool may read it";
-    bench.fails(&["ls", "card.img"], 1, code);
+    let code = "mfs: card.img: refused 2: the superblock at block 8 has size code 1, and not 0: use another --code or -k, or leave them out";
+    bench.fails(&["-k", "8", "ls", "card.img"], 1, code);
+    bench.patch("card.img", 8 * 512 + 9, &[2]);
+    bench.fails(&["ls", "card.img"], 1, "mfs: card.img: refused 2: size code 2 is unknown: a newer tool may read it");
 }
 
 #[test]
@@ -234,19 +239,6 @@ fn a_command_line_that_makes_no_sense() {
     for (words, line) in cases {
         assert_eq!(first_line(&bench, words), (2, line.to_string()), "{words:?}");
     }
-}
-
-#[test]
-fn size_code_1_is_not_there_yet() {
-    let bench = Bench::with_card();
-    let (code, line) = first_line(&bench, &["--code", "1", "ls", "card.img"]);
-    assert_eq!(
-        (code, line.as_str()),
-        (2, "mfs: --code 1 (blocks of 1024 bytes) is not supported yet: this version knows --code 0 (blocks of 512 bytes)")
-    );
-    bench.ok(&["--code", "0", "ls", "card.img"]);
-    bench.ok(&["ls", "--code=auto", "card.img"]);
-    assert_eq!(first_line(&bench, &["--code", "2", "ls", "card.img"]).1, "mfs: --code takes 0, 1 or auto, not '2'");
 }
 
 #[test]

@@ -9,6 +9,7 @@ use Rattle.cases.proofs.on_image.Reads as on-image-reads
 use Rattle.cases.proofs.put.Reads as put-reads
 use Rattle.cases.proofs.quota.Reads as quota-reads
 use Rattle.cases.proofs.volume.Reads as volume-reads
+use Rattle.cases.proofs.yardstick.Reads as yardstick-reads
 
 -- src/main.rt:1144:24
 volume-requires : tie.Need-volume-requires
@@ -50,6 +51,18 @@ quota-requires c κs = search needs
 returns-3 : tie.Need-returns-3
 returns-3 c = search needs
 
+-- src/main.rt:1167:37
+element-copy-out-yardstick : tie.Need-element-copy-out-yardstick
+element-copy-out-yardstick c = search needs
+
+-- src/main.rt:1167:17
+yardstick-requires : tie.Need-yardstick-requires
+yardstick-requires c κs = search needs
+
+-- src/main.rt:1167:17
+returns-4 : tie.Need-returns-4
+returns-4 c = search needs
+
 -- src/main.rt:1154:29
 slice-relend-prefix-on-image : tie.Need-slice-relend-prefix-on-image
 slice-relend-prefix-on-image c = search needs
@@ -79,8 +92,8 @@ same-length-3 : tie.Need-same-length-3
 same-length-3 c = search needs
 
 -- src/main.rt:1154:13
-returns-4 : tie.Need-returns-4
-returns-4 c = search needs
+returns-5 : tie.Need-returns-5
+returns-5 c = search needs
 
 -- src/main.rt:1157:9
 slice-aggregate-put : tie.Need-slice-aggregate-put
@@ -91,8 +104,8 @@ put-requires : tie.Need-put-requires
 put-requires c κs = search needs
 
 -- src/main.rt:1133:1
-returns-5 : tie.Need-returns-5
-returns-5 c = search needs
+returns-6 : tie.Need-returns-6
+returns-6 c = search needs
 
 pub perform-spec : {M : Type 1} → statement M
 perform-spec =
@@ -108,6 +121,9 @@ perform-spec =
     element-copy-out-quota
     quota-requires
     returns-3
+    element-copy-out-yardstick
+    yardstick-requires
+    returns-4
     slice-relend-prefix-on-image
     slice-aggregate-on-image
     array-borrow-prefix-work
@@ -115,7 +131,7 @@ perform-spec =
     on-image-requires
     same-length-2
     same-length-3
-    returns-4
+    returns-5
     slice-aggregate-put
     put-requires
-    returns-5)
+    returns-6)

@@ -32,14 +32,18 @@ impl Life {
     /// Makes one call and looks at all that it left.
     pub fn step(&mut self) {
         let before = self.image.clone();
-        let answer = match self.rng.below(10) {
+        let answer = match self.rng.below(12) {
             0..=2 => self.create(Kind::File),
             3 => self.create(Kind::Dir),
             4 | 5 => self.delete(),
+            6 | 7 => self.patch(),
             _ => self.write(),
         };
         match answer {
-            Ok(()) => self.accepted += 1,
+            Ok(()) => {
+                self.accepted += 1;
+                self.look_at_free(&before);
+            }
             Err(refusal) => {
                 assert!(self.image == before, "a refused call changed the card");
                 self.no_room += u32::from(refusal == Refusal::NoRoom);
@@ -61,6 +65,19 @@ impl Life {
         let used = (self.geometry.data() as usize + blocks) as u64;
         let size = self.geometry.form().block_size() as u64;
         assert_eq!(model::usage(&self.image, self.mount).map(|usage| usage.used), Ok(used * size));
+    }
+
+    /// What a call gave back is zero, and what was free before it and is free after it has the bytes that it had.
+    fn look_at_free(&self, before: &[u8]) {
+        let (geometry, size) = (self.geometry, self.geometry.form().block_size());
+        for addr in (geometry.data()..geometry.blocks()).filter(|&addr| !geometry.taken(&self.image, addr)) {
+            let bytes = &self.image[geometry.place(addr)..][..size];
+            if geometry.taken(before, addr) {
+                assert!(bytes.iter().all(|&byte| byte == 0), "block {addr} was given back");
+            } else {
+                assert!(*bytes == before[geometry.place(addr)..][..size], "block {addr} was free before");
+            }
+        }
     }
 
     fn free(&self) -> usize {
@@ -143,6 +160,37 @@ impl Life {
         if answer.is_ok() {
             assert_eq!((handle.size, handle.position), ((position + buf.len()) as u32, (position + buf.len()) as u32));
             self.files.insert(path.clone(), [&old[..position], &buf].concat());
+        }
+        assert_eq!(contents(&self.image, self.mount, &path).as_ref(), Ok(&self.files[&path]));
+        answer.map(|_| ())
+    }
+
+    /// Some bytes in the middle of a file; one byte too many at times.
+    fn patch(&mut self) -> Answer<()> {
+        let paths: Vec<Vec<u8>> = self.files.keys().cloned().collect();
+        if paths.is_empty() {
+            return Ok(());
+        }
+        let path = self.rng.pick(&paths).clone();
+        let old = self.files[&path].clone();
+        let position = self.rng.below(old.len() as u64 + 1) as usize;
+        let len = self.rng.between(1, (old.len() - position + 1) as u64) as usize;
+        let buf: Vec<u8> = (0..len).map(|_| self.rng.next_u64() as u8).collect();
+        let mut handle = super::opened(&self.image, self.mount, &path, position as u32);
+        let mut other = handle.clone();
+        let answer = model::patch(&mut self.image, self.mount, &mut handle, &buf, TIME, &mut work());
+        let past = position + len > old.len();
+        assert_eq!(answer, if past { Err(Refusal::PastEnd) } else { Ok(len) }, "{len} bytes at {position}");
+        if answer.is_ok() {
+            self.files.insert(path.clone(), [&old[..position], &buf, &old[position + len..]].concat());
+            let (size, position) = (old.len() as u32, (position + len) as u32);
+            assert_eq!((handle.size, handle.position), (size, position));
+            assert_eq!(
+                model::read(&self.image, self.mount, &mut other, &mut vec![0; len]),
+                Ok(len),
+                "the other handle is current"
+            );
+            assert_eq!(other, handle);
         }
         assert_eq!(contents(&self.image, self.mount, &path).as_ref(), Ok(&self.files[&path]));
         answer.map(|_| ())

@@ -44,6 +44,20 @@ impl Device {
         }
     }
 
+    /// One block of the mounted device.
+    pub fn block(addr: u32) -> [u8; BLOCK_SIZE] {
+        let mut device = BLOCK_DEVICE.lock();
+        let mut block = [0; BLOCK_SIZE];
+        device.as_mut().expect("a mounted device").read(addr, &mut block).expect("a block of the device");
+        block
+    }
+
+    /// Makes one block of the mounted device zero.
+    pub fn wipe(addr: u32) {
+        let mut device = BLOCK_DEVICE.lock();
+        device.as_mut().expect("a mounted device").write(addr, &[0; BLOCK_SIZE]).expect("a block of the device");
+    }
+
     /// The number of blocks of the mounted device.
     pub fn block_count() -> usize {
         BLOCK_DEVICE.lock().as_ref().map_or(0, |device| device.block_count())
