@@ -15,7 +15,7 @@ use Rattle.bits.proofs.Bits.{bit-ext, bit-lt, length-with, byte-with-other, bit
 use Rattle.block.specs.Block.{cell, zeroed, Off, Kept}
 use Rattle.block.proofs.Blocks.{block-below, kept-trans, kept-less, be-kept, splice-kept, zeroed-kept, cell-zeroed}
 use Rattle.model.specs.Tree.{Tree}
-use Rattle.model.specs.Render.{blocks, count, padded, Shows}
+use Rattle.model.specs.Render.{blocks, count, padded, Shows, Wiped}
 use Rattle.model.specs.Geometry.{Geo, blockSize, mapSize, mapAt, dataAt, reach, mapBits, bitEnd, signature, superBytes, usedCount, Sound}
 use Rattle.model.specs.Volume.{Volume}
 use Rattle.model.specs.Calls.{freeBlocks}
@@ -129,10 +129,7 @@ module _ (g : Geo) (I : List ℕ) (s : Sound g (length I)) (x : ℕ) (h : dataAt
       go b o (inl l) q = omega (arith, block-below (blockSize g) b (mapAt g) o l q)
       go b o (inr l) q = omega (arith, mul-le-mul-left (blockSize g) l, bit-below g (length I) s x (index-in g (length I) s x h))
 
-  pub length-marked : length (marked g I x v) ≡ length I
-  length-marked = marked-kept .size
-
-  pub used-marked : usedCount g (marked g I x v) ≡ usedCount g I
+  used-marked : usedCount g (marked g I x v) ≡ usedCount g I
   used-marked = used-kept g I s _ (marked g I x v) marked-kept (λ o _ _. inl (omega arith))
 
   mark-marked : v < 2 → mark g (marked g I x v) x ≡ v
@@ -217,15 +214,11 @@ off-map g b f = go (decLt b (mapAt g)) (decLt b (dataAt g))
     go (no l) (yes q) = absurd (f (omega arith) q)
     go (no l) (no q) = inr (omega arith)
 
--- ---- a block taken
+-- ---- a block zeroed, its bit and the used count stored: what taking a block and giving it back have in common
 
 module _ (g : Geo) (I : List ℕ) (s : Sound g (length I)) (x : ℕ) (h : dataAt g + x < bitEnd g) where
-  -- the block zeroed, and its bit set besides
   zero-of : List ℕ
   zero-of = zeroed (blockSize g) I (dataAt g + x) 1
-
-  set-of : List ℕ
-  set-of = marked g zero-of x 1
 
   zero-kept : Kept (blockSize g) (λ b o. (b < dataAt g + x) ⊎ (dataAt g + x + 1 ≤ b)) I zero-of
   unfolding zero-of
@@ -234,76 +227,112 @@ module _ (g : Geo) (I : List ℕ) (s : Sound g (length I)) (x : ℕ) (h : dataAt
   zero-sound : Sound g (length zero-of)
   zero-sound = sound-kept g I s _ zero-of zero-kept
 
-  set-kept : Kept (blockSize g) (λ b o. (b < mapAt g) ⊎ (dataAt g ≤ b)) zero-of set-of
-  unfolding set-of
-  set-kept = marked-kept g zero-of zero-sound x h 1
+  -- with v as its bit
+  module _ (v : ℕ) where
+    set-of : List ℕ
+    set-of = marked g zero-of x v
 
-  set-sound : Sound g (length set-of)
-  set-sound = sound-kept g zero-of zero-sound _ set-of set-kept
+    set-kept : Kept (blockSize g) (λ b o. (b < mapAt g) ⊎ (dataAt g ≤ b)) zero-of set-of
+    unfolding set-of
+    set-kept = marked-kept g zero-of zero-sound x h v
 
-  taken-is : taken g I x ≡ counted g set-of (usedCount g set-of + 1)
-  unfolding taken more set-of zero-of
-  taken-is = refl
+    set-sound : Sound g (length set-of)
+    set-sound = sound-kept g zero-of zero-sound _ set-of set-kept
 
-  last-kept : Kept (blockSize g) (Off (g .K) 14 4) set-of (taken g I x)
-  last-kept = subst (Kept (blockSize g) (Off (g .K) 14 4) set-of) (sym taken-is) (counted-kept g set-of set-sound (usedCount g set-of + 1))
+    set-used : usedCount g set-of ≡ usedCount g I
+    unfolding set-of
+    set-used = used-marked g zero-of zero-sound x h v ∙ used-kept g I s _ zero-of zero-kept (λ o _ _. inl (omega (arith, area g (length I) s .maps)))
+
+    -- (the same on the way, in the definition's own words)
+    pub length-half : length (marked g (zeroed (blockSize g) I (dataAt g + x) 1) x v) ≡ length I
+    unfolding set-of zero-of
+    length-half = set-kept .size ∙ zero-kept .size
+
+    pub used-half : usedCount g (marked g (zeroed (blockSize g) I (dataAt g + x) 1) x v) ≡ usedCount g I
+    unfolding set-of zero-of
+    used-half = set-used
+
+    -- and u as the used count
+    module _ (u : ℕ) where
+      put-of : List ℕ
+      put-of = counted g set-of u
+
+      last-kept : Kept (blockSize g) (Off (g .K) 14 4) set-of put-of
+      unfolding put-of
+      last-kept = counted-kept g set-of set-sound u
+
+      -- every other byte is as it was
+      put-kept : Kept (blockSize g) (λ b o. Aside g b o × (b ≡ dataAt g + x → ⊥)) I put-of
+      put-kept =
+          kept-trans (kept-less (λ b o p. other b (p .1) (decLt b (dataAt g + x))) zero-kept)
+          (kept-trans (kept-less (λ b o p. off-map g b (p .0 .not-map)) set-kept) (kept-less (λ b o p. p .0 .not-count) last-kept))
+        where
+          other : (b : ℕ) → (b ≡ dataAt g + x → ⊥) → Dec (b < dataAt g + x) → (b < dataAt g + x) ⊎ (dataAt g + x + 1 ≤ b)
+          other b d (yes l) = inl l
+          other b d (no l) = inr (omega arith)
+
+      put-used : u < 2 ^ 32 → usedCount g put-of ≡ u
+      unfolding put-of
+      put-used p = used-counted g set-of set-sound u p
+
+      put-top : (w : ℕ) → Shows I (blockSize g * g .K) (superBytes g w) → Shows put-of (blockSize g * g .K) (superBytes g u)
+      unfolding put-of
+      put-top w t =
+          let l : length (superBytes g w) ≤ blockSize g = omega (arith, whole-super g w) in
+          let a = shows-kept (blockSize g) _ I zero-of (g .K) (superBytes g w) zero-kept (λ o _. inl (omega (arith, area g (length I) s .maps))) l t in
+          let b = shows-kept (blockSize g) _ zero-of set-of (g .K) (superBytes g w) set-kept (λ o _. inl (omega arith)) l a in
+          top-counted g set-of set-sound u w b
+
+      -- the marks
+      put-mark : v < 2 → mark g put-of x ≡ v
+      unfolding put-of set-of
+      put-mark p = mark-counted g (unfold set-of in set-of) (unfold set-of in set-sound) u x ∙ mark-marked g zero-of zero-sound x h v p
+
+      put-mark-other : v < 2 → (y : ℕ) → y < mapBits g → y ≢ x → mark g put-of y ≡ mark g I y
+      unfolding put-of set-of
+      put-mark-other p y q d =
+          mark-counted g (unfold set-of in set-of) (unfold set-of in set-sound) u y
+          ∙ mark-marked-other g zero-of zero-sound x h v p y d ∙ mark-kept g I s _ zero-of zero-kept (λ b o _ l. inl (omega arith)) y q
+
+      -- the block's bytes are zero
+      put-cell : (o : ℕ) → o < blockSize g → cell (blockSize g) put-of (dataAt g + x) o ≡ 0
+      unfolding zero-of
+      put-cell o q =
+          last-kept .at (dataAt g + x) o (aside-data g (length I) s (dataAt g + x) o (omega arith) .not-count) q ∙ set-kept .at (dataAt g + x) o (inr (omega arith)) q
+          ∙ cell-zeroed (blockSize g) I (dataAt g + x) 1 (rw mul-one (data-in g (length I) s x h)) (dataAt g + x) o (omega arith) (omega arith) q
+
+-- ---- a block taken
+
+module _ (g : Geo) (I : List ℕ) (s : Sound g (length I)) (x : ℕ) (h : dataAt g + x < bitEnd g) where
+  taken-is : taken g I x ≡ put-of g I s x h 1 (usedCount g I + 1)
+  unfolding taken more put-of set-of zero-of
+  taken-is = ap (λ (u : ℕ). counted g (marked g (zeroed (blockSize g) I (dataAt g + x) 1) x 1) (u + 1)) (used-half g I s x h 1)
 
   -- every other byte is as it was
   pub taken-kept : Kept (blockSize g) (λ b o. Aside g b o × (b ≡ dataAt g + x → ⊥)) I (taken g I x)
-  taken-kept =
-      kept-trans (kept-less (λ b o p. other b (p .1) (decLt b (dataAt g + x))) zero-kept)
-      (kept-trans (kept-less (λ b o p. off-map g b (p .0 .not-map)) set-kept) (kept-less (λ b o p. p .0 .not-count) last-kept))
-    where
-      other : (b : ℕ) → (b ≡ dataAt g + x → ⊥) → Dec (b < dataAt g + x) → (b < dataAt g + x) ⊎ (dataAt g + x + 1 ≤ b)
-      other b d (yes l) = inl l
-      other b d (no l) = inr (omega arith)
+  taken-kept = subst (Kept (blockSize g) (λ b o. Aside g b o × (b ≡ dataAt g + x → ⊥)) I) (sym taken-is) (put-kept g I s x h 1 (usedCount g I + 1))
 
   pub sound-taken : Sound g (length (taken g I x))
   sound-taken = sound-kept g I s _ (taken g I x) taken-kept
 
   -- the used count that is stored is one more than it was
-  set-used : usedCount g set-of ≡ usedCount g I
-  unfolding set-of
-  set-used = used-marked g zero-of zero-sound x h 1 ∙ used-kept g I s _ zero-of zero-kept (λ o _ _. inl (omega (arith, area g (length I) s .maps)))
-
-  -- (the same on the way, in the definition's own words)
-  pub length-half : length (marked g (zeroed (blockSize g) I (dataAt g + x) 1) x 1) ≡ length I
-  unfolding set-of zero-of
-  length-half = set-kept .size ∙ zero-kept .size
-
-  pub used-half : usedCount g (marked g (zeroed (blockSize g) I (dataAt g + x) 1) x 1) ≡ usedCount g I
-  unfolding set-of zero-of
-  used-half = set-used
-
   pub used-taken : usedCount g I + 1 < 2 ^ 32 → usedCount g (taken g I x) ≡ usedCount g I + 1
-  used-taken p = ap (usedCount g) taken-is ∙ used-counted g set-of set-sound (usedCount g set-of + 1) (omega (arith, set-used)) ∙ ap (λ (u : ℕ). u + 1) set-used
+  used-taken p = ap (usedCount g) taken-is ∙ put-used g I s x h 1 (usedCount g I + 1) p
 
   pub top-taken : (u : ℕ) → Shows I (blockSize g * g .K) (superBytes g u) → Shows (taken g I x) (blockSize g * g .K) (superBytes g (usedCount g I + 1))
   top-taken u t =
-      let l : length (superBytes g u) ≤ blockSize g = omega (arith, whole-super g u) in
-      let a = shows-kept (blockSize g) _ I zero-of (g .K) (superBytes g u) zero-kept (λ o _. inl (omega (arith, area g (length I) s .maps))) l t in
-      let b = shows-kept (blockSize g) _ zero-of set-of (g .K) (superBytes g u) set-kept (λ o _. inl (omega arith)) l a in
-      let c : Shows (taken g I x) (blockSize g * g .K) (superBytes g (usedCount g set-of + 1))
-      = subst (λ (J : List ℕ). Shows J (blockSize g * g .K) (superBytes g (usedCount g set-of + 1))) (sym taken-is) (top-counted g set-of set-sound (usedCount g set-of + 1) u b) in
-      subst (λ (w : ℕ). Shows (taken g I x) (blockSize g * g .K) (superBytes g (w + 1))) set-used c
+      subst (λ (J : List ℕ). Shows J (blockSize g * g .K) (superBytes g (usedCount g I + 1))) (sym taken-is) (put-top g I s x h 1 (usedCount g I + 1) u t)
 
   -- the marks
   pub mark-taken : mark g (taken g I x) x ≡ 1
-  unfolding set-of
-  mark-taken = ap (λ (J : List ℕ). mark g J x) taken-is ∙ mark-counted g set-of set-sound (usedCount g set-of + 1) x ∙ mark-marked g zero-of zero-sound x h 1 (omega arith)
+  mark-taken = ap (λ (J : List ℕ). mark g J x) taken-is ∙ put-mark g I s x h 1 (usedCount g I + 1) (omega arith)
 
   pub mark-taken-other : (y : ℕ) → y < mapBits g → y ≢ x → mark g (taken g I x) y ≡ mark g I y
-  unfolding set-of
-  mark-taken-other y q d =
-      ap (λ (J : List ℕ). mark g J y) taken-is ∙ mark-counted g set-of set-sound (usedCount g set-of + 1) y
-      ∙ mark-marked-other g zero-of zero-sound x h 1 (omega arith) y d ∙ mark-kept g I s _ zero-of zero-kept (λ b o _ l. inl (omega arith)) y q
+  mark-taken-other y q d = ap (λ (J : List ℕ). mark g J y) taken-is ∙ put-mark-other g I s x h 1 (usedCount g I + 1) (omega arith) y q d
 
   -- its bytes are zero, so its chain ends with it
   pub cell-taken : (o : ℕ) → o < blockSize g → cell (blockSize g) (taken g I x) (dataAt g + x) o ≡ 0
-  unfolding zero-of
-  cell-taken o q =
-      last-kept .at (dataAt g + x) o (aside-data g (length I) s (dataAt g + x) o (omega arith) .not-count) q ∙ set-kept .at (dataAt g + x) o (inr (omega arith)) q
-      ∙ cell-zeroed (blockSize g) I (dataAt g + x) 1 (rw mul-one (data-in g (length I) s x h)) (dataAt g + x) o (omega arith) (omega arith) q
+  cell-taken o q = ap (λ (J : List ℕ). cell (blockSize g) J (dataAt g + x) o) taken-is ∙ put-cell g I s x h 1 (usedCount g I + 1) o q
 
 -- ---- the lowest clear index, and what is left where that one is taken
 
@@ -405,52 +434,33 @@ module _ (g : Geo) (I : List ℕ) (h : 1 ≤ length (clears g I)) where
 -- ---- a block given back
 
 module _ (g : Geo) (I : List ℕ) (s : Sound g (length I)) (x : ℕ) (h : dataAt g + x < bitEnd g) where
-  clear-of : List ℕ
-  clear-of = marked g I x 0
+  freed-is : freed g I x ≡ put-of g I s x h 0 (usedCount g I - 1)
+  unfolding freed fewer put-of set-of zero-of
+  freed-is = ap (λ (u : ℕ). counted g (marked g (zeroed (blockSize g) I (dataAt g + x) 1) x 0) (u - 1)) (used-half g I s x h 0)
 
-  clear-kept : Kept (blockSize g) (λ b o. (b < mapAt g) ⊎ (dataAt g ≤ b)) I clear-of
-  unfolding clear-of
-  clear-kept = marked-kept g I s x h 0
-
-  clear-sound : Sound g (length clear-of)
-  clear-sound = sound-kept g I s _ clear-of clear-kept
-
-  freed-is : freed g I x ≡ counted g clear-of (usedCount g clear-of - 1)
-  unfolding freed fewer clear-of
-  freed-is = refl
-
-  -- every other byte is as it was, the block's own too
-  pub freed-kept : Kept (blockSize g) (Aside g) I (freed g I x)
-  freed-kept =
-      kept-trans (kept-less (λ b o p. off-map g b (p .not-map)) clear-kept)
-      (kept-less (λ b o p. p .not-count)
-      (subst (Kept (blockSize g) (Off (g .K) 14 4) clear-of) (sym freed-is) (counted-kept g clear-of clear-sound (usedCount g clear-of - 1))))
+  -- every other byte is as it was
+  pub freed-kept : Kept (blockSize g) (λ b o. Aside g b o × (b ≡ dataAt g + x → ⊥)) I (freed g I x)
+  freed-kept = subst (Kept (blockSize g) (λ b o. Aside g b o × (b ≡ dataAt g + x → ⊥)) I) (sym freed-is) (put-kept g I s x h 0 (usedCount g I - 1))
 
   -- the used count that is stored is one fewer than it was
-  clear-used : usedCount g clear-of ≡ usedCount g I
-  unfolding clear-of
-  clear-used = used-marked g I s x h 0
-
   pub used-freed : usedCount g I < 2 ^ 32 → usedCount g (freed g I x) ≡ usedCount g I - 1
-  used-freed p = ap (usedCount g) freed-is ∙ used-counted g clear-of clear-sound (usedCount g clear-of - 1) (omega (arith, clear-used)) ∙ ap (λ (u : ℕ). u - 1) clear-used
+  used-freed p = ap (usedCount g) freed-is ∙ put-used g I s x h 0 (usedCount g I - 1) (omega arith)
 
   pub top-freed : (u : ℕ) → Shows I (blockSize g * g .K) (superBytes g u) → Shows (freed g I x) (blockSize g * g .K) (superBytes g (usedCount g I - 1))
   top-freed u t =
-      let l : length (superBytes g u) ≤ blockSize g = omega (arith, whole-super g u) in
-      let b = shows-kept (blockSize g) _ I clear-of (g .K) (superBytes g u) clear-kept (λ o _. inl (omega arith)) l t in
-      let c : Shows (freed g I x) (blockSize g * g .K) (superBytes g (usedCount g clear-of - 1))
-      = subst (λ (J : List ℕ). Shows J (blockSize g * g .K) (superBytes g (usedCount g clear-of - 1))) (sym freed-is) (top-counted g clear-of clear-sound (usedCount g clear-of - 1) u b) in
-      subst (λ (w : ℕ). Shows (freed g I x) (blockSize g * g .K) (superBytes g (w - 1))) clear-used c
+      subst (λ (J : List ℕ). Shows J (blockSize g * g .K) (superBytes g (usedCount g I - 1))) (sym freed-is) (put-top g I s x h 0 (usedCount g I - 1) u t)
 
   -- the marks
   pub mark-freed : mark g (freed g I x) x ≡ 0
-  unfolding clear-of
-  mark-freed = ap (λ (J : List ℕ). mark g J x) freed-is ∙ mark-counted g clear-of clear-sound (usedCount g clear-of - 1) x ∙ mark-marked g I s x h 0 (omega arith)
+  mark-freed = ap (λ (J : List ℕ). mark g J x) freed-is ∙ put-mark g I s x h 0 (usedCount g I - 1) (omega arith)
 
-  pub mark-freed-other : (y : ℕ) → y ≢ x → mark g (freed g I x) y ≡ mark g I y
-  unfolding clear-of
-  mark-freed-other y d =
-      ap (λ (J : List ℕ). mark g J y) freed-is ∙ mark-counted g clear-of clear-sound (usedCount g clear-of - 1) y ∙ mark-marked-other g I s x h 0 (omega arith) y d
+  pub mark-freed-other : (y : ℕ) → y < mapBits g → y ≢ x → mark g (freed g I x) y ≡ mark g I y
+  mark-freed-other y q d = ap (λ (J : List ℕ). mark g J y) freed-is ∙ put-mark-other g I s x h 0 (usedCount g I - 1) (omega arith) y q d
+
+  -- its bytes are zero: nothing of what it held is left
+  pub freed-wiped : Wiped (blockSize g) (freed g I x) (dataAt g + x)
+  unfolding cell
+  freed-wiped o q = ap (λ (J : List ℕ). getD J (blockSize g * (dataAt g + x) + o) 0) freed-is ∙ put-cell g I s x h 0 (usedCount g I - 1) o q
 
 -- ---- on a volume
 

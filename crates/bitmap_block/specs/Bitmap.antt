@@ -36,9 +36,9 @@ fewer g I = counted g I (usedCount g I - 1)
 unfoldable pub taken : Geo → List ℕ → ℕ → List ℕ
 taken g I x = more g (marked g (zeroed (blockSize g) I (dataAt g + x) 1) x 1)
 
--- F7: it is given back; its bytes stay.
+-- F7: it is given back: zeroed too, so that nothing of what it held is left, unmarked and no longer counted.
 unfoldable pub freed : Geo → List ℕ → ℕ → List ℕ
-freed g I x = fewer g (marked g I x 0)
+freed g I x = fewer g (marked g (zeroed (blockSize g) I (dataAt g + x) 1) x 0)
 
 -- R9, its other side: so many indexes in reach are clear, and the used count can grow by as many.
 pub record Room (g : Geo) (I : List ℕ) (k : ℕ) : Type 0 where

@@ -66,13 +66,17 @@ pub fn take(img: &mut [u8], s: SuperBlock, x: Index)
     inc_alloc_count(img, s);
 }
 
-// Gives the block of index x back.
+// Gives the block of index x back: wiped, its bit cleared, one fewer used. No block becomes free in any other place, so none
+// keeps what it held.
 pub fn free(img: &mut [u8], s: SuperBlock, x: Index)
     requires { ⌜ Fit s (now img) ⌝ }
     requires { ⌜ s .area .0 + x .0 < bitEnd (geoOf s) ⌝ }
     requires { ⌜ 0 < usedCount (geoOf s) (now img) ⌝ }
     ensures { λ _. ⌜ now (img .exit) ≡ freed (geoOf s) (now (img .entry)) (x .0) ⌝ }
 {
+    let d = s.area;
+    let a = x.addr(d);
+    block::clear(img, s.size, a, 1);
     clear_mark(img, s, x);
     dec_alloc_count(img, s);
 }

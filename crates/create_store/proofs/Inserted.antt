@@ -1,22 +1,25 @@
 -- The stores of a create are the tree's edit: the theorem on the definitions of specs/, for files and for directories.
 use mathlib.Core.Path.{_≡_, refl, sym, ap, _∙_, subst}
+use mathlib.Core.Bool.{true, false}
 use mathlib.Core.Logic.{_⊎_, inl, inr}
 use mathlib.Core.Option.{some}
 use mathlib.Core.List.{List, [], _∷_, _++_}
 use Prim.Native.Nat.{ℕ, zero, suc, _+_, _-_, _^_, _≤_, _<_}
 use native.Mathlib.Omega.{arith}
+use lib.Dec.{leb}
 use lib.ListN.{length, length-replicate}
 use Rattle.wire.specs.Be.{bytes, zeros}
+use Rattle.wire.proofs.Picks.{either, pick-true, pick-false}
 use Rattle.block.proofs.Blocks.{kept-less}
-use Rattle.model.specs.Tree.{Name, file, sub, Entry, Block, Below, Tree, weight, used, sum, Packed, Absent, insert, Edit, edit, Some, find, blank}
+use Rattle.model.specs.Tree.{Name, file, sub, Entry, Block, Below, Tree, weight, used, sum, Packed, Absent, fill, insert, Edit, edit, Some, find, blank}
 use Rattle.model.specs.Render.{Piece, View, cellsAt, blocksAt, padded, addressOf, sizeOf, entriesBytes, cellPieces, nodePieces, entryPieces, dirPieces, view, render, ats, count, blocks}
 use Rattle.model.specs.Geometry.{areaOf, Geo, blockSize, dataAt}
 use Rattle.model.specs.Volume.{GoodName, GoodFile, GoodBelow, GoodTree, Volume}
 use Rattle.model.specs.Calls.{freeBlocks, entryRoom, toCreate, entryBlock, dirBlock, fileEntry, created, dirAdded, createdDir, emptyCell, Makes, TreeCreatesFile, TreeCreatesDir}
 use Rattle.model.proofs.Areas.{size-large}
 use Rattle.model.proofs.Contents.{blocks-some, blocks-least}
-use Rattle.model.proofs.Counts.{count-none}
-use Rattle.model.proofs.Cuts.{upTo, dir-split}
+use Rattle.model.proofs.Counts.{tally, tally-none, tally-append, dir-tally}
+use Rattle.model.proofs.Cuts.{upTo, dir-split, pieces-both}
 use Rattle.model.proofs.Full.{good-find, whole-tree, zero-block}
 use Rattle.model.proofs.Good.{good-insert}
 use Rattle.model.proofs.Levels.{good-dir-added}
@@ -60,6 +63,41 @@ dir-new g e n now x =
       bytes-are = entry-bytes (view (blockSize g) (suc e)) (record { name = n; time = now; node = sub (blank e x) });
       block = ap (λ (l : List ℕ). let q : List Piece = record { at = x; full = l } ∷ [] in q) (sym z);
     }
+
+-- ---- no block goes
+
+module _ {X : Type 0} (B i top w : ℕ) (v : View X) (e : Entry X) where
+  none-yet : tally i (dirPieces B v []) ≡ 0
+  unfolding dirPieces
+  none-yet = tally-none i
+
+  insert-more : (bs : List (Block X)) → tally i (dirPieces B v bs) ≤ tally i (dirPieces B v (insert top w e bs))
+  unfolding insert
+  insert-more [] = omega (arith, none-yet)
+  insert-more (b ∷ bs) = go (either (leb (used (b .entries) + weight e) top)) (insert-more bs)
+    where
+      added : Block X
+      added = fill (λ es. es ++ (e ∷ [])) b
+
+      go : (leb (used (b .entries) + weight e) top ≡ true) ⊎ (leb (used (b .entries) + weight e) top ≡ false) → tally i (dirPieces B v bs) ≤ tally i (dirPieces B v (insert top w e bs))
+          → tally i (dirPieces B v (b ∷ bs)) ≤ tally i (dirPieces B v (insert top w e (b ∷ bs)))
+      go (inl c) r =
+          omega (
+            arith,
+            ap (λ (z : List (Block X)). tally i (dirPieces B v z)) (pick-true (added ∷ bs) (b ∷ insert top w e bs) c),
+            dir-tally B v i b bs,
+            dir-tally B v i added bs,
+            ap (tally i) (pieces-both B v (b .entries) (e ∷ [])),
+            tally-append i (entryPieces v (b .entries)) (entryPieces v (e ∷ [])),
+          )
+      go (inr c) r =
+          omega (
+            arith,
+            r,
+            ap (λ (z : List (Block X)). tally i (dirPieces B v z)) (pick-false (added ∷ bs) (b ∷ insert top w e bs) c),
+            dir-tally B v i b bs,
+            dir-tally B v i b (insert top w e bs),
+          )
 
 -- ---- any new entry
 
@@ -112,24 +150,28 @@ module _ (g : Geo) (I : List ℕ) (d : ℕ) (t : Tree d) (v : Volume g I d t) (p
       same-first : blocksAt became ≡ blocksAt (s .1)
       same-first = ap blocksAt becomes ∙ insert-at (entryRoom g) (dirBlock free) e (s .1) (held .good .packed)
 
-      -- All is stored but the own entry, and nothing is left over.
-      all-made : Made g I stored d t (s .0) (s .1) became []
-      unfolding ats
+      -- every block that the directory reached it reaches still
+      more : (b : ℕ) → count b (blocks B (s .0) (s .1)) ≤ count b (blocks B (s .0) became)
+      unfolding tally render
+      more b =
+          subst (λ (u : Tree (s .0)). count b (ats (dirPieces B (view B (s .0)) (s .1))) ≤ count b (ats (dirPieces B (view B (s .0)) u))) (sym becomes)
+          (insert-more B b (entryRoom g) (dirBlock free) (view B (s .0)) e (s .1))
+
+      -- All is stored but the own entry, and no block is given back.
+      all-made : Made g I stored d t (s .0) (s .1) became
       all-made =
           let c = stage-commit g I d t (render B (s .0) (s .1)) (s .0) (s .1) became refl stored (enters .left) last-stage same-first good in
           record {
             commit = c;
             others = λ b l z. kept-block B _ I stored (last-stage .kept) b (λ j. (aside-data g (length I) (v .laid .sound) b j (v .laid .range b l .0), omega (arith, l, z, c .fresh b)));
-            remains = tt;
-            whole = tt;
-            over = λ i. omega (arith, count-none i);
+            wiped = λ b l z. absurd (omega (arith, l, z, more b));
             frame = kept-less (λ b j q. (aside-other g b j (q .0) (q .1), omega (arith, q .2))) (last-stage .kept);
           }
 
       -- The stores of a create make the edited tree.
-      inserted-makes : (own : Own) → OwnOf B d p t own → Makes g d (edit d p (λ _. now) f t) [] I (inserted g I (blocksAt (s .1)) spot own k n now)
+      inserted-makes : (own : Own) → OwnOf B d p t own → Makes g d t (edit d p (λ _. now) f t) I (inserted g I (blocksAt (s .1)) spot own k n now)
       unfolding inserted
-      inserted-makes own w = sum-makes g I stored d t p now f s [] own v h all-made w clock
+      inserted-makes own w = sum-makes g I stored d t p now f s own v h all-made w clock
 
 -- ---- files and directories
 

@@ -16,7 +16,7 @@ use Rattle.wire.proofs.Zeros.{zeros-shown}
 use Rattle.block.specs.Block.{cell, Off, Kept}
 use Rattle.block.proofs.Blocks.{kept-less}
 use Rattle.model.specs.Tree.{Name, Entry, Block, Below, Tree, weight, used, delete}
-use Rattle.model.specs.Render.{Piece, View, blocksAt, padded, entryBytes, entriesBytes, nodePieces, entryPieces, dirPieces, view, render, ats, count, blocks, Shows, ShowsAll}
+use Rattle.model.specs.Render.{View, blocksAt, padded, entryBytes, entriesBytes, nodePieces, entryPieces, dirPieces, view, render, ats, count, blocks, Shows, ShowsAll}
 use Rattle.model.specs.Geometry.{Geo, blockSize}
 use Rattle.model.specs.Volume.{All, GoodEntry, GoodBlock, GoodBelow}
 use Rattle.model.proofs.Alike.{length-entry}
@@ -38,18 +38,16 @@ use Rattle.delete_store.specs.Delete.{cutOut, lessBare, entryGone}
 use Rattle.delete_store.proofs.Moved.{cut-kept, cut-shown}
 use Rattle.delete_store.proofs.Sites.{Stays}
 
--- ---- what an image W has to show, once an entry of the directory s is out and nothing is given back yet: u is the directory without it, `left` what is
--- left over, and `gone` are the blocks to give back
+-- ---- what an image W has to show, once an entry of the directory s is out and nothing is given back yet: u is the directory without it, `bare` its block
+-- where that is empty now, and `gone` are the blocks to give back
 
-pub record Without (g : Geo) (I W : List ℕ) (d : ℕ) (s u : Tree d) (left : List Piece) (gone : List ℕ) : Type 0 where
+pub record Without (g : Geo) (I W : List ℕ) (d : ℕ) (s u : Tree d) (bare gone : List ℕ) : Type 0 where
   -- the blocks that were stored to
   pub touched : List ℕ
   pub kept : Kept (blockSize g) (λ b o. count b touched ≡ 0) I W
   pub among : (i : ℕ) → 1 ≤ count i touched → 1 ≤ count i (blocks (blockSize g) d s)
-  pub seen : (i : ℕ) → 1 ≤ count i touched → 1 ≤ count i (blocks (blockSize g) d u) + count i (ats left)
+  pub seen : (i : ℕ) → 1 ≤ count i touched → 1 ≤ count i (blocks (blockSize g) d u) + count i bare
   pub shown : ShowsAll (blockSize g) W (render (blockSize g) d u)
-  pub remains : ShowsAll (blockSize g) W left
-  pub over : (i : ℕ) → count i (ats left) ≤ count i (blocks (blockSize g) d s)
   pub counts : (i : ℕ) → count i (blocks (blockSize g) d s) ≡ count i (blocks (blockSize g) d u) + count i gone
   pub long : length (blocks (blockSize g) d s) ≡ length (blocks (blockSize g) d u) + length gone
 
@@ -64,7 +62,7 @@ module _ {X : Type 0} (B : ℕ) (v : View X) where
   dir-block xs a es ys = dir-split B v xs (record { at = a; entries = es }) ys
 
   -- One entry out of a block, as a cut: its bytes become none, and so do its pieces.
-  out-cut : (n : Name) (e : Entry X) (bs : List (Block X)) (s : Stays B n e bs)
+  out-cut : (n : Name) (e : Entry X) (bs : List (Block X)) (s : Stays n e bs)
       → Cut B (dirPieces B v bs) (dirPieces B v (delete n bs)) (nodePieces v (e .node)) [] (B * s .at + 4 + used (s .left)) (entryBytes v e) []
   out-cut n e bs s = record {
     before = upTo B v (s .at) (s .front);
@@ -96,7 +94,7 @@ named B S v J k c (x ∷ es) h a s z =
 
 -- ---- the block stays
 
-module _ (g : Geo) (I : List ℕ) (d : ℕ) (s : Tree d) (part : Part g I d s) (n : Name) (e : Entry (Below d)) (st : Stays (blockSize g) n e s) where
+module _ (g : Geo) (I : List ℕ) (d : ℕ) (s : Tree d) (part : Part g I d s) (n : Name) (e : Entry (Below d)) (st : Stays n e s) where
   abbrev shows : View (Below d)
   shows = view (blockSize g) d
 
@@ -158,8 +156,6 @@ module _ (g : Geo) (I : List ℕ) (d : ℕ) (s : Tree d) (part : Part g I d s) (
         seen = λ i h. subst (λ (j : ℕ). 1 ≤ count j (ats (dirPieces B shows (delete n s))) + count j []) (sym (count-is i (st .at) h)) (omega (arith, cut-new _ _ _ _ _ _ _ _ out));
         shown = cut-shows B _ _ _ _ _ _ _ out I stayed (whole-tree B (omega (arith, size-large g)) d s (part .good)) (part .stored .once) (part .stored .shown)
             (λ b h k q i l. stayed-kept .at b i (λ x _ _. q x) l) stayed-block tt;
-        remains = tt;
-        over = λ i. omega (arith, count-none i);
         counts = λ i. omega (arith, cut-count B _ _ _ _ _ _ _ out i, count-none i);
         long = omega (arith, cut-length B _ _ _ _ _ _ _ out);
       }

@@ -10,15 +10,15 @@ use Rattle.bits.specs.Bit.{bit}
 use Rattle.block.specs.Block.{cell, Kept}
 use Rattle.block.proofs.Blocks.{kept-trans, kept-less}
 use Rattle.model.specs.Tree.{Name, Tree, Some, find}
-use Rattle.model.specs.Render.{Piece, blocksAt, render, ats, count, blocks, Shows}
+use Rattle.model.specs.Render.{blocksAt, render, count, blocks, Shows}
 use Rattle.model.specs.Geometry.{Geo, blockSize, mapAt, dataAt, mapBits, superBytes, usedCount, Sound}
-use Rattle.model.specs.Volume.{All, GoodTree, Volume}
+use Rattle.model.specs.Volume.{GoodTree, Volume}
 use Rattle.model.proofs.Areas.{area, few, size-large, volume-laid, laid-in}
 use Rattle.model.proofs.Commit.{cut-shorter}
 use Rattle.model.proofs.Cuts.{own-cut}
 use Rattle.model.proofs.Demand.{whole-super}
 use Rattle.model.proofs.Frame.{SameBlock, shows-frame}
-use Rattle.model.proofs.Full.{Whole, whole-tree}
+use Rattle.model.proofs.Full.{whole-tree}
 use Rattle.model.proofs.OneVolume.{used-in, used-is}
 use Rattle.model.proofs.Owns.{shows-kept}
 use Rattle.bitmap_block.specs.Bitmap.{mark}
@@ -39,7 +39,7 @@ module _ (g : Geo) (I : List ℕ) (d : ℕ) (t : Tree d) (v : Volume g I d t) (p
   fewer : (i : ℕ) → count i (blocks (blockSize g) (s .0) (s .1)) ≤ count i (blocks (blockSize g) d t)
   fewer = sub-blocks (blockSize g) d p t s f
 
-  module _ (u : Tree (s .0)) (left : List Piece) (gone W : List ℕ) (w : Without g I W (s .0) (s .1) u left gone) where
+  module _ (u : Tree (s .0)) (bare gone W : List ℕ) (w : Without g I W (s .0) (s .1) u bare gone) where
     -- only blocks of the data were stored to
     touched-data : (b : ℕ) → (dataAt g ≤ b → b < g .n → ⊥) → count b (w .touched) ≡ 0
     touched-data b h = go (decLt 0 (count b (w .touched)))
@@ -88,26 +88,33 @@ module _ (g : Geo) (I : List ℕ) (d : ℕ) (t : Tree d) (v : Volume g I d t) (p
         (subst (λ (z : ℕ). Shows W (blockSize g * g .K) (superBytes g z)) (sym counted) top-before)
         (λ x q. omega (arith, marks-before x q, w .counts (dataAt g + x), fewer (dataAt g + x)))
 
-    freed-kept : Kept (blockSize g) (Aside g) W J
+    freed-kept : Kept (blockSize g) (λ b o. Aside g b o × (count b gone ≡ 0)) W J
     unfolding J
     freed-kept = all-kept g gone W sound within
 
-    -- a block of the data is as before the freeing
-    data-same : (b : ℕ) → dataAt g ≤ b → SameBlock (blockSize g) W J b
+    -- a block of the data that stays is as before the freeing
+    data-same : (b : ℕ) → dataAt g ≤ b → count b gone ≡ 0 → SameBlock (blockSize g) W J b
     unfolding cell
-    data-same b h i l = freed-kept .at b i (aside-data g (length W) sound b i h) l
+    data-same b h z i l = freed-kept .at b i (aside-data g (length W) sound b i h, z) l
 
-    -- the whole frame
-    both : Kept (blockSize g) (λ b o. Aside g b o × (count b (w .touched) ≡ 0)) I J
-    both = kept-trans (kept-less (λ b o h. h .1) (w .kept)) (kept-less (λ b o h. h .0) freed-kept)
+    -- what the directory reaches neither before nor after is as it was
+    unseen : (b : ℕ) → count b (blocks (blockSize g) (s .0) (s .1)) ≡ 0 → (count b (w .touched) ≡ 0) × (count b gone ≡ 0)
+    unseen b z = (go (decLt 0 (count b (w .touched))), omega (arith, z, w .counts b))
+      where
+        go : Dec (0 < count b (w .touched)) → count b (w .touched) ≡ 0
+        go (yes q) = absurd (omega (arith, w .among b q))
+        go (no q) = omega arith
+
+    both : Kept (blockSize g) (λ b o. Aside g b o × (count b (blocks (blockSize g) (s .0) (s .1)) ≡ 0)) I J
+    both = kept-trans (kept-less (λ b o h. unseen b (h .1) .0) (w .kept)) (kept-less (λ b o h. (h .0, unseen b (h .1) .1)) freed-kept)
 
     bits-after : (x : ℕ) → x < mapBits g
         → bit J (blockSize g * mapAt g) x + count (dataAt g + x) (blocks (blockSize g) (s .0) (s .1)) ≡ bit I (blockSize g * mapAt g) x + count (dataAt g + x) (blocks (blockSize g) (s .0) u)
     bits-after x q = omega (arith, sym (mark-is g J x), given .marks x q, marks-before x q, v .marked x q, w .counts (dataAt g + x))
 
-    pub made : blocksAt u ≡ blocksAt (s .1) → GoodTree (blockSize g) (s .0) u → All (Whole (blockSize g)) left → Made g I (allReleased g W gone) d t (s .0) (s .1) u left
+    pub made : blocksAt u ≡ blocksAt (s .1) → GoodTree (blockSize g) (s .0) u → Made g I (allReleased g W gone) d t (s .0) (s .1) u
     unfolding J cell
-    made first good whole =
+    made first good =
         let B : ℕ = blockSize g in
         record {
           commit = record {
@@ -122,25 +129,9 @@ module _ (g : Geo) (I : List ℕ) (d : ℕ) (t : Tree d) (v : Volume g I d t) (p
             first = first;
             good = good;
             shown = shows-frame B W J (render B (s .0) u) (whole-tree B (omega (arith, size-large g)) (s .0) u good)
-                (λ b h. data-same b (v .laid .range b (omega (arith, h, w .counts b, fewer b)) .0)) (w .shown);
+                (λ b h. data-same b (v .laid .range b (omega (arith, h, w .counts b, fewer b)) .0) (omega (arith, h, w .counts b, fewer b, v .laid .once b))) (w .shown);
           };
-          others = λ b h z i l. both .at b i (aside-data g (length I) (v .laid .sound) b i (v .laid .range b h .0), none b z) l;
-          remains = shows-frame B W J left whole (λ b h. data-same b (v .laid .range b (omega (arith, h, w .over b, fewer b)) .0)) (w .remains);
-          whole = whole;
-          over = w .over;
-          frame = kept-less (λ b o h. (aside-other g b o (h .0) (h .1), unseen b (h .2))) both;
+          others = λ b h z i l. both .at b i (aside-data g (length I) (v .laid .sound) b i (v .laid .range b h .0), z) l;
+          wiped = λ b h z. given .wiped b (omega (arith, h, z, w .counts b));
+          frame = kept-less (λ b o h. (aside-other g b o (h .0) (h .1), omega (arith, h .2))) both;
         }
-      where
-        none : (b : ℕ) → count b (blocks (blockSize g) (s .0) (s .1)) ≡ 0 → count b (w .touched) ≡ 0
-        none b z = go (decLt 0 (count b (w .touched)))
-          where
-            go : Dec (0 < count b (w .touched)) → count b (w .touched) ≡ 0
-            go (yes q) = absurd (omega (arith, w .among b q))
-            go (no q) = omega arith
-
-        unseen : (b : ℕ) → count b (blocks (blockSize g) (s .0) u) + count b (ats left) ≡ 0 → count b (w .touched) ≡ 0
-        unseen b z = go (decLt 0 (count b (w .touched)))
-          where
-            go : Dec (0 < count b (w .touched)) → count b (w .touched) ≡ 0
-            go (yes q) = absurd (omega (arith, w .seen b q))
-            go (no q) = omega arith

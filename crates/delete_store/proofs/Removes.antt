@@ -4,24 +4,23 @@ use mathlib.Core.Bool.{true, false}
 use mathlib.Core.Logic.{_⊎_, inl, inr}
 use mathlib.Core.Option.{some}
 use mathlib.Core.List.{List, [], _∷_, _++_}
-use Prim.Native.Nat.{ℕ, _-_, _^_, _≤_, _<_}
+use Prim.Native.Nat.{ℕ, _+_, _-_, _^_, _≤_, _<_}
 use native.Mathlib.Decide.{decLt}
 use native.Mathlib.Omega.{arith}
 use lib.ListN.{length}
 use Rattle.wire.proofs.Picks.{either, pick-true, pick-false}
 use Rattle.block.specs.Block.{cell}
 use Rattle.model.specs.Tree.{Name, Entry, Block, Below, Tree, holds, lookup, fill, lessFirst, called, deleteLater, delete, edit, Some, find, Bare}
-use Rattle.model.specs.Render.{Piece, View, blocksAt, nodePieces, view, render, ats, count}
+use Rattle.model.specs.Render.{Piece, View, blocksAt, nodePieces, view, render, ats, count, blocks}
 use Rattle.model.specs.Geometry.{Geo, blockSize, dataAt, bitEnd, Sound}
 use Rattle.model.specs.Volume.{All, GoodEntry, GoodBelow, Volume}
-use Rattle.model.specs.Calls.{deleted, leftover, Makes, TreeDeletes}
+use Rattle.model.specs.Calls.{deleted, Makes, TreeDeletes}
 use Rattle.model.proofs.Areas.{size-large, laid-in}
 use Rattle.model.proofs.Counts.{count-same, count-none, count-cons}
 use Rattle.model.proofs.Cuts.{Cut, cut-here}
 use Rattle.model.proofs.Frame.{SameBlock, shows-frame, cut-within}
 use Rattle.model.proofs.Full.{Whole, whole-tree, good-lookup}
 use Rattle.model.proofs.Good.{good-delete}
-use Rattle.model.proofs.Makes.{whole-leftover}
 use Rattle.model.proofs.Lists.{all-left, all-right}
 use Rattle.dir_entry.specs.declared.DirEntry.{DirEntry}
 use Rattle.dir_entry.specs.Shown.{headOf}
@@ -36,7 +35,7 @@ use Rattle.chain_store.specs.Chain.{released, chainFreed}
 use Rattle.delete_store.proofs.Frees.{allReleased, chain-released, released-kept, released-block}
 use Rattle.delete_store.proofs.Sites.{Stays, Goes, delete-site}
 use Rattle.delete_store.proofs.BlockStays.{Without, stayed, stays-without, stays-is}
-use Rattle.delete_store.proofs.Unlinks.{unlinkedFrom, over-at, goes-without, goes-is}
+use Rattle.delete_store.proofs.Unlinks.{unlinkedFrom, goes-without, goes-is}
 use Rattle.delete_store.proofs.Nodes.{node-chained}
 use Rattle.delete_store.proofs.GivenBack.{made}
 
@@ -99,28 +98,28 @@ module _ (g : Geo) (I : List ℕ) (d : ℕ) (t : Tree d) (v : Volume g I d t) (p
       let c = node-chained (blockSize g) (s .0) (e .node) (good .below) bare in
       ap (chainFreed g W (g .n - dataAt g)) (sym (c .1))
       ∙ chain-released g (nodePieces shows (e .node)) (g .n - dataAt g) W (subst (Sound g) (sym q) (v .laid .sound)) (c .0) (unfold node in whole)
-      (shows-frame (blockSize g) I W (nodePieces shows (e .node)) (unfold node in whole) h (unfold node in stored .shown)) (unfold node in node-in)
+      (shows-frame (blockSize g) I W (nodePieces shows (e .node)) (unfold node in whole) h (unfold node in stored .shown)) (unfold node in node-in) (unfold node in stored .once)
       (unfold node in stored-few g I node stored)
 
   -- The image J before the own entry is renewed.
   record Before (J : List ℕ) : Type 0 where
     pub is : chainFreed g (entryGone g I (blocksAt (s .1)) (headOf shows e) (spotOf n (s .1))) (g .n - dataAt g) (headOf shows e .addr .0) ≡ J
-    pub as-made : Made g I J d t (s .0) (s .1) (delete n (s .1)) (leftover (blockSize g) n (s .1))
+    pub as-made : Made g I J d t (s .0) (s .1) (delete n (s .1))
 
   -- where the block stays
-  before-stays : Stays (blockSize g) n e (s .1) → (J : List ℕ) × Before J
+  before-stays : Stays n e (s .1) → (J : List ℕ) × Before J
   unfolding node ats cell
   before-stays st =
       let B : ℕ = blockSize g in
       let W : List ℕ = stayed g I (s .0) (s .1) part n e st in
       let w : Without g I W (s .0) (s .1) (delete n (s .1)) [] (ats (nodePieces shows (e .node))) = stays-without g I (s .0) (s .1) part n e st in
-      let m : Made g I (allReleased g W (ats (nodePieces shows (e .node)))) d t (s .0) (s .1) (delete n (s .1)) []
-      = made g I d t v p s f (delete n (s .1)) [] (ats (nodePieces shows (e .node))) W w (delete-at n (s .1)) (good-delete n B (GoodBelow B (s .0)) (s .1) (part .good)) tt in (
+      let m : Made g I (allReleased g W (ats (nodePieces shows (e .node)))) d t (s .0) (s .1) (delete n (s .1))
+      = made g I d t v p s f (delete n (s .1)) [] (ats (nodePieces shows (e .node))) W w (delete-at n (s .1)) (good-delete n B (GoodBelow B (s .0)) (s .1) (part .good)) in (
         allReleased g W (ats (nodePieces shows (e .node))),
         record {
           is = ap (λ (K : List ℕ). chainFreed g K (g .n - dataAt g) (headOf shows e .addr .0)) (stays-is g I (s .0) (s .1) part n e st)
               ∙ chain-gone W (w .kept .size) (untouched W w);
-          as-made = subst (Made g I (allReleased g W (ats (nodePieces shows (e .node)))) d t (s .0) (s .1) (delete n (s .1))) (sym (st .over)) m;
+          as-made = m;
         },
       )
     where
@@ -133,28 +132,27 @@ module _ (g : Geo) (I : List ℕ) (d : ℕ) (t : Tree d) (v : Volume g I d t) (p
           go (no y) = omega arith
 
   -- where it goes
-  before-goes : Goes (blockSize g) n e (s .1) → (J : List ℕ) × Before J
+  before-goes : Goes n e (s .1) → (J : List ℕ) × Before J
   unfolding node cell allReleased
   before-goes st =
       let B : ℕ = blockSize g in
       let N : List ℕ = ats (nodePieces shows (e .node)) in
       let W : List ℕ = unlinkedFrom g I (s .0) (s .1) part n e st in
-      let w : Without g I W (s .0) (s .1) (delete n (s .1)) (leftover B n (s .1)) (st .at ∷ N) = goes-without g I (s .0) (s .1) part n e st in
+      let w : Without g I W (s .0) (s .1) (delete n (s .1)) (st .at ∷ []) (st .at ∷ N) = goes-without g I (s .0) (s .1) part n e st in
       let k : Sound g (length W) = subst (Sound g) (sym (w .kept .size)) (v .laid .sound) in
       let i : (dataAt g ≤ st .at) × (st .at < bitEnd g) = laid-in g I d t _ (v .laid) (st .at) (omega (arith, w .counts (st .at), count-same (st .at) (st .at) N refl, sub-blocks (blockSize g) d p t s f (st .at))) in
-      let m : Made g I (allReleased g W (st .at ∷ N)) d t (s .0) (s .1) (delete n (s .1)) (leftover B n (s .1))
-      = made g I d t v p s f (delete n (s .1)) (leftover B n (s .1)) (st .at ∷ N) W w (delete-at n (s .1)) (good-delete n B (GoodBelow B (s .0)) (s .1) (part .good))
-      (whole-leftover B (omega (arith, size-large g)) n (s .1)) in (
+      let m : Made g I (allReleased g W (st .at ∷ N)) d t (s .0) (s .1) (delete n (s .1))
+      = made g I d t v p s f (delete n (s .1)) (st .at ∷ []) (st .at ∷ N) W w (delete-at n (s .1)) (good-delete n B (GoodBelow B (s .0)) (s .1) (part .good)) in (
         allReleased g (released g W (st .at)) N,
         record {
           is = ap (λ (K : List ℕ). chainFreed g K (g .n - dataAt g) (headOf shows e .addr .0)) (goes-is g I (s .0) (s .1) part n e st)
               ∙ chain-gone (released g W (st .at)) (released-kept g W k (st .at) i .size ∙ w .kept .size)
-              (λ b h j q. released-block g W k (st .at) i b (stored .range b h .0) j q ∙ untouched W w b h j q);
+              (λ b h j q. released-block g W k (st .at) i b (stored .range b h .0) (λ x. omega (arith, h, w .counts b, part .stored .once b, count-same b (st .at) N x)) j q ∙ untouched W w b h j q);
           as-made = m;
         },
       )
     where
-      untouched : (W : List ℕ) → Without g I W (s .0) (s .1) (delete n (s .1)) (leftover (blockSize g) n (s .1)) (st .at ∷ ats (nodePieces shows (e .node)))
+      untouched : (W : List ℕ) → Without g I W (s .0) (s .1) (delete n (s .1)) (st .at ∷ []) (st .at ∷ ats (nodePieces shows (e .node)))
           → (b : ℕ) → 1 ≤ count b (ats (nodePieces shows (e .node))) → SameBlock (blockSize g) I W b
       untouched W w b h i q = w .kept .at b i (go (decLt 0 (count b (w .touched)))) q
         where
@@ -165,17 +163,31 @@ module _ (g : Geo) (I : List ℕ) (d : ℕ) (t : Tree d) (v : Volume g I d t) (p
                 w .seen b y,
                 w .counts b,
                 part .stored .once b,
-                over-at g I (s .0) (s .1) part n e st b,
                 count-cons b (st .at) (ats (nodePieces shows (e .node))),
               ))
           go (no y) = omega arith
 
   before : (J : List ℕ) × Before J
-  before = go (delete-site (blockSize g) n e (s .1) l)
+  before = go (delete-site n e (s .1) l)
     where
-      go : Stays (blockSize g) n e (s .1) ⊎ Goes (blockSize g) n e (s .1) → (J : List ℕ) × Before J
+      go : Stays n e (s .1) ⊎ Goes n e (s .1) → (J : List ℕ) × Before J
       go (inl st) = before-stays st
       go (inr st) = before-goes st
+
+  -- The directory without the entry does not reach what the entry stood for.
+  pub gone-counts : (i : ℕ) → count i (blocks (blockSize g) (s .0) (delete n (s .1))) + count i (ats (nodePieces (view (blockSize g) (s .0)) (e .node)))
+      ≤ count i (blocks (blockSize g) (s .0) (s .1))
+  gone-counts i = go (delete-site n e (s .1) l)
+    where
+      go : Stays n e (s .1) ⊎ Goes n e (s .1)
+          → count i (blocks (blockSize g) (s .0) (delete n (s .1))) + count i (ats (nodePieces (view (blockSize g) (s .0)) (e .node))) ≤ count i (blocks (blockSize g) (s .0) (s .1))
+      go (inl st) = omega (arith, stays-without g I (s .0) (s .1) part n e st .counts i)
+      go (inr st) =
+          omega (
+            arith,
+            goes-without g I (s .0) (s .1) part n e st .counts i,
+            count-cons i (st .at) (ats (nodePieces (view (blockSize g) (s .0)) (e .node))),
+          )
 
   -- ---- with the own entry
 
@@ -188,14 +200,14 @@ module _ (g : Geo) (I : List ℕ) (d : ℕ) (t : Tree d) (v : Volume g I d t) (p
         record {
           occupied = record { dir = s; there = f; entry = e; held = l };
           bare = bare;
-          makes = subst (λ (K : List ℕ). Makes g d (edit d p (λ _. now) (λ e bs. delete n bs) t) (leftover (blockSize g) n (s .1)) I (sumRenewed g K (blocksAt (s .1)) own now)) (sym (b .is))
-              (sum-makes g I J d t p now (λ e bs. delete n bs) s (leftover (blockSize g) n (s .1)) own v f (b .as-made) o small);
+          makes = subst (λ (K : List ℕ). Makes g d t (edit d p (λ _. now) (λ e bs. delete n bs) t) I (sumRenewed g K (blocksAt (s .1)) own now)) (sym (b .is))
+              (sum-makes g I J d t p now (λ e bs. delete n bs) s own v f (b .as-made) o small);
         }
 
 -- ---- what a caller cites
 
 module _ (g : Geo) (I : List ℕ) (d : ℕ) (t : Tree d) (p : List Name) (n : Name) (s : Some) (entry : Entry (Below (s .0))) (e : DirEntry) (place : Place) where
-  -- On a volume the stores of a delete make what `Deletes` says: the volume of the edited tree, what is left over, and every other byte as it was.
+  -- On a volume the stores of a delete make what `Deletes` says: the volume of the edited tree, zeros in the blocks that went, and every other byte as it was.
   pub removed-is : (dir now : ℕ) (own : Own) → Volume g I d t → find d p t ≡ some s → blocksAt (s .1) ≡ dir → OwnOf (blockSize g) d p t own → lookup n (s .1) ≡ some entry
       → Bare (s .0) (entry .node) → e ≡ headOf (view (blockSize g) (s .0)) entry → place ≡ spotOf n (s .1) → now < 2 ^ 64 → TreeDeletes g d p n now t I (removed g I dir e place own now)
   removed-is dir now own v f a o l b h q small =

@@ -10,14 +10,13 @@ use lib.ListN.{length}
 use Rattle.wire.proofs.Picks.{either, pick-true, pick-false}
 use Rattle.model.specs.Tree.{Name, Entry, Block, first, lessFirst, then, called, holds, lookup, weight, used, unlessBare, deleteLater, delete}
 use Rattle.model.specs.Render.{blocksAt, offset}
-use Rattle.model.specs.Calls.{bareLeft, leftoverLater, leftover}
 use Rattle.model.proofs.Lists.{not-some, first-here, first-there, lessFirst-here, lessFirst-there}
 use Rattle.model.proofs.Others.{lookup-here, lookup-there}
 use Rattle.model.proofs.Dirs.{not-bare}
 use Rattle.read_dir.specs.Finds.{placed}
 use Rattle.thm_walk.specs.Shown.{spotOf}
 
-module _ {X : Type 0} (B : ℕ) (n : Name) (e : Entry X) where
+module _ {X : Type 0} (n : Name) (e : Entry X) where
   -- in a block
   record Among (es : List (Entry X)) : Type 0 where
     pub left : List (Entry X)
@@ -65,10 +64,9 @@ module _ {X : Type 0} (B : ℕ) (n : Name) (e : Entry X) where
     pub is : bs ≡ earlier ++ (record { at = at; entries = left ++ (e ∷ right) } ∷ later)
     pub spot : spotOf n bs ≡ placed at (used left)
     pub gone : deleteLater n bs ≡ earlier ++ unlessBare at (left ++ right) later
-    pub over : leftoverLater B n bs ≡ bareLeft B at (blocksAt later) (left ++ right)
 
   in-later : (bs : List (Block X)) → lookup n bs ≡ some e → Later bs
-  unfolding lookup first then spotOf deleteLater leftoverLater block
+  unfolding lookup first then spotOf deleteLater block
   in-later [] l = absurd (not-some refl l)
   in-later (b ∷ bs) l = go (either (holds n b)) (in-later bs)
     where
@@ -84,7 +82,6 @@ module _ {X : Type 0} (B : ℕ) (n : Name) (e : Entry X) where
             is = ap (λ (es : List (Entry X)). block (b .at) es ∷ bs) (s .is);
             spot = pick-true _ _ c ∙ ap (placed (b .at)) (s .place);
             gone = pick-true _ _ c ∙ ap (λ (es : List (Entry X)). unlessBare (b .at) es bs) (s .less);
-            over = pick-true _ _ c ∙ ap (bareLeft B (b .at) (blocksAt bs)) (s .less);
           }
       go (inr c) r =
           let s = r (sym (lookup-there n b bs c) ∙ l) in
@@ -97,7 +94,6 @@ module _ {X : Type 0} (B : ℕ) (n : Name) (e : Entry X) where
             is = ap (λ (z : List (Block X)). b ∷ z) (s .is);
             spot = pick-false _ _ c ∙ s .spot;
             gone = pick-false _ _ c ∙ ap (λ (z : List (Block X)). b ∷ z) (s .gone);
-            over = pick-false _ _ c ∙ s .over;
           }
 
   -- The block stays: it is the first, or keeps an entry.
@@ -110,7 +106,6 @@ module _ {X : Type 0} (B : ℕ) (n : Name) (e : Entry X) where
     pub is : bs ≡ front ++ (record { at = at; entries = left ++ (e ∷ right) } ∷ later)
     pub spot : spotOf n bs ≡ placed at (used left)
     pub gone : delete n bs ≡ front ++ (record { at = at; entries = left ++ right } ∷ later)
-    pub over : leftover B n bs ≡ []
     pub why : (blocksAt bs ≡ at) ⊎ (1 ≤ length (left ++ right))
 
   -- It goes: it comes after the block `last`, and held this entry alone.
@@ -122,7 +117,6 @@ module _ {X : Type 0} (B : ℕ) (n : Name) (e : Entry X) where
     pub is : bs ≡ front ++ (last ∷ (record { at = at; entries = e ∷ [] } ∷ later))
     pub spot : spotOf n bs ≡ placed at 0
     pub gone : delete n bs ≡ front ++ (last ∷ later)
-    pub over : leftover B n bs ≡ bareLeft {X = X} B at (blocksAt later) []
 
   -- the last of a list
   last-of : (b : Block X) (bs : List (Block X)) → (front : List (Block X)) × (p : Block X) × (b ∷ bs ≡ front ++ (p ∷ []))
@@ -146,14 +140,9 @@ module _ {X : Type 0} (B : ℕ) (n : Name) (e : Entry X) where
   unfolding unlessBare
   no-block a ys = refl
 
-  none-over : (a z : ℕ) (es : List (Entry X)) → 1 ≤ length es → bareLeft B a z es ≡ []
-  unfolding bareLeft
-  none-over a z [] h = absurd (omega arith)
-  none-over a z (x ∷ es) h = refl
-
   -- One of the two.
   pub delete-site : (bs : List (Block X)) → lookup n bs ≡ some e → Stays bs ⊎ Goes bs
-  unfolding lookup first then spotOf delete leftover blocksAt block
+  unfolding lookup first then spotOf delete blocksAt block
   delete-site [] l = absurd (not-some refl l)
   delete-site (b ∷ bs) l = go (either (holds n b))
     where
@@ -172,7 +161,6 @@ module _ {X : Type 0} (B : ℕ) (n : Name) (e : Entry X) where
                 ∙ split-last b (s .earlier) (block (s .at) (e ∷ []) ∷ s .later) r;
             spot = pick-false _ _ c ∙ s .spot ∙ ap (λ (es : List (Entry X)). placed (s .at) (used es)) (z .0) ∙ ap (placed (s .at)) no-bytes;
             gone = pick-false _ _ c ∙ ap (λ (y : List (Block X)). b ∷ y) (s .gone ∙ ap (λ (y : List (Block X)). s .earlier ++ y) none) ∙ split-last b (s .earlier) (s .later) r;
-            over = pick-false _ _ c ∙ s .over ∙ ap (bareLeft B (s .at) (blocksAt (s .later))) q;
           })
       after-first c s (x ∷ m) q =
           inl (record {
@@ -184,7 +172,6 @@ module _ {X : Type 0} (B : ℕ) (n : Name) (e : Entry X) where
             is = ap (λ (y : List (Block X)). b ∷ y) (s .is);
             spot = pick-false _ _ c ∙ s .spot;
             gone = pick-false _ _ c ∙ ap (λ (y : List (Block X)). b ∷ y) (s .gone ∙ ap (λ (y : List (Block X)). s .earlier ++ y) (not-bare (s .at) (s .left ++ s .right) (s .later) (omega (arith, ap length q))));
-            over = pick-false _ _ c ∙ s .over ∙ none-over (s .at) (blocksAt (s .later)) (s .left ++ s .right) (omega (arith, ap length q));
             why = inr (omega (arith, ap length q));
           })
 
@@ -200,7 +187,6 @@ module _ {X : Type 0} (B : ℕ) (n : Name) (e : Entry X) where
             is = ap (λ (es : List (Entry X)). block (b .at) es ∷ bs) (s .is);
             spot = pick-true _ _ c ∙ ap (placed (b .at)) (s .place);
             gone = pick-true _ _ c ∙ ap (λ (es : List (Entry X)). block (b .at) es ∷ bs) (s .less);
-            over = pick-true _ _ c;
             why = inl refl;
           })
       go (inr c) = let s = in-later bs (sym (lookup-there n b bs c) ∙ l) in after-first c s (s .left ++ s .right) refl

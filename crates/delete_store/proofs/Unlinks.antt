@@ -4,9 +4,9 @@ use mathlib.Core.Bool.{true}
 use mathlib.Core.List.{List, [], _∷_, _++_, append-assoc, append-nil}
 use Prim.Native.Nat.{ℕ, zero, suc, _+_, _-_, _*_, _^_, _≤_, _<_}
 use native.Mathlib.Omega.{arith}
-use lib.ListN.{length, length-append, length-replicate}
+use lib.ListN.{length, length-append}
 use borrow.Author.Tests.{eq-eqb, ne-eqb, lt-leb}
-use Rattle.wire.specs.Be.{bytes, splice, zeros}
+use Rattle.wire.specs.Be.{bytes, splice}
 use Rattle.wire.specs.Pick.{zeroFrom}
 use Rattle.wire.proofs.Numbers.{length-bytes}
 use Rattle.wire.proofs.Picks.{pick-true, pick-false}
@@ -17,7 +17,6 @@ use Rattle.model.specs.Tree.{Name, Entry, Block, Below, Tree, weight, used, del
 use Rattle.model.specs.Render.{Piece, View, blocksAt, padded, entryBytes, entriesBytes, nodePieces, entryPieces, dirPieces, view, render, ats, count, blocks, Shows, ShowsAll}
 use Rattle.model.specs.Geometry.{Geo, blockSize, dataAt, Sound}
 use Rattle.model.specs.Volume.{All, GoodBlock, GoodBelow}
-use Rattle.model.specs.Calls.{bareLeft, leftover}
 use Rattle.model.proofs.Alike.{length-entry}
 use Rattle.model.proofs.Areas.{few, size-large, block-inside}
 use Rattle.model.proofs.Commit.{shows-both, shows-two, shows-stored, shows-after}
@@ -25,7 +24,7 @@ use Rattle.model.proofs.Counts.{count-same, count-cons, count-append, ats-appen
 use Rattle.model.proofs.Cuts.{upTo}
 use Rattle.model.proofs.Entries.{block-ends, next-shown}
 use Rattle.model.proofs.Frame.{SameBlock, shows-append, shows-left, shows-right, shows-frame}
-use Rattle.model.proofs.Full.{Whole, whole-tree, padded-none}
+use Rattle.model.proofs.Full.{Whole, whole-tree}
 use Rattle.model.proofs.Owns.{shows-kept}
 use Rattle.model.proofs.Sums.{chain-long}
 use Rattle.model.proofs.Lists.{all-left, all-right, all-mid}
@@ -100,7 +99,7 @@ module _ (g : Geo) (I : List ℕ) (sound : Sound g (length I)) (d : ℕ) where
 
 -- ---- the block goes
 
-module _ (g : Geo) (I : List ℕ) (d : ℕ) (s : Tree d) (part : Part g I d s) (n : Name) (e : Entry (Below d)) (st : Goes (blockSize g) n e s) where
+module _ (g : Geo) (I : List ℕ) (d : ℕ) (s : Tree d) (part : Part g I d s) (n : Name) (e : Entry (Below d)) (st : Goes n e s) where
   abbrev shown-as : View (Below d)
   shown-as = view (blockSize g) d
 
@@ -285,7 +284,7 @@ module _ (g : Geo) (I : List ℕ) (d : ℕ) (s : Tree d) (part : Part g I d s) (
   whole-old : All (Whole (blockSize g)) (front ++ (linkedTo (st .at) ∷ (own ++ (emptied ∷ (node ++ rest)))))
   whole-old = subst (All (Whole (blockSize g))) old (whole-tree (blockSize g) (omega (arith, size-large g)) d s (part .good))
 
-  -- the block before is linked anew,
+  -- the block before is linked anew
   last-new : Shows unlinkedFrom (blockSize g * st .last .at) (bytes 4 to ++ filled)
   unfolding unlinkedFrom linked linkedTo
   last-new =
@@ -300,14 +299,6 @@ module _ (g : Geo) (I : List ℕ) (d : ℕ) (s : Tree d) (part : Part g I d s) (
       shows-both (splice bare (B * st .last .at) (bytes 4 to)) (B * st .last .at) (bytes 4 to) filled (shows-stored bare (B * st .last .at) (bytes 4 to) fits)
       (shows-after bare (B * st .last .at) (bytes 4 to) fits (B * st .last .at + length (bytes 4 to)) filled (omega arith) b)
 
-  -- and the block that goes keeps its next address and zeros.
-  at-new : Shows unlinkedFrom (blockSize g * st .at) (bytes 4 to ++ zeros (blockSize g - 4))
-  at-new =
-      let B : ℕ = blockSize g in
-      let a : Shows bare (B * st .at) (bytes 4 to ++ zeros (B - 4)) = subst (λ (l : List ℕ). Shows bare (B * st .at) (bytes 4 to ++ l)) (padded-none (B - 4)) bare-shown in
-      let full : length (bytes 4 to ++ zeros (B - 4)) ≤ B = omega (arith, length-append (bytes 4 to) (zeros (B - 4)), length-bytes 4 to, length-replicate {A = ℕ} (B - 4) 0, size-large g) in
-      shows-kept B _ bare unlinkedFrom (st .at) (bytes 4 to ++ zeros (B - 4)) link-kept (λ o l q x y. apart (sym q)) full a
-
   shown-new : ShowsAll (blockSize g) unlinkedFrom (front ++ (linkedTo to ∷ (own ++ rest)))
   unfolding linkedTo
   shown-new =
@@ -321,23 +312,16 @@ module _ (g : Geo) (I : List ℕ) (d : ℕ) (s : Tree d) (part : Part g I d s) (
             (shows-frame B I unlinkedFrom rest (all-right (Whole B) node rest (all-right (Whole B) own (emptied ∷ (node ++ rest)) w .1)) (λ b h. other-block b (omega arith)) (stored-rest .shown)),
       )
 
-  -- what is left over is the block that goes
-  pub over-at : (i : ℕ) → count i (ats (leftover (blockSize g) n s)) ≡ count i (st .at ∷ [])
-  unfolding bareLeft ats
-  over-at i = ap (λ (l : List Piece). count i (ats l)) (st .over)
-
-  pub goes-without : Without g I unlinkedFrom d s (delete n s) (leftover (blockSize g) n s) (st .at ∷ ats (nodePieces shown-as (e .node)))
-  unfolding bareLeft node
+  pub goes-without : Without g I unlinkedFrom d s (delete n s) (st .at ∷ []) (st .at ∷ ats (nodePieces shown-as (e .node)))
+  unfolding node
   goes-without =
       let B : ℕ = blockSize g in
       record {
         touched = st .last .at ∷ (st .at ∷ []);
         kept = all-same;
         among = λ i h. omega (arith, count-old i, count-cons i (st .last .at) (st .at ∷ []));
-        seen = λ i h. omega (arith, count-new i, over-at i, count-cons i (st .last .at) (st .at ∷ []));
+        seen = λ i h. omega (arith, count-new i, count-cons i (st .last .at) (st .at ∷ []));
         shown = subst (ShowsAll B unlinkedFrom) (sym new) shown-new;
-        remains = subst (ShowsAll B unlinkedFrom) (sym (st .over)) (at-new, tt);
-        over = λ i. omega (arith, over-at i, count-old i);
         counts = λ i. omega (arith, count-old i, count-new i, count-cons i (st .at) (ats (nodePieces shown-as (e .node))));
         long = many;
       }

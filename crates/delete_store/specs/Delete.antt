@@ -32,7 +32,7 @@ unfoldable pub beforeFrom : ℕ → ℕ → List ℕ → ℕ → ℕ → ℕ →
 beforeFrom B n I zero a b = a
 beforeFrom B n I (suc k) a b = pick (eqb (next B I a) b) a (pick (leb n (next B I a)) a (beforeFrom B n I k (next B I a) b))
 
--- C11, C14: the block before b in the directory's chain gets b's next address, and b is given back. Its own bytes stay.
+-- C11: the block before b in the directory's chain gets b's next address, and then b is given back, which wipes it.
 unfoldable pub unlinked : Geo → List ℕ → ℕ → ℕ → List ℕ
 unlinked g I dir b =
     released g (linked (blockSize g) I (beforeFrom (blockSize g) (g .n) I (g .n - dataAt g) dir b) (next (blockSize g) I b)) b

@@ -1,29 +1,32 @@
 -- D3: steps at one vacant path that end with nothing there restore all but the time.
 use mathlib.Core.Path.{_≡_, refl, sym, ap, _∙_, subst}
 use mathlib.Core.Bool.{true}
+use mathlib.Core.Logic.{_⊎_, inl, inr}
 use mathlib.Core.Option.{some}
 use mathlib.Core.List.{List, [], _∷_}
 use Prim.Native.Nat.{ℕ, zero, suc, _+_, _-_, _*_, _/_, _%_, _^_, _≤_, _<_}
 use native.Mathlib.Nat.{pow-suc}
 use native.Mathlib.Omega.{arith}
-use native.Mathlib.Decide.{ℕ-discrete}
+use native.Mathlib.Decide.{ℕ-discrete, decLt}
 use lib.ListN.{length, getD, length-append}
 use borrow.Author.Tests.{ne-eqb}
 use Rattle.wire.specs.Be.{bytes}
 use Rattle.wire.proofs.Numbers.{length-bytes}
 use Rattle.wire.proofs.Picks.{not-both, pick-false, same-refl}
 use Rattle.bits.specs.Bit.{digit, bit}
+use Rattle.block.specs.Block.{cell}
 use Rattle.bits.proofs.Digits.{digit-zero, digit-suc}
 use Rattle.model.specs.Tree.{Name, Cell, Tree, called, Absent, Packed, insert, change, delete, Edit, edit, Some, find}
-use Rattle.model.specs.Render.{Piece, render, ats, count, ShowsAll, blocks, ownTime, InTime}
+use Rattle.model.specs.Render.{Piece, render, ats, count, ShowsAll, Wiped, blocks, ownTime, InTime}
 use Rattle.model.specs.Geometry.{Geo, blockSize, mapAt, dataAt, superBytes}
 use Rattle.model.specs.Volume.{All, Volume}
-use Rattle.model.specs.Calls.{rewritten, refiled, Vacant, fileEntry, created, deleted}
-use Rattle.model.specs.Steps.{Step, quiet, create, write, remove, Run, done, call, Restored, Bytes}
-use Rattle.model.proofs.Areas.{volume-laid, size-large}
+use Rattle.model.specs.Calls.{rewritten, refiled, Vacant, fileEntry, created, deleted, Outside, Makes}
+use Rattle.model.specs.Steps.{Step, quiet, create, write, remove, Run, done, call, Used, Restored, Bytes}
+use Rattle.model.proofs.Areas.{area, volume-laid, size-large}
 use Rattle.model.proofs.Alike.{Alike, alike-edit, alike-ats}
 use Rattle.model.proofs.Dirs.{change-absent, delete-absent, insert-there, change-insert, delete-insert}
 use Rattle.model.proofs.Edits.{refiled-name, edit-twice, edit-ext, edit-same, find-edit}
+use Rattle.model.proofs.Frame.{SameBlock}
 use Rattle.model.proofs.Full.{good-find, Whole, whole-tree, length-padded}
 
 -- ---- the tree
@@ -110,6 +113,13 @@ module _ (g : Geo) (d : ℕ) (p : List Name) (n : Name) (t₀ : Tree d) (v : Vac
   volume-after done s = s
   volume-after (call {I} {J} {L} {t} {u} {v = w} c r) s = volume-after r (shown-after I J t u c s)
 
+  -- a block that is used on the way is a data block
+  used-data : {I I′ : List ℕ} {t t′ : Tree d} (b : ℕ) (r : Run g d p n I t I′ t′) → Volume g I d t → Used b r → dataAt g ≤ b
+  unfolding Used
+  used-data b done s q = s .laid .range b q .0
+  used-data b (call {I} {J} {L} {t} {u} {v = w} c r) s (inl q) = s .laid .range b q .0
+  used-data b (call {I} {J} {L} {t} {u} {v = w} c r) s (inr q) = used-data b r (shown-after I J t u c s) q
+
   -- every call leaves as many bytes as there were
   long-after : {I I′ : List ℕ} {t t′ : Tree d} → Run g d p n I t I′ t′ → length I′ ≡ length I
   long-after done = refl
@@ -172,9 +182,64 @@ pub whole-super : (g : Geo) (u : ℕ) → length (superBytes g u) ≡ blockSize 
 unfolding superBytes
 whole-super g u = length-padded (blockSize g) _ (rw length-append (omega (arith, size-large g, length-bytes 4 (g .n), length-bytes 4 u, length-append (bytes 4 (g .n)) (bytes 4 u))))
 
+-- ---- the blocks that the calls used
+
+module _ (g : Geo) (d : ℕ) (p : List Name) (n : Name) (b : ℕ) (not-super : b ≡ g .K → ⊥) (not-map : mapAt g ≤ b → b < dataAt g → ⊥) where
+  -- One step: what was reached and no longer is is wiped; what is reached neither before nor after is as it was.
+  record Leaves (I : List ℕ) (t : Tree d) (J : List ℕ) (u : Tree d) : Type 0 where
+    pub wiped : 1 ≤ count b (blocks (blockSize g) d t) → count b (blocks (blockSize g) d u) ≡ 0 → Wiped (blockSize g) J b
+    pub same : count b (blocks (blockSize g) d t) ≡ 0 → count b (blocks (blockSize g) d u) ≡ 0 → SameBlock (blockSize g) I J b
+
+  makes-leaves : (I J : List ℕ) (t u : Tree d) → Makes g d t u I J → Leaves I t J u
+  unfolding cell
+  makes-leaves I J t u m = record {
+    wiped = m .wiped b;
+    same = λ x y i h. m .frame .at b i (record { not-super = not-super; not-map = not-map; not-reached = y }, x) h;
+  }
+
+  leaves : (I J : List ℕ) (t u : Tree d) → Step g d p n I t J u → Leaves I t J u
+  leaves I J t u (quiet i e) = record {
+    wiped = λ x y. absurd (omega (arith, x, y, ap (λ (z : Tree d). count b (blocks (blockSize g) d z)) e));
+    same = λ x y k h. ap (λ (L : List ℕ). getD L (blockSize g * b + k) 0) i;
+  }
+  leaves I J t u (create now w s cs o e m) = makes-leaves I J t u m
+  leaves I J t u (write now s cs o e m) = makes-leaves I J t u m
+  leaves I J t u (remove now o e m) = makes-leaves I J t u m
+
+  -- what is used at no time is not reached at the start
+  unreached : (t : Tree d) → (1 ≤ count b (blocks (blockSize g) d t) → ⊥) → count b (blocks (blockSize g) d t) ≡ 0
+  unreached t x = go (decLt 0 (count b (blocks (blockSize g) d t)))
+    where
+      go : Dec (0 < count b (blocks (blockSize g) d t)) → count b (blocks (blockSize g) d t) ≡ 0
+      go (yes q) = absurd (x q)
+      go (no q) = omega arith
+
+  at-start : {I J : List ℕ} {t u : Tree d} (r : Run g d p n I t J u) → (Used b r → ⊥) → count b (blocks (blockSize g) d t) ≡ 0
+  unfolding Used
+  at-start {I} {J} {t} {u} done x = unreached t x
+  at-start {I} {J} {t} {u} (call s r) x = unreached t (λ q. x (inl q))
+
+  -- A block that is not reached at the end was never used and is as it was, or was used and is wiped.
+  used-run : {I J : List ℕ} {t u : Tree d} (r : Run g d p n I t J u) → count b (blocks (blockSize g) d u) ≡ 0
+      → ((Used b r → ⊥) × SameBlock (blockSize g) I J b) ⊎ (Used b r × Wiped (blockSize g) J b)
+  unfolding Used
+  used-run done z = inl (λ h. omega arith, λ i h. refl)
+  used-run {I} {J} {t} {u} (call {J = L} {u = m} s r) z = go (used-run r z) (at-start r) (leaves I L t m s) (decLt 0 (count b (blocks (blockSize g) d t)))
+    where
+      go : ((Used b r → ⊥) × SameBlock (blockSize g) L J b) ⊎ (Used b r × Wiped (blockSize g) J b)
+          → ((Used b r → ⊥) → count b (blocks (blockSize g) d m) ≡ 0) → Leaves I t L m → Dec (0 < count b (blocks (blockSize g) d t))
+          → ((Used b (call s r) → ⊥) × SameBlock (blockSize g) I J b) ⊎ (Used b (call s r) × Wiped (blockSize g) J b)
+      go (inr x) f l q = inr (inr (x .0), x .1)
+      go (inl x) f l (yes q) = inr (inl q, λ i h. x .1 i h ∙ l .wiped q (f (x .0)) i h)
+      go (inl x) f l (no q) = inl (fresh q (x .0), λ i h. x .1 i h ∙ l .same (omega arith) (f (x .0)) i h)
+        where
+          fresh : (0 < count b (blocks (blockSize g) d t) → ⊥) → (Used b r → ⊥) → Used b (call s r) → ⊥
+          fresh q y (inl w) = q w
+          fresh q y (inr w) = y w
+
 -- D3: steps at one vacant path that end with nothing there restore all but the time.
 pub demand3 : (g : Geo) (d : ℕ) (p : List Name) (n : Name) (I I′ : List ℕ) (t t′ : Tree d) → Bytes I → Bytes I′
-    → Volume g I d t → Vacant d p n t → Run g d p n I t I′ t′ → Vacant d p n t′ → Restored g d p I t I′
+    → Volume g I d t → Vacant d p n t → (r : Run g d p n I t I′ t′) → Vacant d p n t′ → Restored g d p I t (λ c. Used c r) I′
 demand3 g d p n I I′ t t′ b b′ w v r u =
     let B : ℕ = blockSize g in
     let z = tree-restored g d p n I I′ t t′ w v r u in
@@ -196,4 +261,30 @@ demand3 g d p n I I′ t t′ b b′ w v r u =
       reached = λ c i m h x.
           shown-near P B I I′ (render B d t) (render B d (edit d p (z .0) (λ e bs. bs) t)) a
           (whole-tree B (omega (arith, size-large g)) d t (w .laid .good)) (w .laid .shown) (w′ .laid .shown) c i m h x;
+      given-back = λ c h y. wiped c h y;
+      never-used = λ c i o h l. kept c o h i l;
     }
+  where
+    -- what the first tree doesn't reach the last doesn't
+    gone : (c : ℕ) → count c (blocks (blockSize g) d t) ≡ 0 → count c (blocks (blockSize g) d t′) ≡ 0
+    gone c y =
+        let z = tree-restored g d p n I I′ t t′ w v r u in
+        let a : Alike (λ _. Unit {0}) (blockSize g) (render (blockSize g) d t) (render (blockSize g) d (edit d p (z .0) (λ e bs. bs) t)) = alike-edit (λ _. Unit {0}) (blockSize g) d p (z .0) t (λ j q. tt) in
+        ap (λ (x : Tree d). count c (blocks (blockSize g) d x)) (z .1) ∙ ap (count c) (sym (alike-ats (λ _. Unit {0}) (blockSize g) _ _ a)) ∙ y
+
+    wiped : (c : ℕ) → Used c r → count c (blocks (blockSize g) d t) ≡ 0 → Wiped (blockSize g) I′ c
+    wiped c h y =
+        let k = good-find (blockSize g) d p t (v .dir) (w .laid .good) (v .there) .packed in
+        let l = used-data g d p n t v k c r w h in
+        go (used-run g d p n c (λ e. omega (arith, area g (length I) (w .laid .sound) .maps)) (λ x q. omega arith) r (gone c y))
+      where
+        go : ((Used c r → ⊥) × SameBlock (blockSize g) I I′ c) ⊎ (Used c r × Wiped (blockSize g) I′ c) → Wiped (blockSize g) I′ c
+        go (inl x) = absurd (x .0 h)
+        go (inr x) = x .1
+
+    kept : (c : ℕ) → Outside g d t c → (Used c r → ⊥) → SameBlock (blockSize g) I I′ c
+    kept c o h = go (used-run g d p n c (o .not-super) (o .not-map) r (gone c (o .not-reached)))
+      where
+        go : ((Used c r → ⊥) × SameBlock (blockSize g) I I′ c) ⊎ (Used c r × Wiped (blockSize g) I′ c) → SameBlock (blockSize g) I I′ c
+        go (inl x) = x .1
+        go (inr x) = absurd (h (x .0))

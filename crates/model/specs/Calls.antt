@@ -6,11 +6,11 @@ use mathlib.Core.List.{List, [], _∷_, _++_}
 use Prim.Native.Nat.{ℕ, zero, suc, _+_, _-_, _*_, _≤_, _<_}
 use lib.Dec.{leb, eqb}
 use lib.ListN.{length, getD, take, drop}
-use Rattle.wire.specs.Be.{bytes, splice, zeros}
+use Rattle.wire.specs.Be.{splice, zeros}
 use Rattle.wire.specs.Pick.{pick}
 use Rattle.block.specs.Block.{Kept}
-use Rattle.model.specs.Tree.{Name, Cell, Node, file, device, sub, Entry, Block, Tree, any, then, orElse, entriesOf, called, holds, lookup, lessFirst, used, inside, Absent, insert, change, delete, Edit, edit, Some, find, blank, Bare}
-use Rattle.model.specs.Render.{Piece, blocksAt, blocks, ats, count, ShowsAll}
+use Rattle.model.specs.Tree.{Name, Cell, Node, file, device, sub, Entry, Block, Tree, any, then, orElse, entriesOf, lookup, used, inside, Absent, insert, change, delete, Edit, edit, Some, find, blank, Bare}
+use Rattle.model.specs.Render.{blocksAt, blocks, count, Wiped}
 use Rattle.model.specs.Geometry.{Geo, blockSize, mapAt, dataAt, reach}
 use Rattle.model.specs.Volume.{GoodName, fileLimit, blocksFor, Volume}
 
@@ -113,20 +113,6 @@ emptyCell g x = record { at = x; body = zeros (blockSize g - 4) }
 unfoldable pub deleted : (d : ℕ) → List Name → Name → ℕ → Tree d → Tree d
 deleted d p n now t = edit d p (λ _. now) (λ e bs. delete n bs) t
 
--- C14: what a delete leaves of a directory block that it empties and gives back: its old next address, then zeros.
-unfoldable pub bareLeft : {X : Type 0} → ℕ → ℕ → ℕ → List (Entry X) → List Piece
-bareLeft B a next [] = record { at = a; full = bytes 4 next ++ zeros (B - 4) } ∷ []
-bareLeft B a next (e ∷ es) = []
-
-unfoldable pub leftoverLater : {X : Type 0} → ℕ → Name → List (Block X) → List Piece
-leftoverLater B n [] = []
-leftoverLater B n (b ∷ bs) = pick (holds n b) (bareLeft B (b .at) (blocksAt bs) (lessFirst (called n) (b .entries)))
-    (leftoverLater B n bs)
-
-unfoldable pub leftover : {X : Type 0} → ℕ → Name → List (Block X) → List Piece
-leftover B n [] = []
-leftover B n (b ∷ bs) = pick (holds n b) [] (leftoverLater B n bs)
-
 -- ---- write
 
 -- F12: all data bytes of a chain, in order; a file's bytes are the first `size` of them.
@@ -172,12 +158,14 @@ pub record Outside (g : Geo) (d : ℕ) (t : Tree d) (b : ℕ) : Type 0 where
   pub not-map : mapAt g ≤ b → b < dataAt g → ⊥
   pub not-reached : count b (blocks (blockSize g) d t) ≡ 0
 
--- C14: what a changing call makes of the image: the volume of the new tree u; the pieces `left` over; all other bytes kept, so
--- block K+1, blocks below K and from n on, free blocks and freed ones.
-pub record Makes (g : Geo) (d : ℕ) (u : Tree d) (left : List Piece) (I J : List ℕ) : Type 0 where
+-- C14: what a changing call makes of the image, where the tree t becomes u: the volume of u; zeros in every block that was
+-- reached and no longer is (F7); all other bytes kept, so block K+1, blocks below K and from n on, and blocks that were free
+-- and still are.
+pub record Makes (g : Geo) (d : ℕ) (t u : Tree d) (I J : List ℕ) : Type 0 where
   pub volume : Volume g J d u
-  pub remains : ShowsAll (blockSize g) J left
-  pub frame : Kept (blockSize g) (λ b o. Outside g d u b × (count b (ats left) ≡ 0)) I J
+  pub wiped : (b : ℕ) → 1 ≤ count b (blocks (blockSize g) d t) → count b (blocks (blockSize g) d u) ≡ 0
+      → Wiped (blockSize g) J b
+  pub frame : Kept (blockSize g) (λ b o. Outside g d u b × (count b (blocks (blockSize g) d t) ≡ 0)) I J
 
 -- ---- the accepted calls, each with what it asks of the tree (the other side of its refusals)
 
@@ -186,9 +174,9 @@ pub record TreeCreatesFile (g : Geo) (d : ℕ) (p : List Name) (n : Name) (now :
   pub vacant : Vacant d p n t
   pub name : GoodName n
   pub room : toCreate (entryRoom g) n (vacant .dir .1) ≤ length (freeBlocks g d t)
-  pub makes : Makes g d (created d (entryRoom g) p n now (dirBlock (freeBlocks g d t)) 0
+  pub makes : Makes g d t (created d (entryRoom g) p n now (dirBlock (freeBlocks g d t)) 0
       (emptyCell g (entryBlock g n (vacant .dir .1) (freeBlocks g d t)) ∷ [])
-      t) [] I J
+      t) I J
 
 -- C10, S6: create a directory: not 8, 5/6, 15, 7, 9.
 pub record TreeCreatesDir (g : Geo) (d : ℕ) (p : List Name) (n : Name) (now : ℕ) (t : Tree d) (I J : List ℕ) : Type 0 where
@@ -196,14 +184,14 @@ pub record TreeCreatesDir (g : Geo) (d : ℕ) (p : List Name) (n : Name) (now : 
   pub name : GoodName n
   pub shallow : 1 ≤ vacant .dir .0
   pub room : toCreate (entryRoom g) n (vacant .dir .1) ≤ length (freeBlocks g d t)
-  pub makes : Makes g d (createdDir d (entryRoom g) p n now (dirBlock (freeBlocks g d t))
-      (entryBlock g n (vacant .dir .1) (freeBlocks g d t)) t) [] I J
+  pub makes : Makes g d t (createdDir d (entryRoom g) p n now (dirBlock (freeBlocks g d t))
+      (entryBlock g n (vacant .dir .1) (freeBlocks g d t)) t) I J
 
 -- C11, S6: delete: not 5/6, 14.
 pub record TreeDeletes (g : Geo) (d : ℕ) (p : List Name) (n : Name) (now : ℕ) (t : Tree d) (I J : List ℕ) : Type 0 where
   pub occupied : Occupied d p n t
   pub bare : Bare (occupied .dir .0) (occupied .entry .node)
-  pub makes : Makes g d (deleted d p n now t) (leftover (blockSize g) n (occupied .dir .1)) I J
+  pub makes : Makes g d t (deleted d p n now t) I J
 
 -- C12, S6: write: not 13, 11 (the file is there, and the position in it), 10, 9.
 pub record TreeWrites (g : Geo) (d : ℕ) (p : List Name) (n : Name) (now c : ℕ) (buf : List ℕ) (t : Tree d)
@@ -217,4 +205,4 @@ pub record TreeWrites (g : Geo) (d : ℕ) (p : List Name) (n : Name) (now c : �
   pub position : c ≤ size
   pub limit : c + length buf ≤ fileLimit
   pub room : blocksFor (blockSize g) (c + length buf) - length cells ≤ length (freeBlocks g d t)
-  pub makes : Makes g d (rewritten d p n now (c + length buf) (rewrite (blockSize g) (freeBlocks g d t) c buf cells) t) [] I J
+  pub makes : Makes g d t (rewritten d p n now (c + length buf) (rewrite (blockSize g) (freeBlocks g d t) c buf cells) t) I J

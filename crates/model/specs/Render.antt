@@ -112,6 +112,10 @@ abbrev pub ShowsAll : ℕ → List ℕ → List Piece → Type 0
 ShowsAll B I [] = Unit {0}
 ShowsAll B I (x ∷ xs) = Shows I (B * x .at) (x .full) × ShowsAll B I xs
 
+-- F7: every byte of block b is zero.
+abbrev pub Wiped : ℕ → List ℕ → ℕ → Type 0
+Wiped B I b = (i : ℕ) → i < B → getD I (B * b + i) 0 ≡ 0
+
 -- ---- the place of a directory's own time, which D3 excepts
 
 unfoldable pub offset : {X : Type 0} → Name → List (Entry X) → ℕ

@@ -8,9 +8,9 @@ use lib.ListN.{length}
 use Rattle.block.specs.Block.{cell, Off, Kept}
 use Rattle.block.proofs.Blocks.{kept-trans, kept-less}
 use Rattle.model.specs.Tree.{Name, Tree, sum, Edit, edit, Some, find}
-use Rattle.model.specs.Render.{Piece, blocksAt, render, ats, count, blocks, ownTime, ShowsAll}
+use Rattle.model.specs.Render.{blocksAt, render, count, blocks, Wiped, ownTime}
 use Rattle.model.specs.Geometry.{areaOf, Geo, blockSize, mapAt, dataAt, mapBits, superBytes, Sound}
-use Rattle.model.specs.Volume.{All, Volume}
+use Rattle.model.specs.Volume.{Volume}
 use Rattle.model.specs.Calls.{Makes}
 use Rattle.model.proofs.Areas.{area, size-large}
 use Rattle.model.proofs.Commit.{Commit, commit, commit-root}
@@ -18,7 +18,7 @@ use Rattle.model.proofs.Counts.{count-self, tally}
 use Rattle.model.proofs.Cuts.{OwnCut, own-cut}
 use Rattle.model.proofs.Demand.{whole-super}
 use Rattle.model.proofs.Frame.{SameBlock, shows-frame, blocks-edit, cut-within, cut-old, cut-new}
-use Rattle.model.proofs.Full.{Whole, whole-tree}
+use Rattle.model.proofs.Full.{whole-tree}
 use Rattle.model.proofs.Lists.{not-some}
 use Rattle.model.proofs.Owns.{renewedAt, shows-kept, own-kept, own-renewed}
 use Rattle.model.proofs.Paths.{sub-in}
@@ -34,14 +34,12 @@ use Rattle.own_entry.specs.declared.Own.{Own}
 use Rattle.own_entry.specs.declared.Own.the-variants.{Root, At}
 use Rattle.own_entry.specs.Own.{ownRenewed, ownSummed, sumRenewed, OwnOf}
 
--- What is so of J, in which all is stored but the directory's own entry: s is the directory, u what it becomes, and `left` what is left over.
-pub record Made (g : Geo) (I J : List ℕ) (d : ℕ) (t : Tree d) (e : ℕ) (s u : Tree e) (left : List Piece) : Type 0 where
+-- What is so of J, in which all is stored but the directory's own entry: s is the directory, and u what it becomes.
+pub record Made (g : Geo) (I J : List ℕ) (d : ℕ) (t : Tree d) (e : ℕ) (s u : Tree e) : Type 0 where
   pub commit : Commit g I J d t e s u
   pub others : (b : ℕ) → 1 ≤ count b (blocks (blockSize g) d t) → count b (blocks (blockSize g) e s) ≡ 0 → SameBlock (blockSize g) I J b
-  pub remains : ShowsAll (blockSize g) J left
-  pub whole : All (Whole (blockSize g)) left
-  pub over : (i : ℕ) → count i (ats left) ≤ count i (blocks (blockSize g) e s)
-  pub frame : Kept (blockSize g) (λ b o. (b ≡ g .K → ⊥) × (mapAt g ≤ b → b < dataAt g → ⊥) × (count b (blocks (blockSize g) e u) + count b (ats left) ≡ 0)) I J
+  pub wiped : (b : ℕ) → 1 ≤ count b (blocks (blockSize g) e s) → count b (blocks (blockSize g) e u) ≡ 0 → Wiped (blockSize g) J b
+  pub frame : Kept (blockSize g) (λ b o. (b ≡ g .K → ⊥) × (mapAt g ≤ b → b < dataAt g → ⊥) × (count b (blocks (blockSize g) e u) + count b (blocks (blockSize g) e s) ≡ 0)) I J
 
 -- The blocks of a directory at a path are among the tree's.
 pub sub-blocks : (B d : ℕ) (p : List Name) (t : Tree d) (s : Some) → find d p t ≡ some s → (i : ℕ) → count i (blocks B (s .0) (s .1)) ≤ count i (blocks B d t)
@@ -49,15 +47,15 @@ unfolding tally
 sub-blocks B d p t s f i = sub-in B i d p t s f
 
 -- The root has no entry of its own.
-root-makes : (g : Geo) (I J : List ℕ) (d : ℕ) (t u : Tree d) (left : List Piece) → Volume g I d t → Made g I J d t d t u left → Makes g d u left I J
-root-makes g I J d t u left v m = record {
+root-makes : (g : Geo) (I J : List ℕ) (d : ℕ) (t u : Tree d) → Volume g I d t → Made g I J d t d t u → Makes g d t u I J
+root-makes g I J d t u v m = record {
   volume = commit-root g I J d t u v (m .commit);
-  remains = m .remains;
+  wiped = m .wiped;
   frame = kept-less (λ b o h. (h .0 .not-super, h .0 .not-map, omega (arith, h .0 .not-reached, h .1))) (m .frame);
 }
 
-module _ (g : Geo) (I J : List ℕ) (d : ℕ) (t : Tree d) (n : Name) (p : List Name) (now : ℕ) (f : Edit) (s : Some) (left : List Piece)
-    (v : Volume g I d t) (h : find d (n ∷ p) t ≡ some s) (m : Made g I J d t (s .0) (s .1) (f (s .0) (s .1)) left)
+module _ (g : Geo) (I J : List ℕ) (d : ℕ) (t : Tree d) (n : Name) (p : List Name) (now : ℕ) (f : Edit) (s : Some)
+    (v : Volume g I d t) (h : find d (n ∷ p) t ≡ some s) (m : Made g I J d t (s .0) (s .1) (f (s .0) (s .1)))
     (c : OwnCut (blockSize g) d (n ∷ p) (λ _. now) f t s) where
   -- the image with the own entry renewed
   K : List ℕ
@@ -88,10 +86,11 @@ module _ (g : Geo) (I J : List ℕ) (d : ℕ) (t : Tree d) (n : Name) (p : List 
   unfolding cell
   other b q i l = own-only .at b i (λ e x y. q e) l
 
-  -- a block of the directory, and one left over, is another
+  -- a block of the directory is another, before
   of-dir : (b : ℕ) → 1 ≤ count b (blocks (blockSize g) (s .0) (s .1)) → b ≡ c .cut .at → ⊥
   of-dir b q e = omega (arith, q, ap (λ (z : ℕ). count z (blocks (blockSize g) (s .0) (s .1))) e, not-own)
 
+  -- and after
   of-new : (b : ℕ) → 1 ≤ count b (blocks (blockSize g) (s .0) (f (s .0) (s .1))) → b ≡ c .cut .at → ⊥
   of-new b q e =
       omega (
@@ -124,7 +123,21 @@ module _ (g : Geo) (I J : List ℕ) (d : ℕ) (t : Tree d) (n : Name) (p : List 
         shown = shows-frame B J K (render B (s .0) (f (s .0) (s .1))) (whole-tree B (omega (arith, size-large g)) (s .0) (f (s .0) (s .1)) (o .good)) (λ b q. other b (of-new b q)) (o .shown);
       }
 
-  below-makes : now < 2 ^ 64 → Makes g d (edit d (n ∷ p) (λ _. now) f t) left I (renewedAt J (c .place) (sum (f (s .0) (s .1))) now)
+  -- what is reached no longer was reached in the directory, and is not there; what is reached neither before nor after is not in it
+  edited : (b : ℕ) → count b (blocks (blockSize g) d (edit d (n ∷ p) (λ _. now) f t)) + count b (blocks (blockSize g) (s .0) (s .1))
+      ≡ count b (blocks (blockSize g) d t) + count b (blocks (blockSize g) (s .0) (f (s .0) (s .1)))
+  edited b = blocks-edit (blockSize g) d (n ∷ p) (λ _. now) f t s h b
+
+  fewer : (b : ℕ) → count b (blocks (blockSize g) (s .0) (s .1)) ≤ count b (blocks (blockSize g) d t)
+  fewer b = sub-blocks (blockSize g) d (n ∷ p) t s h b
+
+  wiped-own : (b : ℕ) → 1 ≤ count b (blocks (blockSize g) d t) → count b (blocks (blockSize g) d (edit d (n ∷ p) (λ _. now) f t)) ≡ 0 → Wiped (blockSize g) K b
+  wiped-own b q z i l =
+      let in-dir : 1 ≤ count b (blocks (blockSize g) (s .0) (s .1)) = omega (arith, edited b) in
+      let gone : count b (blocks (blockSize g) (s .0) (f (s .0) (s .1))) ≡ 0 = omega (arith, edited b, fewer b, v .laid .once b) in
+      other b (of-dir b in-dir) i l ∙ m .wiped b in-dir gone i l
+
+  below-makes : now < 2 ^ 64 → Makes g d t (edit d (n ∷ p) (λ _. now) f t) I (renewedAt J (c .place) (sum (f (s .0) (s .1))) now)
   unfolding K cell
   below-makes small =
       let B : ℕ = blockSize g in
@@ -134,14 +147,10 @@ module _ (g : Geo) (I J : List ℕ) (d : ℕ) (t : Tree d) (n : Name) (p : List 
         volume = commit g I K d t n p (λ _. now) f s v h commit-own (λ _ _. small) c
             (λ b q z e i l. other b e i l ∙ m .others b q z i l)
             (own-renewed g I d t (n ∷ p) (λ _. now) f s v c J same (m .commit .first));
-        remains = shows-frame B J K left (m .whole) (λ b q. other b (of-dir b (omega (arith, q, m .over b)))) (m .remains);
-        frame = kept-trans (kept-less (λ b o q. (q .0 .not-super, q .0 .not-map, gone b (q .0 .not-reached) (q .1))) (m .frame))
+        wiped = wiped-own;
+        frame = kept-trans (kept-less (λ b o q. (q .0 .not-super, q .0 .not-map, omega (arith, q .0 .not-reached, q .1, edited b, fewer b))) (m .frame))
             (kept-less (λ b o q e x y. omega (arith, in-new, q .0 .not-reached, ap (λ (z : ℕ). count z (blocks B d (edit d (n ∷ p) (λ _. now) f t))) e)) own-only);
       }
-    where
-      gone : (b : ℕ) → count b (blocks (blockSize g) d (edit d (n ∷ p) (λ _. now) f t)) ≡ 0 → count b (ats left) ≡ 0
-          → count b (blocks (blockSize g) (s .0) (f (s .0) (s .1))) + count b (ats left) ≡ 0
-      gone b x y = omega (arith, blocks-edit (blockSize g) d (n ∷ p) (λ _. now) f t s h b, sub-blocks (blockSize g) d (n ∷ p) t s h b)
 
 -- ---- both
 
@@ -150,31 +159,31 @@ some-one : (a b : ℕ) (o : Option ℕ) → o ≡ some a → o ≡ some b → a 
 some-one a b o x y = let both : some a ≡ some b = sym x ∙ y in cc
 
 -- The sum and the time stand in the own entry, and the image is the volume of the edited tree.
-renewed-makes : (g : Geo) (I J : List ℕ) (d : ℕ) (t : Tree d) (p : List Name) (now : ℕ) (f : Edit) (s : Some) (left : List Piece) (own : Own) → Volume g I d t → find d p t ≡ some s
-    → Made g I J d t (s .0) (s .1) (f (s .0) (s .1)) left → OwnOf (blockSize g) d p t own → now < 2 ^ 64
-    → Makes g d (edit d p (λ _. now) f t) left I (ownRenewed (blockSize g) J own (sum (f (s .0) (s .1))) now)
+renewed-makes : (g : Geo) (I J : List ℕ) (d : ℕ) (t : Tree d) (p : List Name) (now : ℕ) (f : Edit) (s : Some) (own : Own) → Volume g I d t → find d p t ≡ some s
+    → Made g I J d t (s .0) (s .1) (f (s .0) (s .1)) → OwnOf (blockSize g) d p t own → now < 2 ^ 64
+    → Makes g d t (edit d p (λ _. now) f t) I (ownRenewed (blockSize g) J own (sum (f (s .0) (s .1))) now)
 unfolding find edit ownTime
-renewed-makes g I J zero t [] now f s left Root v h m o small =
+renewed-makes g I J zero t [] now f s Root v h m o small =
     let k : (zero, t) ≡ s = cc in
-    root-makes g I J zero t (f zero t) left v (subst (λ (z : Some). Made g I J zero t (z .0) (z .1) (f (z .0) (z .1)) left) (sym k) m)
-renewed-makes g I J (suc d) t [] now f s left Root v h m o small =
+    root-makes g I J zero t (f zero t) v (subst (λ (z : Some). Made g I J zero t (z .0) (z .1) (f (z .0) (z .1))) (sym k) m)
+renewed-makes g I J (suc d) t [] now f s Root v h m o small =
     let k : (suc d, t) ≡ s = cc in
-    root-makes g I J (suc d) t (f (suc d) t) left v (subst (λ (z : Some). Made g I J (suc d) t (z .0) (z .1) (f (z .0) (z .1)) left) (sym k) m)
-renewed-makes g I J zero t [] now f s left (At q) v h m o small = absurd (not-some refl o)
-renewed-makes g I J (suc d) t [] now f s left (At q) v h m o small = absurd (not-some refl o)
-renewed-makes g I J d t (n ∷ p) now f s left Root v h m o small = let z : suc (length p) ≡ 0 = ap length o in absurd (omega arith)
-renewed-makes g I J d t (n ∷ p) now f s left (At q) v h m o small =
+    root-makes g I J (suc d) t (f (suc d) t) v (subst (λ (z : Some). Made g I J (suc d) t (z .0) (z .1) (f (z .0) (z .1))) (sym k) m)
+renewed-makes g I J zero t [] now f s (At q) v h m o small = absurd (not-some refl o)
+renewed-makes g I J (suc d) t [] now f s (At q) v h m o small = absurd (not-some refl o)
+renewed-makes g I J d t (n ∷ p) now f s Root v h m o small = let z : suc (length p) ≡ 0 = ap length o in absurd (omega arith)
+renewed-makes g I J d t (n ∷ p) now f s (At q) v h m o small =
     let c = own-cut (blockSize g) d n p (λ _. now) f t s h in
     let e : c .place + 9 ≡ placeAt (blockSize g) (q .block .0) (q .offset) + 9 = some-one _ _ (ownTime (blockSize g) d (n ∷ p) t) (c .own) o in
     let k : c .place ≡ placeAt (blockSize g) (q .block .0) (q .offset) = omega arith in
-    subst (λ (z : ℕ). Makes g d (edit d (n ∷ p) (λ _. now) f t) left I (renewedAt J z (sum (f (s .0) (s .1))) now)) k (below-makes g I J d t n p now f s left v h m c small)
+    subst (λ (z : ℕ). Makes g d t (edit d (n ∷ p) (λ _. now) f t) I (renewedAt J z (sum (f (s .0) (s .1))) now)) k (below-makes g I J d t n p now f s v h m c small)
 
 -- The sum that is read of the directory then is that of what it becomes: the whole of it.
-pub sum-makes : (g : Geo) (I J : List ℕ) (d : ℕ) (t : Tree d) (p : List Name) (now : ℕ) (f : Edit) (s : Some) (left : List Piece) (own : Own) → Volume g I d t → find d p t ≡ some s
-    → Made g I J d t (s .0) (s .1) (f (s .0) (s .1)) left → OwnOf (blockSize g) d p t own → now < 2 ^ 64
-    → Makes g d (edit d p (λ _. now) f t) left I (sumRenewed g J (blocksAt (s .1)) own now)
+pub sum-makes : (g : Geo) (I J : List ℕ) (d : ℕ) (t : Tree d) (p : List Name) (now : ℕ) (f : Edit) (s : Some) (own : Own) → Volume g I d t → find d p t ≡ some s
+    → Made g I J d t (s .0) (s .1) (f (s .0) (s .1)) → OwnOf (blockSize g) d p t own → now < 2 ^ 64
+    → Makes g d t (edit d p (λ _. now) f t) I (sumRenewed g J (blocksAt (s .1)) own now)
 unfolding sumRenewed
-sum-makes g I J d t p now f s left own v h m o small =
+sum-makes g I J d t p now f s own v h m o small =
     let c : Commit g I J d t (s .0) (s .1) (f (s .0) (s .1)) = m .commit in
     let q : Part g J (s .0) (f (s .0) (s .1)) = record {
       sound = subst (Sound g) (sym (c .long)) (v .laid .sound);
@@ -182,5 +191,5 @@ sum-makes g I J d t p now f s left own v h m o small =
       good = c .good;
     } in
     let e = ap (λ (a : ℕ). sumFrom 0 (walk (areaOf g) J a)) (sym (c .first)) ∙ part-sum g J (s .0) (f (s .0) (s .1)) q in
-    subst (λ (z : Summed). Makes g d (edit d p (λ _. now) f t) left I (ownSummed (blockSize g) J own now z)) (sym e)
-    (renewed-makes g I J d t p now f s left own v h m o small)
+    subst (λ (z : Summed). Makes g d t (edit d p (λ _. now) f t) I (ownSummed (blockSize g) J own now z)) (sym e)
+    (renewed-makes g I J d t p now f s own v h m o small)

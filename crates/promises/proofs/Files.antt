@@ -79,7 +79,7 @@ module _ (d : ℕ) (p : List Name) (n : Name) (t : Tree d) (z k : ℕ) (cs : Lis
       at-node j (device y ds) h = absurd (not-some refl h)
       at-node j (sub x) h = absurd (not-some refl h)
 
-  device-there : deviceAt d p n t ≡ some (z, k, cs) → (o : Occupied d p n t) × (o .entry .node ≡ device z cs)
+  pub device-there : deviceAt d p n t ≡ some (z, k, cs) → (o : Occupied d p n t) × (o .entry .node ≡ device z cs)
   unfolding deviceOf
   device-there e = let x = read-there asDevice n d p t (z, k, cs) (sym (device-is d p n t) ∙ e) in (x .0, at-node (x .0 .entry .time) (x .0 .entry .node) (x .1))
     where

@@ -25,5 +25,6 @@ pub mod Work
 pub mod Starts
 pub mod UsedMoves
 pub mod EitherOrder
+pub mod Wiped
 pub mod Promises
 pub mod OwnEntry

@@ -1,15 +1,15 @@
 -- D3 over the public calls: a sequence of calls at one path is a run of the model's steps.
 use mathlib.Core.Path.{_≡_, refl, sym, _∙_, subst}
 use mathlib.Core.Logic.{_⊎_, inl, inr}
-use mathlib.Core.List.{List, []}
-use Prim.Native.Nat.{ℕ, _^_, _<_}
+use mathlib.Core.List.{List}
+use Prim.Native.Nat.{ℕ, _^_, _≤_, _<_}
 use Rattle.limits.specs.declared.Refusal.{Refusal}
 use Rattle.model.specs.Tree.{Name, Cell, Tree, Packed, insert, change, delete, Edit, edit}
-use Rattle.model.specs.Render.{Piece, blocksAt}
-use Rattle.model.specs.Geometry.{Mount, Geo, blockSize, geoAt}
+use Rattle.model.specs.Render.{blocksAt, blocks, count}
+use Rattle.model.specs.Geometry.{Mount, Geo, codeSize, blockSize, geoAt}
 use Rattle.model.specs.Volume.{WellFormed, maxDepth}
 use Rattle.model.specs.Calls.{Vacant, DirAt, fileEntry, created, deleted, refiled, rewritten, Makes, TreeCreatesFile, TreeDeletes, TreeWrites}
-use Rattle.model.specs.Steps.{Step, quiet, Run, Restored, Bytes}
+use Rattle.model.specs.Steps.{Step, quiet, Run, Used, Restored, Bytes}
 use Rattle.model.specs.Steps.{done as run-done, call as run-call}
 use Rattle.model.proofs.Alike.{change-at}
 use Rattle.model.proofs.Demand.{demand3}
@@ -31,7 +31,7 @@ use Rattle.call_change.specs.Changing.{CreatesFile, Deletes, Writes}
 use Rattle.thm_calls.specs.Named.{lastOf}
 use Rattle.thm_calls.proofs.Changing.{volume-at, create-file-tree, create-file-bytes, create-file-kept, delete-tree, delete-bytes, delete-kept, write-tree, write-bytes, write-kept}
 use Rattle.promises.proofs.Answered.{answer-is, counted-is}
-use Rattle.promises.specs.Sequence.{Leads, HandleAt, Call, creates, opens, reads, seeks, writes, deletes, Calls, done, call}
+use Rattle.promises.specs.Sequence.{Leads, HandleAt, Call, creates, opens, reads, seeks, writes, deletes, Calls, done, call, ReachedIn, UsedBy}
 
 -- ---- the holding directory begins where it did
 
@@ -72,16 +72,17 @@ record Next (M : Mount) (a : ℕ) (p : List Name) (n : Name) (I : List ℕ) (w :
   step : Step (geoAt M I) maxDepth p n I (w .tree) J (well .tree)
   bytes : Bytes I → Bytes J
 
-module _ (M : Mount) (a : ℕ) (p : List Name) (n : Name) (I J : List ℕ) (w : WellFormed M I) (s : DirAt maxDepth a p (w .tree)) where
+module _ (M : Mount) (a : ℕ) (p : List Name) (n : Name) (I J : List ℕ) (w : WellFormed M I)
+    (s : DirAt maxDepth a p (w .tree)) where
   -- a call that changes nothing
   stays : J ≡ I → Next M a p n I w J
   stays e =
       subst (Next M a p n I w) (sym e) (record { well = w; numbers = refl; there = s; step = quiet refl refl; bytes = λ b. b })
 
   -- an accepted change, to the tree u
-  made : (u : Tree maxDepth) (left : List Piece) → Makes (geoAt M I) maxDepth u left I J → DirAt maxDepth a p u
+  made : (u : Tree maxDepth) → Makes (geoAt M I) maxDepth (w .tree) u I J → DirAt maxDepth a p u
       → Step (geoAt M I) maxDepth p n I (w .tree) J u → (Bytes I → Bytes J) → Next M a p n I w J
-  made u left m d c b =
+  made u m d c b =
       let v : WellFormed M J
       = record {
         numbers = geoAt M I;
@@ -96,18 +97,18 @@ module _ (M : Mount) (a : ℕ) (p : List Name) (n : Name) (I J : List ℕ) (w : 
 
   created-next : (now : ℕ) → TreeCreatesFile (geoAt M I) maxDepth p n now (w .tree) I J → (Bytes I → Bytes J) → Next M a p n I w J
   created-next now c =
-      made _ [] (c .makes) (created-there maxDepth a p (w .tree) s _ n now _ 0 _ packed)
+      made _ (c .makes) (created-there maxDepth a p (w .tree) s _ n now _ 0 _ packed)
       (creates-file-step (geoAt M I) maxDepth p n now (w .tree) I J c)
 
   deleted-next : (now : ℕ) → TreeDeletes (geoAt M I) maxDepth p n now (w .tree) I J → (Bytes I → Bytes J) → Next M a p n I w J
   deleted-next now c =
-      made _ _ (c .makes) (deleted-there maxDepth a p (w .tree) s n now)
+      made _ (c .makes) (deleted-there maxDepth a p (w .tree) s n now)
       (deletes-step (geoAt M I) maxDepth p n now (w .tree) I J c)
 
   written-next : (now c : ℕ) (buf : List ℕ) → TreeWrites (geoAt M I) maxDepth p n now c buf (w .tree) I J → (Bytes I → Bytes J)
       → Next M a p n I w J
   written-next now c buf m =
-      made _ [] (m .makes) (rewritten-there maxDepth a p (w .tree) s n now _ _)
+      made _ (m .makes) (rewritten-there maxDepth a p (w .tree) s n now _ _)
       (writes-step (geoAt M I) maxDepth p n now (w .tree) I J c buf m)
 
   -- the calls
@@ -168,32 +169,73 @@ module _ (M : Mount) (a : ℕ) (p : List Name) (n : Name) (I J : List ℕ) (w : 
 -- ---- so a sequence is a run
 
 module _ (M : Mount) (a : ℕ) (p : List Name) (n : Name) where
-  runs : {I J : List ℕ} → Calls M a p n I J → (w : WellFormed M I) → DirAt maxDepth a p (w .tree)
-      → (v : WellFormed M J) × Run (geoAt M I) maxDepth p n I (w .tree) J (v .tree) × (Bytes I → Bytes J)
-  runs done w s = (w, run-done, λ b. b)
+  -- The run of a sequence, by the numbers g: it uses the blocks that the calls use.
+  record Ran (g : Geo) {I J : List ℕ} (c : Calls M a p n I J) (w : WellFormed M I) : Type 0 where
+    well : WellFormed M J
+    run : Run g maxDepth p n I (w .tree) J (well .tree)
+    bytes : Bytes I → Bytes J
+    used : (b : ℕ) → UsedBy b c → Used b run
+    only : (b : ℕ) → Used b run → UsedBy b c
+
+  -- an image has one tree
+  reached-here : (b : ℕ) (I : List ℕ) (w : WellFormed M I) → ReachedIn M b I
+      → 1 ≤ count b (blocks (codeSize (M .code)) maxDepth (w .tree))
+  reached-here b I w q = subst (λ (t : Tree maxDepth). 1 ≤ count b (blocks (codeSize (M .code)) maxDepth t)) (well-formed-one M I
+      (q .well) w .1) (q .there)
+
+  runs : {I J : List ℕ} (c : Calls M a p n I J) (w : WellFormed M I) → DirAt maxDepth a p (w .tree) → Ran (geoAt M I) c w
+  unfolding UsedBy Used
+  runs {I} {J} done w s = record {
+    well = w;
+    run = run-done;
+    bytes = λ b. b;
+    used = λ b q. reached-here b I w q;
+    only = λ b q. record { well = w; there = q };
+  }
   runs (call {I} {J} {L} c r) w s =
       let x = next M a p n I J w s c in
-      let y = runs r (x .well) (x .there) in
-      let run = subst (λ (g : Geo). Run g maxDepth p n J (x .well .tree) L (y .0 .tree)) (x .numbers) (y .1) in
-      (y .0, run-call (x .step) run, λ b. y .2 (x .bytes b))
+      let y : Ran (geoAt M I) r (x .well) = subst (λ (g : Geo). Ran g r (x .well)) (x .numbers) (runs r (x .well) (x .there)) in
+      record {
+        well = y .well;
+        run = run-call (x .step) (y .run);
+        bytes = λ b. y .bytes (x .bytes b);
+        used = λ b q. used b (x .well .tree) (y .well .tree) (y .run) (y .used b) q;
+        only = λ b q. only b (x .well .tree) (y .well .tree) (y .run) (y .only b) q;
+      }
+    where
+      used : (b : ℕ) (u z : Tree maxDepth) (m : Run (geoAt M I) maxDepth p n J u L z) → (UsedBy b r → Used b m)
+          → ReachedIn M b I ⊎ UsedBy b r → (1 ≤ count b (blocks (codeSize (M .code)) maxDepth (w .tree))) ⊎ Used b m
+      used b u z m f (inl q) = inl (reached-here b I w q)
+      used b u z m f (inr q) = inr (f q)
+
+      only : (b : ℕ) (u z : Tree maxDepth) (m : Run (geoAt M I) maxDepth p n J u L z) → (Used b m → UsedBy b r)
+          → (1 ≤ count b (blocks (codeSize (M .code)) maxDepth (w .tree))) ⊎ Used b m → ReachedIn M b I ⊎ UsedBy b r
+      only b u z m f (inl q) = inl (record { well = w; there = q })
+      only b u z m f (inr q) = inr (f q)
 
 module _ (M : Mount) (p : List Name) (n : Name) (I J : List ℕ) (w : WellFormed M I) (v : Vacant maxDepth p n (w .tree))
     (c : Calls M (blocksAt (v .dir .1)) p n I J) where
   holding : DirAt maxDepth (blocksAt (v .dir .1)) p (w .tree)
   holding = record { dir = v .dir; there = v .there; starts = refl }
 
-  -- Whatever calls are made at the path, the image stays a well-formed volume,
-  pub calls-well : WellFormed M J
-  calls-well = runs M (blocksAt (v .dir .1)) p n c w holding .0
+  ran : Ran M (blocksAt (v .dir .1)) p n (geoAt M I) c w
+  ran = runs M (blocksAt (v .dir .1)) p n c w holding
 
-  -- and where it was bytes, it is bytes.
-  calls-bytes : Bytes I → Bytes J
-  calls-bytes = runs M (blocksAt (v .dir .1)) p n c w holding .2
+  -- Whatever calls are made at the path, the image stays a well-formed volume.
+  pub calls-well : WellFormed M J
+  calls-well = ran .well
 
   -- D3.
   pub calls-restore : Bytes I → (u : WellFormed M J) → Vacant maxDepth p n (u .tree)
-      → Restored (geoAt M I) maxDepth p I (w .tree) J
+      → Restored (geoAt M I) maxDepth p I (w .tree) (λ b. UsedBy b c) J
   calls-restore b u e =
-      let r = runs M (blocksAt (v .dir .1)) p n c w holding in
-      demand3 (geoAt M I) maxDepth p n I J (w .tree) (r .0 .tree) b (calls-bytes b) (volume-at M I w) v (r .1)
-      (subst (Vacant maxDepth p n) (well-formed-one M J u (r .0) .1) e)
+      let r = demand3 (geoAt M I) maxDepth p n I J (w .tree) (ran .well .tree) b (ran .bytes b) (volume-at M I w) v (ran .run)
+      (subst (Vacant maxDepth p n) (well-formed-one M J u (ran .well) .1) e) in
+      record {
+        long = r .long;
+        top = r .top;
+        bitmap = r .bitmap;
+        reached = r .reached;
+        given-back = λ x q. r .given-back x (ran .used x q);
+        never-used = λ x i o q. r .never-used x i o (λ h. q (ran .only x h));
+      }

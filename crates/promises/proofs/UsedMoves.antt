@@ -67,7 +67,7 @@ module _ (B d : ℕ) (p : List Name) (n : Name) (now s : ℕ) (es : List Cell) (
 module _ (M : Mount) (I J : List ℕ) (w : WellFormed M I) (p : List Name) (n : Name) (now c : ℕ) (buf : List ℕ)
     (m : TreeWrites (geoAt M I) maxDepth p n now c buf (w .tree) I J) where
   -- the file is a good one
-  file-good : GoodFile (blockSize (geoAt M I)) (m .size) (m .cells)
+  pub file-good : GoodFile (blockSize (geoAt M I)) (m .size) (m .cells)
   unfolding fileEntry
   file-good =
       let B : ℕ = blockSize (geoAt M I) in

@@ -7,5 +7,6 @@ pub mod Room
 pub mod Work
 pub mod EitherOrder
 pub mod Exact
+pub mod Wiped
 pub mod Promises
 pub mod OwnEntry

@@ -26,7 +26,7 @@ use Rattle.call_read.specs.Reading.{openSays}
 use Rattle.call_volume.specs.Format.{Formats}
 use Rattle.call_volume.specs.Checking.{Checks}
 use Rattle.call_change.specs.Changing.{CreatesFile, CreatesDir, Deletes, Writes}
-use Rattle.promises.specs.Sequence.{Leads, Calls}
+use Rattle.promises.specs.Sequence.{Leads, Calls, UsedBy}
 use Rattle.promises.specs.Counter.{Untouched, Another, StaleAtEntry}
 
 -- ---- D2: `RefusalIsExact` and `RoomIsExact` stand in Refusals, and what accepted calls have done (S5) in Work
@@ -68,13 +68,14 @@ pub record UsedIsTrue : Type 0 where
 -- ---- D3
 
 -- From a well-formed volume and a path that names nothing in a directory that is there: whatever calls are made at that path,
--- the image stays well formed, and if nothing is there at the end, what D3 names is restored.
+-- the image stays well formed, and if nothing is there at the end, what D3 names is restored, what the calls used and gave back
+-- is zero, and every other block is as it was.
 pub record PathIsRestored : Type 0 where
   pub well : (M : Mount) (p : List Name) (n : Name) (I J : List ℕ) (w : WellFormed M I) (v : Vacant maxDepth p n (w .tree))
       → Calls M (blocksAt (v .dir .1)) p n I J → WellFormed M J
   pub restored : (M : Mount) (p : List Name) (n : Name) (I J : List ℕ) (w : WellFormed M I) (v : Vacant maxDepth p n (w .tree))
-      → Calls M (blocksAt (v .dir .1)) p n I J → Bytes I → (u : WellFormed M J) → Vacant maxDepth p n (u .tree)
-      → Restored (geoAt M I) maxDepth p I (w .tree) J
+      → (c : Calls M (blocksAt (v .dir .1)) p n I J) → Bytes I → (u : WellFormed M J) → Vacant maxDepth p n (u .tree)
+      → Restored (geoAt M I) maxDepth p I (w .tree) (λ b. UsedBy b c) J
 
 -- ---- what a call leaves alone
 

@@ -1,9 +1,12 @@
 -- D3: any number of calls at one path, each step the contract of a public call. Definitions alone.
 use mathlib.Core.Path.{_≡_}
+use mathlib.Core.Logic.{_⊎_}
 use mathlib.Core.List.{List}
-use Prim.Native.Nat.{ℕ, _^_, _<_}
-use Rattle.model.specs.Geometry.{Mount}
+use Prim.Native.Nat.{ℕ, _^_, _≤_, _<_}
+use Rattle.model.specs.Geometry.{Mount, codeSize}
 use Rattle.model.specs.Tree.{Name}
+use Rattle.model.specs.Render.{blocks, count}
+use Rattle.model.specs.Volume.{WellFormed, maxDepth}
 use Rattle.model.specs.Steps.{Bytes}
 use Rattle.handle.specs.declared.Handle.{Handle}
 use Rattle.handle.specs.declared.SeekFrom.{SeekFrom}
@@ -46,3 +49,13 @@ pub data Call (M : Mount) (a : ℕ) (p : List Name) (n : Name) (I J : List ℕ) 
 pub data Calls (M : Mount) (a : ℕ) (p : List Name) (n : Name) : List ℕ → List ℕ → Type 0 where
   done : {I : List ℕ} → Calls M a p n I I
   call : {I J L : List ℕ} → Call M a p n I J → Calls M a p n J L → Calls M a p n I L
+
+-- D3, block b is reached in the image I.
+pub record ReachedIn (M : Mount) (b : ℕ) (I : List ℕ) : Type 0 where
+  pub well : WellFormed M I
+  pub there : 1 ≤ count b (blocks (codeSize (M .code)) maxDepth (well .tree))
+
+-- D3, the calls used block b: it is reached in an image on the way, the first and the last among them.
+unfoldable pub UsedBy : {M : Mount} {a : ℕ} {p : List Name} {n : Name} {I J : List ℕ} → ℕ → Calls M a p n I J → Type 0
+UsedBy {M} {a} {p} {n} {I} {J} b done = ReachedIn M b I
+UsedBy {M} {a} {p} {n} {I} {J} b (call c r) = ReachedIn M b I ⊎ UsedBy b r

@@ -9,7 +9,6 @@ use Rattle.model.specs.Answers.{Reply, accepted, refused, andThen, settle, give
 use Rattle.limits.specs.Refusals.{refusalNumber}
 use Rattle.limits.specs.declared.Refusal.{Refusal}
 use Rattle.model.specs.Tree.{Name, Tree}
-use Rattle.model.specs.Render.{Piece}
 use Rattle.model.specs.Geometry.{Mount, Geo, geoAt}
 use Rattle.model.specs.Volume.{GoodName, Volume, WellFormed, maxDepth}
 use Rattle.model.specs.Steps.{Bytes}
@@ -61,13 +60,13 @@ pub volume-at : (M : Mount) (I : List ℕ) (w : WellFormed M I) → Volume (geoA
 volume-at M I w = subst (λ (g : Geo). Volume g I maxDepth (w .tree)) (well-formed-geo M I w) (w .volume)
 
 -- What a changing call makes of a well-formed image is a well-formed image, of the new tree.
-well-after : (M : Mount) (I J : List ℕ) → WellFormed M I → (u : Tree maxDepth) (left : List Piece) → Makes (geoAt M I) maxDepth u left I J → WellFormed M J
-well-after M I J w u left m = record { numbers = geoAt M I; here = refl; tree = u; volume = m .volume }
+well-after : (M : Mount) (I J : List ℕ) → WellFormed M I → (t u : Tree maxDepth) → Makes (geoAt M I) maxDepth t u I J → WellFormed M J
+well-after M I J w t u m = record { numbers = geoAt M I; here = refl; tree = u; volume = m .volume }
 
 -- and however J is found well formed, its tree is that one.
-pub tree-after : (M : Mount) (I J : List ℕ) → WellFormed M I → (u : Tree maxDepth) (left : List Piece) → Makes (geoAt M I) maxDepth u left I J → (v : WellFormed M J) → v .tree ≡ u
+pub tree-after : (M : Mount) (I J : List ℕ) → WellFormed M I → (t u : Tree maxDepth) → Makes (geoAt M I) maxDepth t u I J → (v : WellFormed M J) → v .tree ≡ u
 unfolding well-after
-tree-after M I J w u left m v = well-formed-one M J v (well-after M I J w u left m) .1
+tree-after M I J w t u m v = well-formed-one M J v (well-after M I J w t u m) .1
 
 -- ---- create and delete
 

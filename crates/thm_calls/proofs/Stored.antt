@@ -137,7 +137,10 @@ module _ (g : Geo) where
 
   bytes-freed : (I : List ℕ) → Bytes I → (x : ℕ) → Bytes (freed g I x)
   unfolding freed fewer
-  bytes-freed I b x = bytes-counted (marked g I x 0) (bytes-marked I b x 0 (omega arith)) (usedCount g (marked g I x 0) - 1)
+  bytes-freed I b x =
+      let J : List ℕ = zeroed (blockSize g) I (dataAt g + x) 1 in
+      let L : List ℕ = marked g J x 0 in
+      bytes-counted L (bytes-marked J (bytes-zeroed I b (dataAt g + x) 1) x 0 (omega arith)) (usedCount g L - 1)
 
   -- ---- an entry
 

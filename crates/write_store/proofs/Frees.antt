@@ -2,24 +2,24 @@
 use mathlib.Core.Path.{_≡_, refl, sym, ap, _∙_, subst}
 use mathlib.Core.List.{List, [], _∷_, _++_, append-assoc, append-nil}
 use Prim.Native.Nat.{ℕ, suc, _+_, _-_, _*_, _≤_, _<_}
-use native.Mathlib.Decide.{ℕ-discrete}
+use native.Mathlib.Decide.{ℕ-discrete, decLt}
 use native.Mathlib.Omega.{arith}
-use lib.ListN.{length}
+use lib.ListN.{length, getD}
 use Rattle.wire.specs.Be.{bytes}
 use Rattle.block.specs.Block.{cell, next, linked, Off, Kept}
 use Rattle.block.proofs.Blocks.{kept-refl, kept-trans, kept-less}
 use Rattle.model.specs.Tree.{Cell}
-use Rattle.model.specs.Render.{cellsAt, cellPieces, count, Shows, ShowsAll}
+use Rattle.model.specs.Render.{cellsAt, cellPieces, count, Shows, ShowsAll, Wiped}
 use Rattle.model.specs.Geometry.{areaOf, Geo, blockSize, dataAt, mapBits, bitEnd, superBytes, usedCount, Sound}
 use Rattle.model.specs.Volume.{All, GoodCell}
 use Rattle.model.specs.Calls.{places}
 use Rattle.model.proofs.Areas.{few, size-large, block-inside}
-use Rattle.model.proofs.Counts.{count-same, count-other, count-none, count-self}
+use Rattle.model.proofs.Counts.{count-same, count-other, count-none, count-self, count-is}
 use Rattle.model.proofs.Frame.{SameBlock}
 use Rattle.model.proofs.Owns.{shows-kept}
 use Rattle.model.proofs.Lists.{all-left, all-right}
 use Rattle.bitmap_block.specs.Bitmap.{mark, freed}
-use Rattle.bitmap_block.proofs.Stores.{sound-kept, Aside, aside-data, freed-kept, used-freed, top-freed, mark-freed, mark-freed-other}
+use Rattle.bitmap_block.proofs.Stores.{sound-kept, Aside, aside-data, freed-kept, used-freed, top-freed, mark-freed, mark-freed-other, freed-wiped}
 use Rattle.write_store.specs.Write.{cutAfter, HeldCells}
 use Rattle.chain_store.specs.Chain.{released, chainFreed}
 use Rattle.thm_walk.proofs.Walks.{in-area}
@@ -73,9 +73,10 @@ freed-more g I a k h u =
     pick-true _ _ (in-area (areaOf g) I a (h .0, omega (arith, h .1)))
     ∙ ap (λ (J : List ℕ). chainFreed g J k (next (blockSize g) I a)) (pick-false _ _ (rw (ne-eqb (usedCount g I) 0 (λ z. omega arith), lt-leb (bitEnd g) a (h .1))))
 
--- What has changed: the marks of the blocks ys, and the used count.
+-- What has changed: the blocks ys are wiped, their marks are clear, and the used count is less.
 pub record Dropped (g : Geo) (I J : List ℕ) (ys : List Cell) : Type 0 where
-  pub kept : Kept (blockSize g) (Aside g) I J
+  pub kept : Kept (blockSize g) (λ b o. Aside g b o × (count b (places ys) ≡ 0)) I J
+  pub wiped : (b : ℕ) → 1 ≤ count b (places ys) → Wiped (blockSize g) J b
   pub marks : (x : ℕ) → x < mapBits g → mark g J x + count (dataAt g + x) (places ys) ≡ mark g I x
   pub top : Shows I (blockSize g * g .K) (superBytes g (usedCount g I)) → Shows J (blockSize g * g .K) (superBytes g (usedCount g I - length ys))
 
@@ -92,9 +93,16 @@ module _ (g : Geo) (I : List ℕ) (s : Sound g (length I)) (y : Cell) (ys : List
   in-data : dataAt g + (y .at - dataAt g) < bitEnd g
   in-data = omega (arith, here .0, here .1)
 
-  free-kept : Kept (blockSize g) (Aside g) I F
+  index : dataAt g + (y .at - dataAt g) ≡ y .at
+  index = omega (arith, here .0)
+
+  free-kept : Kept (blockSize g) (λ b o. Aside g b o × (b ≡ y .at → ⊥)) I F
   unfolding F
-  free-kept = freed-kept g I s (y .at - dataAt g) in-data
+  free-kept = kept-less (λ b o q. (q .0, λ e. q .1 (e ∙ index))) (freed-kept g I s (y .at - dataAt g) in-data)
+
+  free-wiped : Wiped (blockSize g) F (y .at)
+  unfolding F
+  free-wiped = subst (Wiped (blockSize g) (freed g I (y .at - dataAt g))) index (freed-wiped g I s (y .at - dataAt g) in-data)
 
   free-sound : Sound g (length F)
   free-sound = sound-kept g I s _ F free-kept
@@ -122,13 +130,17 @@ module _ (g : Geo) (I : List ℕ) (s : Sound g (length I)) (y : Cell) (ys : List
             count-none (dataAt g + z),
           )
       go (no e) =
-          omega (arith, mark-freed-other g I s (y .at - dataAt g) in-data z e, count-other (dataAt g + z) (y .at) [] (λ w. e (omega arith)), count-none (dataAt g + z))
+          omega (arith, mark-freed-other g I s (y .at - dataAt g) in-data z q e, count-other (dataAt g + z) (y .at) [] (λ w. e (omega arith)), count-none (dataAt g + z))
 
-  -- the blocks after it are held still
+  -- the blocks after it are others
+  apart : (b : ℕ) → 1 ≤ count b (places ys) → b ≡ y .at → ⊥
+  apart b q e = omega (arith, q, h .once b, count-cell b y ys, count-same b (y .at) [] e)
+
+  -- and held still
   free-held : HeldCells g F ys
   unfolding cell
   free-held = held-kept g I F ys (held-back g I (y ∷ []) ys h)
-      (λ b q i p. free-kept .at b i (aside-data g (length I) s b i (h .range b (omega (arith, count-cell b y ys)) .0)) p)
+      (λ b q i p. free-kept .at b i (aside-data g (length I) s b i (h .range b (omega (arith, count-cell b y ys)) .0), apart b q) p)
       (λ i q. marked i q)
     where
       marked : (i : ℕ) → 1 ≤ count i (places ys) → mark g F (i - dataAt g) ≡ 1
@@ -150,11 +162,23 @@ module _ (g : Geo) (I : List ℕ) (s : Sound g (length I)) (y : Cell) (ys : List
       freed-more g I (y .at) (length ys) here u
       ∙ ap (chainFreed g (freed g I (y .at - dataAt g)) (length ys)) (unfold cellsAt in next-cell g I s y ys (h .range) (h .shown))
 
+  -- the block itself stays wiped while the others are given back
+  dropped-wiped : (J : List ℕ) → Dropped g F J ys → (b : ℕ) → 1 ≤ count b (places (y ∷ ys)) → Dec (0 < count b (places ys)) → Wiped (blockSize g) J b
+  unfolding cell
+  dropped-wiped J r b q (yes m) = r .wiped b m
+  dropped-wiped J r b q (no m) =
+      let e : b ≡ y .at = count-is b (y .at) (omega (arith, q, count-cell b y ys)) in
+      λ i p.
+      r .kept .at b i (aside-data g (length I) s b i (omega (arith, here .0)), omega arith) p
+      ∙ ap (λ (z : ℕ). getD F (blockSize g * z + i) 0) e ∙ free-wiped i p
+
   dropped-step : (J : List ℕ) → suc (length ys) ≤ usedCount g I → usedCount g I ≤ g .n → Dropped g F J ys → Dropped g I J (y ∷ ys)
   unfolding F
   dropped-step J l u r =
       record {
-        kept = kept-trans free-kept (r .kept);
+        kept = kept-trans (kept-less (λ b o q. (q .0, λ e. omega (arith, q .1, count-cell b y ys, count-same b (y .at) [] e))) free-kept)
+            (kept-less (λ b o q. (q .0, omega (arith, q .1, count-cell b y ys))) (r .kept));
+        wiped = λ b q. dropped-wiped J r b q (decLt 0 (count b (places ys)));
         marks = λ z q. omega (arith, r .marks z q, free-marks z q, count-cell (dataAt g + z) y ys);
         top = λ t.
             let a : Shows F (blockSize g * g .K) (superBytes g (usedCount g F))
@@ -169,6 +193,7 @@ module _ (g : Geo) where
       subst (λ (L : List ℕ). Dropped g I L []) (sym (freed-none g I (cellsAt [])))
       (record {
         kept = kept-refl I;
+        wiped = λ b q. absurd (omega (arith, count-no-cell b));
         marks = λ x q. omega (arith, count-no-cell (dataAt g + x));
         top = λ t. let e : usedCount g I ≡ usedCount g I - 0 = omega arith in subst (λ (z : ℕ). Shows I (blockSize g * g .K) (superBytes g z)) e t;
       })
@@ -208,9 +233,9 @@ module _ (g : Geo) (I : List ℕ) (s : Sound g (length I)) (xs : List Cell) (c :
   J : List ℕ
   J = linked (blockSize g) D (c .at) 0
 
-  J-kept : Kept (blockSize g) (λ b o. Aside g b o × Off (c .at) 0 4 b o) I J
+  J-kept : Kept (blockSize g) (λ b o. Aside g b o × (Off (c .at) 0 4 b o × (count b (places ys) ≡ 0))) I J
   unfolding J
-  J-kept = kept-trans (kept-less (λ b o p. p .0) (D-is .kept)) (kept-less (λ b o p. p .1) (link-kept g D D-sound (c .at) (last-in .0) (last-in .1) 0))
+  J-kept = kept-trans (kept-less (λ b o p. (p .0, p .1 .1)) (D-is .kept)) (kept-less (λ b o p. p .1 .0) (link-kept g D D-sound (c .at) (last-in .0) (last-in .1) 0))
 
   J-marks : (x : ℕ) → x < mapBits g → mark g J x + count (dataAt g + x) (places ys) ≡ mark g I x
   unfolding J
@@ -223,14 +248,22 @@ module _ (g : Geo) (I : List ℕ) (s : Sound g (length I)) (xs : List Cell) (c :
   front-same : (b : ℕ) → 1 ≤ count b (places xs) → SameBlock (blockSize g) I J b
   unfolding cell
   front-same b q i p =
-      J-kept .at b i (aside-data g (length I) s b i (h .range b (omega (arith, all b)) .0), λ e _ _. omega (arith, h .once b, all b, count-same b (c .at) [] e)) p
+      J-kept .at b i (
+        aside-data g (length I) s b i (h .range b (omega (arith, all b)) .0),
+        (λ e _ _. omega (arith, h .once b, all b, count-same b (c .at) [] e), omega (arith, h .once b, all b)),
+      ) p
+
+  J-wiped : (b : ℕ) → 1 ≤ count b (places ys) → Wiped (blockSize g) J b
+  unfolding J cell
+  J-wiped b q i p =
+      link-kept g D D-sound (c .at) (last-in .0) (last-in .1) 0 .at b i (λ e _ _. omega (arith, q, h .once b, all b, count-same b (c .at) [] e)) p ∙ D-is .wiped b q i p
 
   last-shown : ShowsAll (blockSize g) J (cellPieces (c ∷ []))
   unfolding cellPieces cellsAt J
   last-shown =
       let B : ℕ = blockSize g in (
         relinked B D (c .at) (cellsAt ys) 0 (c .body) (omega (arith, size-large g)) (block-inside g (length D) D-sound (c .at) (last-in .1))
-            (shows-kept B _ I D (c .at) (bytes 4 (cellsAt ys) ++ c .body) (D-is .kept) (λ o _. aside-data g (length I) s (c .at) o (last-in .0))
+            (shows-kept B _ I D (c .at) (bytes 4 (cellsAt ys) ++ c .body) (D-is .kept) (λ o _. (aside-data g (length I) s (c .at) o (last-in .0), omega (arith, h .once (c .at), all (c .at), count-self (c .at))))
             (omega (arith, block-long B (omega (arith, size-large g)) c (cellsAt ys) (cells .whole .0))) (cells .shown .0)),
         tt,
       )
@@ -267,10 +300,15 @@ module _ (g : Geo) (I : List ℕ) (s : Sound g (length I)) (xs : List Cell) (c :
   unfolding J
   cut-held = subst (λ (L : List ℕ). HeldCells g L (xs ++ (c ∷ []))) (sym cut-at) J-held
 
-  -- and besides its link the marks of those after it have changed, and the used count.
-  pub cut-kept : Kept (blockSize g) (λ b o. Aside g b o × Off (c .at) 0 4 b o) I (cutAfter g I (c .at) (length ys))
+  -- and besides its link those after it have changed, their marks, and the used count.
+  pub cut-kept : Kept (blockSize g) (λ b o. Aside g b o × (Off (c .at) 0 4 b o × (count b (places ys) ≡ 0))) I (cutAfter g I (c .at) (length ys))
   unfolding J
-  cut-kept = subst (Kept (blockSize g) (λ b o. Aside g b o × Off (c .at) 0 4 b o) I) (sym cut-at) J-kept
+  cut-kept = subst (Kept (blockSize g) (λ b o. Aside g b o × (Off (c .at) 0 4 b o × (count b (places ys) ≡ 0))) I) (sym cut-at) J-kept
+
+  -- Those after it are wiped.
+  pub cut-wiped : (b : ℕ) → 1 ≤ count b (places ys) → Wiped (blockSize g) (cutAfter g I (c .at) (length ys)) b
+  unfolding J
+  cut-wiped b q = subst (λ (L : List ℕ). Wiped (blockSize g) L b) (sym cut-at) (J-wiped b q)
 
   pub cut-marks : (x : ℕ) → x < mapBits g → mark g (cutAfter g I (c .at) (length ys)) x + count (dataAt g + x) (places ys) ≡ mark g I x
   unfolding J

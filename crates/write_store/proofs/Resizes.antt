@@ -14,7 +14,7 @@ use Rattle.wire.proofs.Picks.{pick-true, pick-false}
 use Rattle.block.specs.Block.{linked, Kept}
 use Rattle.block.proofs.Blocks.{kept-less}
 use Rattle.model.specs.Tree.{Cell}
-use Rattle.model.specs.Render.{cellsAt, cellPieces, count, Shows}
+use Rattle.model.specs.Render.{cellsAt, cellPieces, count, Shows, Wiped}
 use Rattle.model.specs.Geometry.{Geo, blockSize, dataAt, mapBits, superBytes, usedCount, Sound}
 use Rattle.model.specs.Volume.{All, GoodCell}
 use Rattle.model.specs.Calls.{places, stream}
@@ -29,7 +29,7 @@ use Rattle.chain_store.specs.Chain.{chainFreed}
 use Rattle.write_store.specs.Write.{hop, extended, cutAfter, resized, HeldCells, Chained}
 use Rattle.write_store.proofs.Cells.{Front, front-of, places-append, count-places, count-cell, empties, places-empties, count-last, back-shows}
 use Rattle.write_store.proofs.Extends.{Extended, extended-held, extended-is}
-use Rattle.write_store.proofs.Frees.{cut-held, cut-kept, cut-marks, cut-top}
+use Rattle.write_store.proofs.Frees.{cut-held, cut-kept, cut-wiped, cut-marks, cut-top}
 use Rattle.write_store.proofs.Hops.{hop-cells}
 
 -- The chain cs of I is the chain ds of J, with `new` blocks: of cs and then of the free ones; their bytes are those of cs and then zeros.
@@ -39,7 +39,8 @@ pub record Resized (g : Geo) (I J : List ℕ) (cs ds : List Cell) (new : ℕ) : 
   pub spots : places ds ≡ take new (places cs ++ clears g I)
   pub long : length ds ≡ new
   pub bytes : stream ds ≡ take ((blockSize g - 4) * new) (stream cs ++ zeros ((blockSize g - 4) * (new - length cs)))
-  pub kept : Kept (blockSize g) (λ b o. Aside g b o × (count b (places ds) ≡ 0)) I J
+  pub kept : Kept (blockSize g) (λ b o. Aside g b o × ((count b (places ds) ≡ 0) × (count b (places cs) ≡ 0))) I J
+  pub wiped : (b : ℕ) → 1 ≤ count b (places cs) → count b (places ds) ≡ 0 → Wiped (blockSize g) J b
   pub marks : (x : ℕ) → x < mapBits g → mark g J x + count (dataAt g + x) (places cs) ≡ mark g I x + count (dataAt g + x) (places ds)
   pub total : ℕ
   pub sum : total + length cs ≡ usedCount g I + new
@@ -109,10 +110,11 @@ module _ (g : Geo) (I : List ℕ) (s : Sound g (length I)) (xs : List Cell) (c :
         kept = kept-less (λ b o p. (
           p .0,
           (
-            λ q _ _. omega (arith, p .1, ds-spots b, cs-spots b, count-same b (c .at) [] q),
-            omega (arith, p .1, ds-spots b),
+            λ q _ _. omega (arith, p .1 .0, ds-spots b, cs-spots b, count-same b (c .at) [] q),
+            omega (arith, p .1 .0, ds-spots b),
           ),
         )) (is .kept);
+        wiped = λ b p q. absurd (omega (arith, p, q, ds-spots b));
         marks = λ x q. omega (arith, is .marks x q, ds-spots (dataAt g + x));
         total = usedCount g I + k;
         sum = omega arith;
@@ -156,7 +158,14 @@ module _ (g : Geo) (I : List ℕ) (s : Sound g (length I)) (xs : List Cell) (c :
             ∙ take-at (places kept-cells) (places ys ++ clears g I) n (length-places kept-cells));
         long = refl;
         bytes = sym (ap (take (w * n)) all ∙ take-at (stream kept-cells) (stream ys) (w * n) (length-stream B kept-cells good));
-        kept = kept-less (λ b o p. (p .0, λ q _ _. omega (arith, p .1, count-places b xs (c ∷ []), count-cell b c [], count-same b (c .at) [] q))) (cut-kept g I s xs c ys h l u);
+        kept = kept-less (λ b o p. (
+          p .0,
+          (
+            λ q _ _. omega (arith, p .1 .0, count-places b xs (c ∷ []), count-cell b c [], count-same b (c .at) [] q),
+            omega (arith, p .1 .1, spots-both b),
+          ),
+        )) (cut-kept g I s xs c ys h l u);
+        wiped = λ b p q. cut-wiped g I s xs c ys h l u b (omega (arith, p, q, spots-both b));
         marks = λ x q. omega (arith, cut-marks g I s xs c ys h l u x q, spots-both (dataAt g + x));
         total = usedCount g I - length ys;
         sum = omega (arith, long);

@@ -12,7 +12,7 @@ use Rattle.block.specs.Block.{cell, Off, Kept}
 use Rattle.block.proofs.Blocks.{kept-trans, kept-less}
 use Rattle.bits.specs.Bit.{bit}
 use Rattle.model.specs.Tree.{Name, Cell, Entry, Below, Tree, lookup, change, edit, Some, find}
-use Rattle.model.specs.Render.{View, cellsAt, blocksAt, padded, addressOf, sizeOf, entryBytes, cellPieces, nodePieces, view, render, ats, blocks, count, placeOf, Shows, ShowsAll}
+use Rattle.model.specs.Render.{View, cellsAt, blocksAt, padded, addressOf, sizeOf, entryBytes, cellPieces, nodePieces, view, render, blocks, count, placeOf, Shows, ShowsAll, Wiped}
 use Rattle.model.specs.Geometry.{Geo, blockSize, mapAt, dataAt, mapBits, superBytes, usedCount, Sound}
 use Rattle.model.specs.Volume.{All, fileLimit, blocksFor, GoodFile, GoodEntry, GoodBelow, GoodTree, Volume, maxDepth}
 use Rattle.model.specs.Calls.{freeBlocks, fileEntry, stream, places, chop, rewrite, refiled, rewritten, Outside, Makes, TreeWrites}
@@ -258,6 +258,16 @@ module _ (g : Geo) (I : List ℕ) (d : ℕ) (t : Tree d) (v : Volume g I d t) (p
     reached : 1 ≤ count (C .at) (blocks B d t)
     reached = omega (arith, cut-within B _ _ _ _ _ _ _ C (C .at), count-same (C .at) (C .at) [] refl)
 
+    no-old : count (C .at) (places cs) ≡ 0
+    no-old =
+        omega (
+          arith,
+          cut-within B _ _ _ _ _ _ _ C (C .at),
+          count-same (C .at) (C .at) [] refl,
+          ap (count (C .at)) (ats-cells cs),
+          v .laid .once (C .at),
+        )
+
     no-cell : count (C .at) (places ds) ≡ 0
     no-cell =
         omega (
@@ -273,8 +283,8 @@ module _ (g : Geo) (I : List ℕ) (d : ℕ) (t : Tree d) (v : Volume g I d t) (p
     dir-in : (dataAt g ≤ C .at) × (C .at < g .n)
     dir-in = v .laid .range (C .at) reached
 
-    kept₂ : Kept B (λ b o. Aside g b o × (count b (places ds) ≡ 0)) I J₂
-    kept₂ = kept-trans (r .kept) (kept-less (λ b o q. q .1) (filled .kept))
+    kept₂ : Kept B (λ b o. Aside g b o × ((count b (places ds) ≡ 0) × (count b (places cs) ≡ 0))) I J₂
+    kept₂ = kept-trans (r .kept) (kept-less (λ b o q. q .1 .0) (filled .kept))
 
     sound₂ : Sound g (length J₂)
     sound₂ = sound-kept g I (v .laid .sound) _ J₂ kept₂
@@ -290,14 +300,14 @@ module _ (g : Geo) (I : List ℕ) (d : ℕ) (t : Tree d) (v : Volume g I d t) (p
     entry-kept = filing-kept B _ _ _ _ _ dirView n k now z (c + length buf) cs es C (omega (arith, size-large g)) whole J₂ inside
 
     -- every other byte is as it was
-    kept₃ : Kept B (λ b o. Aside g b o × ((count b (places ds) ≡ 0) × Off (C .at) (4 + length (C .low) + 5) 12 b o)) I J₃
-    kept₃ = kept-trans (kept-less (λ b o q. (q .0, q .1 .0)) kept₂) (kept-less (λ b o q. q .1 .1) entry-kept)
+    kept₃ : Kept B (λ b o. (Aside g b o × ((count b (places ds) ≡ 0) × (count b (places cs) ≡ 0))) × Off (C .at) (4 + length (C .low) + 5) 12 b o) I J₃
+    kept₃ = kept-trans (kept-less (λ b o q. q .0) kept₂) (kept-less (λ b o q. q .1) entry-kept)
 
     -- ---- what the image shows
 
     dir-old : Shows J₂ (B * C .at) (bytes 4 (C .next) ++ padded (B - 4) (C .low ++ (entryBytes dirView (fileEntry n k z cs) ++ C .high)))
     dir-old =
-        shows-kept B _ I J₂ (C .at) (bytes 4 (C .next) ++ padded (B - 4) (C .low ++ (entryBytes dirView (fileEntry n k z cs) ++ C .high))) kept₂ (λ o _. (aside-data g (length I) (v .laid .sound) (C .at) o (dir-in .0), no-cell))
+        shows-kept B _ I J₂ (C .at) (bytes 4 (C .next) ++ padded (B - 4) (C .low ++ (entryBytes dirView (fileEntry n k z cs) ++ C .high))) kept₂ (λ o _. (aside-data g (length I) (v .laid .sound) (C .at) o (dir-in .0), (no-cell, no-old)))
         (omega (arith, cut-whole B _ _ _ _ _ _ _ C whole)) (cut-shown B _ _ _ _ _ _ _ C I (v .laid .shown))
 
     first-same : cellsAt es ≡ cellsAt cs
@@ -325,11 +335,11 @@ module _ (g : Geo) (I : List ℕ) (d : ℕ) (t : Tree d) (v : Volume g I d t) (p
     shown₃ =
         cut-shows B _ _ _ _ _ _ _ C I J₃ whole (v .laid .once) (v .laid .shown)
         (λ b q y m i h. kept₃ .at b i (
-          aside-data g (length I) (v .laid .sound) b i (v .laid .range b q .0),
           (
-            omega (arith, from b, apart b, y, ap (count b) (ats-cells cs)),
-            λ e _ _. m e,
+            aside-data g (length I) (v .laid .sound) b i (v .laid .range b q .0),
+            (omega (arith, from b, apart b, y, ap (count b) (ats-cells cs)), omega (arith, y, ap (count b) (ats-cells cs))),
           ),
+          λ e _ _. m e,
         ) h) dir-new cells-new
 
     -- ---- bits and count
@@ -421,19 +431,28 @@ module _ (g : Geo) (I : List ℕ) (d : ℕ) (t : Tree d) (v : Volume g I d t) (p
 
     -- ---- the frame
 
-    -- A block that is not reached afterwards is as it was.
-    frame : Kept B (λ b o. Outside g d u b × (count b (ats []) ≡ 0)) I J₃
+    -- A block that is reached neither before nor after is as it was.
+    frame : Kept B (λ b o. Outside g d u b × (count b (blocks B d t) ≡ 0)) I J₃
     frame = kept-less (λ b o q.
         let a = q .0 .not-reached in (
-          aside-other g b o (q .0 .not-super) (q .0 .not-map),
           (
-            omega (arith, a, cut-within-new B _ _ _ _ _ _ _ C b, ap (count b) (ats-cells es ∙ es-spots)),
-            λ e _ _. omega (arith, a, cut-within-new B _ _ _ _ _ _ _ C b, count-same b (C .at) [] e),
+            aside-other g b o (q .0 .not-super) (q .0 .not-map),
+            (omega (arith, a, cut-within-new B _ _ _ _ _ _ _ C b, ap (count b) (ats-cells es ∙ es-spots)), omega (arith, q .1, within b)),
           ),
+          λ e _ _. omega (arith, a, cut-within-new B _ _ _ _ _ _ _ C b, count-same b (C .at) [] e),
         )) kept₃
 
-    makes : now < 2 ^ 64 → Makes g d u [] I J₃
-    makes clock = record { volume = volume clock; remains = tt; frame = frame }
+    -- One that was reached and no longer is was the file's, and is wiped.
+    wiped : (b : ℕ) → 1 ≤ count b (blocks B d t) → count b (blocks B d u) ≡ 0 → Wiped B J₃ b
+    unfolding cell
+    wiped b q y i h =
+        let none : count b (places ds) ≡ 0 = omega (arith, y, cut-within-new B _ _ _ _ _ _ _ C b, ap (count b) (ats-cells es ∙ es-spots)) in
+        entry-kept .at b i (λ e _ _. omega (arith, y, cut-within-new B _ _ _ _ _ _ _ C b, count-same b (C .at) [] e)) h
+        ∙ filled .kept .at b i none h
+        ∙ r .wiped b (omega (arith, counts b)) none i h
+
+    makes : now < 2 ^ 64 → Makes g d t u I J₃
+    makes clock = record { volume = volume clock; wiped = wiped; frame = frame }
 
     -- The stores of a write are the edit of the model.
     wrote-file : now < 2 ^ 64 → TreeWrites g d p n now c buf t I (wrote g I (headOf (view (blockSize g) (s .0)) (fileEntry n k z cs)) (spotOf n (s .1)) c buf now)
@@ -448,7 +467,7 @@ module _ (g : Geo) (I : List ℕ) (d : ℕ) (t : Tree d) (v : Volume g I d t) (p
           position = position;
           limit = limit;
           room = room;
-          makes = subst (Makes g d u [] I) (sym stores-are) (makes clock);
+          makes = subst (Makes g d t u I) (sym stores-are) (makes clock);
         }
 
 -- ---- the theorem, with its parts named as a caller has them

@@ -1,4 +1,4 @@
-use Rattle.bitmap_block.proofs.Answers.{zero-inside, zero-fit, half-fit, half-used}
+use Rattle.bitmap_block.proofs.Answers.{zero-inside, zero-fit, set-fit, set-used}
 use Rattle.bitmap_block.specs.Bitmap.{taken}
 use borrow.Author.Needs.{needs}
 use Rattle.bitmap_block.proofs.take.Statement.{statement}
@@ -24,7 +24,7 @@ set-mark-requires c κs = search (zero-fit, needs)
 
 -- src/lib.rt:67:5
 inc-alloc-count-requires : tie.Need-inc-alloc-count-requires
-inc-alloc-count-requires c κs = (search half-fit, search half-used)
+inc-alloc-count-requires c κs = (search set-fit, search set-used)
 
 -- src/lib.rt:57:1
 same-length : tie.Need-same-length
