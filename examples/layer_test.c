@@ -221,12 +221,37 @@ static void every_number_has_its_words(void)
     uint32_t number, other;
     EXPECT(same_text(none, "no refusal has that number"));
     EXPECT(same_text(none, mfs_refusal_text(UINT32_MAX)));
-    for (number = MFS_OK; number <= MFS_DAMAGED; number++) {
+    /* No refusal has the number 18 any more. */
+    for (number = MFS_OK; number <= MFS_PAST_END; number += number == MFS_DAMAGED ? 2 : 1) {
         EXPECT(!same_text(mfs_refusal_text(number), none));
         for (other = MFS_OK; other < number; other++) {
             EXPECT(!same_text(mfs_refusal_text(number), mfs_refusal_text(other)));
         }
     }
+}
+
+/* Bytes inside a file are changed, what follows them stays, and every handle on it is current. */
+static void a_patch_keeps_the_tail(void)
+{
+    mfs_handle handle, other;
+    mfs_entry entry;
+    char text[6];
+    size_t bytes;
+    EXPECT(mfs_create_file(&volume, "/patched", 1, &handle) == MFS_OK);
+    EXPECT(mfs_write(&volume, &handle, "abcde", 5, 2) == MFS_OK);
+    EXPECT(mfs_open(&volume, "/patched", &other) == MFS_OK);
+    EXPECT(mfs_seek_start(&handle, 1) == MFS_OK);
+    EXPECT(mfs_patch(&volume, &handle, "XY", 2, 3) == MFS_OK);
+    EXPECT(mfs_size(&handle) == 5 && mfs_position(&handle) == 3);
+    EXPECT(mfs_info(&volume, "/patched", &entry) == MFS_OK && entry.size == 5 && entry.time == 3);
+    EXPECT(mfs_read(&volume, &other, text, sizeof text, &bytes) == MFS_OK && bytes == 5);
+    EXPECT(memcmp(text, "aXYde", 5) == 0);
+    EXPECT(mfs_patch(&volume, &handle, "zz", 2, 4) == MFS_OK && mfs_position(&handle) == 5);
+    EXPECT(mfs_patch(&volume, &handle, "!", 1, 5) == MFS_PAST_END);
+    EXPECT(mfs_patch(&volume, &handle, "", 0, 5) == MFS_EMPTY_WRITE);
+    EXPECT(mfs_position(&handle) == 5 && mfs_size(&handle) == 5);
+    EXPECT(mfs_delete(&volume, "/patched", 0) == MFS_OK);
+    EXPECT(mfs_patch(&volume, &handle, "!", 1, 5) == MFS_STALE);
 }
 
 /* An unknown size code is refused ahead of a length that no image has. */
@@ -253,6 +278,7 @@ static void every_call_names_the_size_code(void)
     EXPECT(mfs_list(&other, "/", 0, buf, sizeof buf, &bytes, &next) == MFS_NOT_MFS);
     EXPECT(mfs_read(&other, &handle, buf, sizeof buf, &bytes) == MFS_NOT_MFS);
     EXPECT(mfs_write(&other, &handle, "x", 1, 0) == MFS_NOT_MFS);
+    EXPECT(mfs_patch(&other, &handle, "x", 1, 0) == MFS_NOT_MFS);
     EXPECT(mfs_create_file(&other, "/new", 0, &handle) == MFS_NOT_MFS);
     EXPECT(mfs_create_dir(&other, "/new", 0) == MFS_NOT_MFS);
     EXPECT(mfs_delete(&other, "/coded", 0) == MFS_NOT_MFS);
@@ -274,6 +300,7 @@ int main(void)
     a_handle_is_current_while_the_size_stays();
     other_bytes_are_no_record();
     every_number_has_its_words();
+    a_patch_keeps_the_tail();
     every_call_names_the_size_code();
     EXPECT(mfs_check(&volume) == MFS_OK);
     puts("all so");

@@ -106,6 +106,21 @@ static void keep_a_counter(const mfs_volume *volume)
     print_info(volume, "water");
 }
 
+/* The counters of a street stand in one file: one is renewed, and those behind it stay. */
+static void keep_a_street(const mfs_volume *volume)
+{
+    mfs_handle street;
+    must("create street", mfs_create_file(volume, "street", 1700000000, &street));
+    must("write three counters", mfs_write(volume, &street, "000041000007000993", 18, 1700000060));
+    must("seek to the second", mfs_seek_start(&street, 6));
+    must("patch it", mfs_patch(volume, &street, "000008", 6, 1700000120));
+    must("seek to the start", mfs_seek_start(&street, 0));
+    print_rest(volume, &street);
+    tell("patch past the end", mfs_patch(volume, &street, "000000", 6, 0), MFS_PAST_END);
+    print_info(volume, "street");
+    must("delete street", mfs_delete(volume, "street", 1700000180));
+}
+
 /* A log grows at its end. A handle that has not seen it grow is stale, and opening anew helps. */
 static void keep_a_log(const mfs_volume *volume)
 {
@@ -142,6 +157,7 @@ int main(void)
 
     volume.cwd = "/meters";
     keep_a_counter(&volume);
+    keep_a_street(&volume);
     keep_a_log(&volume);
     tell("open gas", mfs_open(&volume, "gas", &none), MFS_NOT_FOUND);
     tell("delete /meters", mfs_delete(&volume, "/meters", 0), MFS_NOT_EMPTY);

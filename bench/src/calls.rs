@@ -38,8 +38,12 @@ pub enum Checked {
     Append(Handle),
     /// Over the last bytes of a file, which keeps its length.
     InPlace,
+    /// Over the first bytes of a file, whose tail stays.
+    Patch,
     Create,
     Delete,
+    /// Of a file with the long file's contents.
+    DeleteLong,
 }
 
 /// What an append goes through.
@@ -122,8 +126,8 @@ impl Checked {
     fn time<S: Side>(&self, side: &mut S, path: &str) -> (Pair, Vec<u8>) {
         match self {
             Checked::Write => {
-                let contents: Vec<u8> = (0..LONG).map(|i| (i % 251) as u8).collect();
                 let mut file = side.create(path);
+                let contents = contents();
                 let (pair, ()) = after_check(side, |side| side.write(&mut file, &contents));
                 side.delete(path);
                 (pair, place::<S>(&file))
@@ -144,6 +148,11 @@ impl Checked {
                 let (pair, ()) = after_check(side, |side| side.write(&mut file, &[b'='; SHORT]));
                 (pair, place::<S>(&file))
             }
+            Checked::Patch => {
+                let mut file = side.open(path);
+                let (pair, ()) = after_check(side, |side| side.patch(&mut file, &[b'#'; SHORT]));
+                (pair, place::<S>(&file))
+            }
             Checked::Create => {
                 let (pair, file) = after_check(side, |side| side.create(path));
                 side.delete(path);
@@ -154,8 +163,18 @@ impl Checked {
                 let (pair, ()) = after_check(side, |side| side.delete(path));
                 (pair, Vec::new())
             }
+            Checked::DeleteLong => {
+                let mut file = side.create(path);
+                side.write(&mut file, &contents());
+                let (pair, ()) = after_check(side, |side| side.delete(path));
+                (pair, place::<S>(&file))
+            }
         }
     }
+}
+
+fn contents() -> Vec<u8> {
+    (0..LONG).map(|i| (i % 251) as u8).collect()
 }
 
 /// Times a check alone and then a call, with what that answers. One more check comes before both, so that the caches are as warm for

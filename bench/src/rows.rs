@@ -75,6 +75,8 @@ pub static GROUPS: [Group; 8] = [
             plain("read of 1 MiB in one call", Plain::Read(LONG, LONG), "/d/big"),
             plain("read of 1 MiB in 508-byte calls", Plain::Read(LONG, 508), "/d/big"),
             checked("write of 1 MiB onto an empty file", Checked::Write, "/d/new"),
+            checked("delete of 1 MiB", Checked::DeleteLong, "/d/new"),
+            checked("patch of 16 bytes at the start of 1 MiB", Checked::Patch, "/d/big"),
             checked("append of 16 bytes to 1 MiB, new handle", Checked::Append(Handle::New), "/d/big"),
             checked("append of 16 bytes to 1 MiB, kept handle", Checked::Append(Handle::Kept), "/d/big"),
         ],

@@ -72,6 +72,15 @@ macro_rules! errors {
             refusals!(TooLarge, NoRoom)
         )
     };
+    (patch) => {
+        in_order!(
+            errors!(@checked),
+            ", ",
+            refusals!(EmptyWrite, Stale),
+            " (also for a directory that is not reached from the root), ",
+            refusals!(PastEnd)
+        )
+    };
     (read_file) => {
         "# Errors\n\nThose of [`open`](crate::open), then those of [`read`](crate::read)."
     };

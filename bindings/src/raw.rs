@@ -133,4 +133,19 @@ extern "C" {
         work_len: usize,
         bytes: *mut usize,
     ) -> u32;
+    pub fn mfs_c_patch(
+        img: *mut u8,
+        img_len: usize,
+        k: u32,
+        code: u32,
+        number: *mut [u32; 4],
+        name: *const [u8; NAME_LEN],
+        len: usize,
+        buf: *const u8,
+        buf_len: usize,
+        time: u64,
+        work: *mut u8,
+        work_len: usize,
+        bytes: *mut usize,
+    ) -> u32;
 }

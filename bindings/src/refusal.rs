@@ -14,7 +14,7 @@ pub enum Refusal {
     /// 2: a size code that is not known; or signature, version or size code in block K.
     NotMfs,
     /// 3: the volume's block count n is above the image's, or N = n - K - 2 is below 2 or 1 modulo 4097 (8193 with blocks of
-    /// 1,024 bytes).
+    /// 1,024 bytes); in version 1, below 4097.
     BadCount,
     /// 4: the full path's length, a byte of it that no path may have (the words of this refusal say which), or a
     /// working directory that is needed and does not start with `/`.
@@ -36,7 +36,7 @@ pub enum Refusal {
     Stale,
     /// 12: the seek's target is outside the file.
     BadSeek,
-    /// 13: a write of no bytes.
+    /// 13: a write or a patch of no bytes.
     EmptyWrite,
     /// 14: the directory to delete has entries.
     NotEmpty,
@@ -46,6 +46,8 @@ pub enum Refusal {
     ShortWork,
     /// 17: the volume is damaged.
     Damaged,
+    /// 19: the bytes of a patch would go past the file's end.
+    PastEnd,
     /// A number that these bindings have no name for.
     Unknown(u32),
     /// No call was made: the library has exports of this version, and these bindings are for [`EXPORTS_VERSION`].
@@ -54,7 +56,7 @@ pub enum Refusal {
 
 impl Refusal {
     /// Every refusal that has a name and a number, in the order of the numbers.
-    pub const ALL: [Refusal; 17] = [
+    pub const ALL: [Refusal; 18] = [
         Refusal::BadImage,
         Refusal::NotMfs,
         Refusal::BadCount,
@@ -72,6 +74,7 @@ impl Refusal {
         Refusal::TooDeep,
         Refusal::ShortWork,
         Refusal::Damaged,
+        Refusal::PastEnd,
     ];
 
     /// The number of the refusal. [`OtherVersion`](Refusal::OtherVersion) is none of the library's, and gives `u32::MAX`.
@@ -95,6 +98,7 @@ impl Refusal {
             Refusal::TooDeep => 15,
             Refusal::ShortWork => 16,
             Refusal::Damaged => 17,
+            Refusal::PastEnd => 19,
             Refusal::Unknown(number) => number,
             Refusal::OtherVersion(_) => u32::MAX,
         }
@@ -132,6 +136,7 @@ impl fmt::Display for Refusal {
             Refusal::TooDeep => "the new directory would be at depth 17",
             Refusal::ShortWork => "the work buffer has less than one bit for each block of the data area",
             Refusal::Damaged => "the volume is damaged",
+            Refusal::PastEnd => "the bytes would go past the end of the file",
             Refusal::Unknown(number) => return write!(f, "refused by number {number}, which these bindings do not know"),
             Refusal::OtherVersion(library) => {
                 return write!(f, "the library's exports have version {library}, these bindings call version {EXPORTS_VERSION}")
@@ -165,7 +170,8 @@ impl From<Refusal> for std::io::Error {
             | Refusal::BadSeek
             | Refusal::EmptyWrite
             | Refusal::TooDeep
-            | Refusal::ShortWork => ErrorKind::InvalidInput,
+            | Refusal::ShortWork
+            | Refusal::PastEnd => ErrorKind::InvalidInput,
         };
         std::io::Error::new(kind, refusal)
     }

@@ -194,6 +194,14 @@ impl<'a> Volume<'a> {
         crate::write(self.image, self.k, self.code, handle, buf, time, &mut self.work)
     }
 
+    /// Puts all of the buffer over bytes that the file has at the handle's position, or nothing; what follows them stays. The
+    /// answer counts the bytes.
+    ///
+    #[doc = errors!(patch)]
+    pub fn patch(&mut self, handle: &mut Handle, buf: &[u8], time: u64) -> Result<usize, Refusal> {
+        crate::patch(self.image, self.k, self.code, handle, buf, time, &mut self.work)
+    }
+
     /// Makes these bytes, and no others, what the file at a path holds. A file that is not there is created; one that
     /// is there is written from its start, all or nothing. Where a file was created and the bytes do not fit, it is
     /// deleted again; the holding directory keeps the time then.

@@ -55,8 +55,8 @@ fn refusals_have_the_same_words() {
 
 #[test]
 fn numbers_lead_back_to_their_refusals() {
-    for (place, refusal) in Refusal::ALL.into_iter().enumerate() {
-        let number = place as u32 + 1;
+    // No refusal has the number 18 any more.
+    for (refusal, number) in Refusal::ALL.into_iter().zip((1..).filter(|&number| number != 18)) {
         assert_eq!(refusal.number(), number);
         assert_eq!(Refusal::from_number(number), Some(refusal));
     }
@@ -65,7 +65,7 @@ fn numbers_lead_back_to_their_refusals() {
 
 #[test]
 fn a_number_without_a_name_is_a_value() {
-    for number in [18, 19, 256 + 1, u32::MAX] {
+    for number in [18, 20, 256 + 1, u32::MAX] {
         let unknown = Refusal::from_number(number).unwrap();
         assert_eq!(unknown, Refusal::Unknown(number));
         assert_eq!(unknown.number(), number);
@@ -153,6 +153,6 @@ fn exports_have_the_same_parameters() {
             (rest.split('(').next().unwrap(), c_parameters(list).iter().map(|parameter| as_c(parameter)).collect())
         })
         .collect();
-    assert_eq!(in_header.len(), 16);
+    assert_eq!(in_header.len(), 17);
     assert_eq!(in_header, in_raw);
 }

@@ -5,7 +5,7 @@ _mfs() {
     case $before in
     -k) mapfile -t COMPREPLY < <(compgen -W 'auto 0 1 8 8192' -- "$word") && return ;;
     --code) mapfile -t COMPREPLY < <(compgen -W '0 1 auto' -- "$word") && return ;;
-    --time | --blocks) return ;;
+    --at | --time | --blocks) return ;;
     --svg) mapfile -t COMPREPLY < <(compgen -f -- "$word") && return ;;
     esac
     for ((i = 1; i < COMP_CWORD; i++)); do
@@ -21,7 +21,8 @@ _mfs() {
         '') options+=' --version' ;;
         ls) options+=' -l -R' ;;
         get) options+=' -r' ;;
-        put | rm) options+=' -r --time --dry-run' ;;
+        put) options+=' -r --at --time --dry-run' ;;
+        rm) options+=' -r --time --dry-run' ;;
         append) options+=' --time --dry-run' ;;
         mkdir) options+=' -p --time --dry-run' ;;
         format) options+=' --blocks --force --dry-run' ;;

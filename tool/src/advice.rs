@@ -172,6 +172,7 @@ fn advise(number: u32, name: &str, dir: &str) -> String {
         7 => "remove it first, or choose another name".to_string(),
         8 => "choose a name of 1 to 255 bytes".to_string(),
         10 => "split the file".to_string(),
+        12 | 19 => format!("'mfs info {name} PATH' tells the file's size, and 'mfs append' makes it longer"),
         14 => "remove what is in it first, or use -r".to_string(),
         15 => "directories lie at most 16 deep: choose a shorter path".to_string(),
         17 => format!("'mfs check --explain {name}' says where; 'mfs get' may still save files"),

@@ -36,6 +36,8 @@ pub struct Flags {
     pub dry_run: bool,
     pub force: bool,
     pub explain: bool,
+    /// Where in a file bytes are put over those that are there.
+    pub at: Option<u32>,
     pub time: Option<u64>,
     pub blocks: Option<u32>,
     pub svg: Option<OsString>,
@@ -120,7 +122,7 @@ impl Parser {
     fn option(&mut self, word: &OsStr, rest: &mut impl Iterator<Item = OsString>) -> Result<(), Failure> {
         let text = word.to_string_lossy().into_owned();
         let (name, mut given) = split_option(&text);
-        if let Some(name @ ("-k" | "--code" | "--time" | "--blocks" | "--svg")) = Some(name) {
+        if let Some(name @ ("-k" | "--code" | "--at" | "--time" | "--blocks" | "--svg")) = Some(name) {
             let value = given.take().map(OsString::from).or_else(|| rest.next());
             let value = value.ok_or_else(|| self.complaint(format!("{name} wants a value")))?;
             return self.valued(name, &value);
@@ -168,6 +170,7 @@ impl Parser {
             _ => {
                 self.must_take(name)?;
                 match name {
+                    "--at" => self.flags.at = Some(self.number(name, &text)?),
                     "--time" => self.flags.time = Some(self.number(name, &text)?),
                     "--blocks" => self.flags.blocks = Some(self.number(name, &text)?),
                     _ => self.flags.svg = Some(value.to_owned()),
@@ -184,9 +187,6 @@ impl Parser {
     fn must_take(&self, name: &str) -> Result<(), Failure> {
         match self.command {
             Some(command) if command.takes(name) => Ok(()),
-            Some(command) if command.name == "put" && name == "--at" => {
-                Err(self.complaint("--at is not offered: the library cannot change bytes inside a file yet".to_string()))
-            }
             _ => Err(self.complaint(format!("there is no option {name} here"))),
         }
     }

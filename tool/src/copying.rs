@@ -23,6 +23,9 @@ const FILE_LIMIT: u64 = 2_147_483_647;
 const CHUNK: usize = 16 << 20;
 
 pub fn put(call: &Call) -> Result<(), Failure> {
+    if let Some(position) = call.flags.at {
+        return put_at(call, position);
+    }
     let (sources, target) = match &call.words[1..] {
         [one] => (std::slice::from_ref(one), OsStr::new("/")),
         [sources @ .., target] => (sources, target.as_os_str()),
@@ -46,6 +49,30 @@ pub fn put(call: &Call) -> Result<(), Failure> {
     }
     drop(progress);
     change.end()
+}
+
+/// Puts a file's bytes over those that one on the card has at a position.
+fn put_at(call: &Call, position: u32) -> Result<(), Failure> {
+    let [_, source, word] = &call.words[..] else {
+        return Err(call.usage("--at takes one file and the path of the one that it goes into"));
+    };
+    if call.flags.recursive {
+        return Err(call.usage("-r is for folders, and --at for one file"));
+    }
+    let mut change = Change::begin(call)?;
+    let path = card_path(word);
+    let answer = patch_file(&mut change, Path::new(source), &path, position);
+    change.count(answer);
+    change.end()
+}
+
+fn patch_file(change: &mut Change, source: &Path, path: &[u8], position: u32) -> Result<(), Failure> {
+    let bytes = read_source(source, &advice::subject(&change.image.name, path))?;
+    let mut file = change.image.view().open(path).map_err(|refusal| change.image.refused(refusal, path))?;
+    file.go_to(position).map_err(|refusal| change.image.refused(refusal, path))?;
+    let patched = change.image.volume().patch(&mut file, &bytes);
+    patched.map_err(|refusal| change.image.refused(refusal, path))?;
+    change.did("put", path, Some(bytes.len() as u64))
 }
 
 /// The name that a file of the host gets in a directory of the card.

@@ -57,7 +57,8 @@ pub const COMMANDS: [Command; 16] = [
         name: "df",
         synopsis: "df IMAGE",
         about: "how much is used, free, and free in reach",
-        details: "  Blocks past a volume's last whole 4096 may be free and yet never be allocated: they are out of reach.",
+        details: "  Blocks past a volume's last whole 4096 may be free and yet never be allocated: they are out of reach.\n  \
+                  So are the last blocks of a card of version 1 that the bitmap has no bit for.",
         flags: &[],
         words: (1, 1),
         run: df::df,
@@ -93,14 +94,16 @@ pub const COMMANDS: [Command; 16] = [
     },
     Command {
         name: "put",
-        synopsis: "put [-r] [--time SECONDS] [--dry-run] IMAGE SOURCE... [PATH]",
+        synopsis: "put [-r] [--at POSITION] [--time SECONDS] [--dry-run] IMAGE SOURCE... [PATH]",
         about: "copy files to the card",
         details: "  SOURCE is a file of the host, or - for the standard input. PATH is a file or directory on the\n  \
                   card, the root if it is left out. A file that is there is replaced.\n  \
                   -r         folders with all in them\n  \
+                  --at       one SOURCE over the bytes that the file PATH has there, counted from 0: what\n             \
+                  stands before and behind stays, and the file is no longer than it was\n  \
                   --time     seconds since 1970 for the entries, now if it is left out\n  \
                   --dry-run  do everything but store it",
-        flags: &["-r", "--time", "--dry-run"],
+        flags: &["-r", "--at", "--time", "--dry-run"],
         words: (2, MANY),
         run: copying::put,
     },

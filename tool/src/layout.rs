@@ -15,7 +15,7 @@ pub const SIGNATURE: &[u8; 8] = b"MOROS FS";
 /// The version that a format writes.
 const NEWEST: u8 = 2;
 /// The versions that the library takes.
-pub const VERSIONS: &[u8] = &[NEWEST];
+pub const VERSIONS: &[u8] = &[1, NEWEST];
 
 /// Where a superblock is: its block, and the size code in which blocks are counted.
 #[derive(Clone, Copy, Debug, PartialEq, Eq)]

@@ -147,6 +147,10 @@ impl OpenFile {
         self.0.addr()
     }
 
+    pub fn go_to(&mut self, position: u32) -> Result<(), Refusal> {
+        Ok(mfs::seek(&mut self.0, SeekFrom::Start(position))?)
+    }
+
     pub fn go_to_end(&mut self) -> Result<(), Refusal> {
         Ok(mfs::seek(&mut self.0, SeekFrom::End(0))?)
     }
@@ -181,6 +185,11 @@ impl<'a> Volume<'a> {
     /// Writes all of the bytes at the file's position, where it ends then.
     pub fn write(&mut self, file: &mut OpenFile, bytes: &[u8]) -> Result<usize, Refusal> {
         Ok(mfs::write(self.image, self.mount.k, self.mount.code.into(), &mut file.0, bytes, self.time, &mut self.work)?)
+    }
+
+    /// Puts all of the bytes over those that the file has at its position; what follows them stays.
+    pub fn patch(&mut self, file: &mut OpenFile, bytes: &[u8]) -> Result<usize, Refusal> {
+        Ok(mfs::patch(self.image, self.mount.k, self.mount.code.into(), &mut file.0, bytes, self.time, &mut self.work)?)
     }
 }
 

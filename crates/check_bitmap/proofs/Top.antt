@@ -32,7 +32,7 @@ unfolding versionAt codeAt
 mark-shown M I m =
     let k : ℕ = codeSize (M .code) * M .K in
     let letters : Shows I k signature = λ i h.
-        sym (getD-take 8 (drop k I) i 0 h ∙ getD-drop k I i 0) ∙ ap (λ (l : List ℕ). getD l i 0) (same-eq (take 8 (drop k I)) signature (m .letters)) in
+    sym (getD-take 8 (drop k I) i 0 h ∙ getD-drop k I i 0) ∙ ap (λ (l : List ℕ). getD l i 0) (same-eq (take 8 (drop k I)) signature (m .letters)) in
     shows-both I k signature (versionAt M I ∷ (M .code ∷ [])) letters (two k (m .code))
   where
     two : (k : ℕ) → getD I (k + 9) 0 ≡ M .code → Shows I (k + 8) (getD I (k + 8) 0 ∷ (M .code ∷ []))

@@ -12,7 +12,8 @@ use Rattle.read_dir.specs.declared.Found.{Found}
 
 -- f passes over an entry whose name has not n bytes or whose address is not a.
 abbrev pub Overlooks : ℕ → ℕ → (Walk → Found) → Type 0
-Overlooks n a f = (e : DirEntry) (b o : ℕ) (x : List ℕ) (w : Walk) → ((length x ≡ n) × (e .addr .0 ≡ a) → ⊥) → f (item e b o x w) ≡ f w
+Overlooks n a f = (e : DirEntry) (b o : ℕ) (x : List ℕ) (w : Walk) → ((length x ≡ n) × (e .addr .0 ≡ a) → ⊥)
+    → f (item e b o x w) ≡ f w
 
 -- Cursor d is past none but such entries.
 pub record PassedUnlike (A : Area) (I : List ℕ) (n a : ℕ) (c d : ReadDir) : Type 0 where

@@ -8,7 +8,7 @@ use Rattle.model.specs.Answers.{refused, reply, settle}
 use Rattle.model.proofs.Replies.{reply-suc, settle-suc}
 use Rattle.limits.specs.Refusals.{refusalNumber}
 use Rattle.limits.specs.declared.Refusal.{Refusal}
-use Rattle.limits.specs.declared.Refusal.the-variants.{BadImage, NotMfs, BadCount, BadPath, NotFound, WrongKind, Exists, BadName, NoRoom, TooLarge, Stale, BadSeek, EmptyWrite, NotEmpty, TooDeep, ShortWork, Damaged}
+use Rattle.limits.specs.declared.Refusal.the-variants.{BadImage, NotMfs, BadCount, BadPath, NotFound, WrongKind, Exists, BadName, NoRoom, TooLarge, Stale, BadSeek, EmptyWrite, NotEmpty, TooDeep, ShortWork, Damaged, PastEnd}
 
 pub number-some : (r : Refusal) → 1 ≤ refusalNumber r
 number-some BadImage = omega arith
@@ -28,6 +28,7 @@ number-some NotEmpty = omega arith
 number-some TooDeep = omega arith
 number-some ShortWork = omega arith
 number-some Damaged = omega arith
+number-some PastEnd = omega arith
 
 -- by the refusal
 pub reply-refused : {A : Type 0} {k : ℕ} (a : A) (r : Refusal) → k ≡ refusalNumber r → reply k a ≡ refused (refusalNumber r)
@@ -36,9 +37,9 @@ reply-refused {A} {k} a r e = rw e (reply-suc (refusalNumber r) a (number-some r
 pub settle-refused : {A : Type 0} {k : ℕ} (x y : A) (r : Refusal) → k ≡ refusalNumber r → settle k x y ≡ y
 settle-refused {A} {k} x y r e = rw e (settle-suc (refusalNumber r) x y (number-some r))
 
--- the refusals in the order of their numbers: each number is one refusal's
+-- the refusals in the order of their numbers, with another one in the place of 18: each number is one refusal's
 inOrder : List Refusal
-inOrder = BadImage ∷ NotMfs ∷ BadCount ∷ BadPath ∷ NotFound ∷ WrongKind ∷ Exists ∷ BadName ∷ NoRoom ∷ TooLarge ∷ Stale ∷ BadSeek ∷ EmptyWrite ∷ NotEmpty ∷ TooDeep ∷ ShortWork ∷ Damaged ∷ []
+inOrder = BadImage ∷ NotMfs ∷ BadCount ∷ BadPath ∷ NotFound ∷ WrongKind ∷ Exists ∷ BadName ∷ NoRoom ∷ TooLarge ∷ Stale ∷ BadSeek ∷ EmptyWrite ∷ NotEmpty ∷ TooDeep ∷ ShortWork ∷ Damaged ∷ Damaged ∷ PastEnd ∷ []
 
 back : ℕ → Refusal
 back k = getD inOrder (k - 1) Damaged
@@ -62,6 +63,7 @@ back-number NotEmpty = refl
 back-number TooDeep = refl
 back-number ShortWork = refl
 back-number Damaged = refl
+back-number PastEnd = refl
 
 pub number-one : (r q : Refusal) → refusalNumber r ≡ refusalNumber q → r ≡ q
 number-one r q e = sym (back-number r) ∙ ap back e ∙ back-number q

@@ -1,9 +1,9 @@
 -- The number of each refusal. Definitions alone.
 use Prim.Native.Nat.{ℕ}
 use Rattle.limits.specs.declared.Refusal.{Refusal}
-use Rattle.limits.specs.declared.Refusal.the-variants.{BadImage, NotMfs, BadCount, BadPath, NotFound, WrongKind, Exists, BadName, NoRoom, TooLarge, Stale, BadSeek, EmptyWrite, NotEmpty, TooDeep, ShortWork, Damaged}
+use Rattle.limits.specs.declared.Refusal.the-variants.{BadImage, NotMfs, BadCount, BadPath, NotFound, WrongKind, Exists, BadName, NoRoom, TooLarge, Stale, BadSeek, EmptyWrite, NotEmpty, TooDeep, ShortWork, Damaged, PastEnd}
 
--- Each refusal has the number of its rule: R1 is 1.
+-- Each refusal has the number of its rule: R1 is 1. (18 is no refusal's.)
 abbrev pub refusalNumber : Refusal → ℕ
 refusalNumber BadImage = 1
 refusalNumber NotMfs = 2
@@ -22,3 +22,4 @@ refusalNumber NotEmpty = 14
 refusalNumber TooDeep = 15
 refusalNumber ShortWork = 16
 refusalNumber Damaged = 17
+refusalNumber PastEnd = 19

@@ -69,6 +69,8 @@ pub enum Refusal {
     ShortWork,
     // 17; the number 18 is not used
     Damaged,
+    // 19: a patch would end past the file's size
+    PastEnd,
 }
 
 // The answer of a call that gives nothing back but a refusal.
@@ -100,6 +102,7 @@ impl Refusal {
             Refusal::TooDeep => 15,
             Refusal::ShortWork => 16,
             Refusal::Damaged => 17,
+            Refusal::PastEnd => 19,
         }
     }
 }

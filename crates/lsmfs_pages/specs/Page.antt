@@ -1,4 +1,5 @@
--- A page of the listing: the lines of the root's entries, as many as have their records in a buffer of cap bytes. Definitions alone.
+-- A page of the listing: the lines of the root's entries, as many as have their records in a buffer of cap bytes. Definitions
+-- alone.
 use mathlib.Core.Path.{_≡_}
 use mathlib.Core.List.{List, [], _++_}
 use Prim.Native.Nat.{ℕ, _≤_}
@@ -49,5 +50,6 @@ PageFits cap (listing.Records n j) = n ≤ cap
 PageFits cap (listing.Refused r) = Unit {0}
 
 abbrev pub Turned : Listing → List ℕ → List ℕ → List ℕ → Listing → Type 0
-Turned (listing.Records n j) rs buf out q = (out ≡ splice buf 0 (textOf (take n rs))) × (q ≡ listing.Records (length (textOf (take n rs))) j)
+Turned (listing.Records n j) rs buf out q = (out ≡ splice buf 0 (textOf (take n rs)))
+    × (q ≡ listing.Records (length (textOf (take n rs))) j)
 Turned (listing.Refused r) rs buf out q = (out ≡ buf) × (q ≡ listing.Refused r)

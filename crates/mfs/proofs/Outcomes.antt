@@ -30,6 +30,7 @@ use Rattle.call_volume.specs.Says.{says, onAnswer, IfRefused, Sizes, spaceSays}
 use Rattle.call_volume.specs.Format.{Formats, Uses}
 use Rattle.call_read.specs.Reading.{noHandle, noAbout, aboutOf, OpenIs, Opens, Informs, Counts, listSays, Lists, Reads}
 use Rattle.call_change.specs.Changing.{CreatesFile, CreatesDir, Deletes, Writes}
+use Rattle.call_patch.specs.Patches.{Patches}
 
 -- an answer with a value beside it, which is fixed where the answer is a refusal
 answer-one : {A : Type 0} (z : A) (a b : Answer) (x y : A) → onAnswer a x ≡ onAnswer b y → IfRefused a (x ≡ z) → IfRefused b (y ≡ z) → (a ≡ b) × (x ≡ y)
@@ -142,6 +143,14 @@ count-one (counted.Refused x) (counted.Refused y) e = let k : refusalNumber x �
 pub write-one : (M : Mount) (I W : List ℕ) (h : Handle) (buf : List ℕ) (time : ℕ) (r q : CountedOut) (J L Z Y : List ℕ)
     → Writes M I W h buf time r J Z → Writes M I W h buf time q L Y → (r ≡ q) × (J ≡ L) × (Z ≡ Y)
 write-one M I W h buf time r q J L Z Y a b =
+    let e : r .answer ≡ q .answer = count-one (r .answer) (q .answer) (a .answer ∙ sym (b .answer)) in
+    let f : r .handle ≡ q .handle = a .handle ∙ sym (b .handle) in
+    (λ i. record { answer = e i; handle = f i }, a .image ∙ sym (b .image), a .work ∙ sym (b .work))
+
+-- A patch: the same.
+pub patch-one : (M : Mount) (I W : List ℕ) (h : Handle) (buf : List ℕ) (time : ℕ) (r q : CountedOut) (J L Z Y : List ℕ)
+    → Patches M I W h buf time r J Z → Patches M I W h buf time q L Y → (r ≡ q) × (J ≡ L) × (Z ≡ Y)
+patch-one M I W h buf time r q J L Z Y a b =
     let e : r .answer ≡ q .answer = count-one (r .answer) (q .answer) (a .answer ∙ sym (b .answer)) in
     let f : r .handle ≡ q .handle = a .handle ∙ sym (b .handle) in
     (λ i. record { answer = e i; handle = f i }, a .image ∙ sym (b .image), a .work ∙ sym (b .work))

@@ -1,7 +1,8 @@
 // The public calls on an MFS volume. An image is a lent slice of blocks, k the block of its superblock, and code the code of the
 // block size; one that is not known is refused by 2 before the refusals that stand with each call.
 // No call requires anything: every image gets the one answer that the rules give it, and a refusal changes nothing.
-// Each call is one of call_volume, call_room, call_read or call_change under the name that callers know, with the same contract.
+// Each call is one of call_volume, call_room, call_read, call_change or call_patch under the name that callers know, with the
+// same contract.
 use call_read::InfoOut;
 use call_read::Listing;
 use call_read::OpenOut;
@@ -17,6 +18,7 @@ ghost use Rattle.call_read.specs.Reading.{Opens, Informs, Lists, Reads};
 ghost use Rattle.call_room.specs.Room.{Asks};
 ghost use Rattle.handle.specs.Post.{SoughtIs};
 ghost use Rattle.call_change.specs.Changing.{CreatesFile, CreatesDir, Deletes, Writes};
+ghost use Rattle.call_patch.specs.Patches.{Patches};
 ghost use Rattle.call_volume.specs.Checking.{Checks};
 ghost use Rattle.call_volume.specs.Format.{Formats, Uses};
 
@@ -41,8 +43,8 @@ pub fn room(img: &[u8], k: u32, code: u32, count: u32) -> RoomOut
     call_room::room(img, k, code, count)
 }
 
-// Whether the image is a well-formed volume, W1 to W5. One bit a block is marked in the work buffer, and is zero again afterwards.
-// Refusals: 1, 2, 3, 16, 17.
+// Whether the image is a well-formed volume, W1 to W5. One bit a block is marked in the work buffer, and is zero again
+// afterwards. Refusals: 1, 2, 3, 16, 17.
 pub fn check(img: &[u8], k: u32, code: u32, work: &mut [u8]) -> Answer
     ensures { λ r. ⌜ Checks (mount k code) (now (img .entry)) (now (work .entry)) r (now (work .exit)) ⌝ }
 {
@@ -73,7 +75,8 @@ pub fn list(
     i: u32,
     buf: &mut [u8],
 ) -> Listing
-    ensures { λ r. ⌜ Lists (mount k code) (now (img .entry)) (now (cwd .entry)) (now (path .entry)) i (now (buf .entry)) r (now (buf .exit)) ⌝ }
+    ensures { λ r. ⌜ Lists (mount k code) (now (img .entry)) (now (cwd .entry)) (now (path .entry)) i (now (buf .entry)) r
+        (now (buf .exit)) ⌝ }
 {
     call_read::list(img, k, code, cwd, path, i, buf)
 }
@@ -102,7 +105,8 @@ pub fn create_file(
     time: u64,
     work: &mut [u8],
 ) -> OpenOut
-    ensures { λ o. ⌜ CreatesFile (mount k code) (now (img .entry)) (now (work .entry)) (now (cwd .entry)) (now (path .entry)) time o (now (img .exit)) (now (work .exit)) ⌝ }
+    ensures { λ o. ⌜ CreatesFile (mount k code) (now (img .entry)) (now (work .entry)) (now (cwd .entry))
+        (now (path .entry)) time o (now (img .exit)) (now (work .exit)) ⌝ }
 {
     call_change::create_file(img, k, code, cwd, path, time, work)
 }
@@ -117,7 +121,8 @@ pub fn create_dir(
     time: u64,
     work: &mut [u8],
 ) -> Answer
-    ensures { λ r. ⌜ CreatesDir (mount k code) (now (img .entry)) (now (work .entry)) (now (cwd .entry)) (now (path .entry)) time r (now (img .exit)) (now (work .exit)) ⌝ }
+    ensures { λ r. ⌜ CreatesDir (mount k code) (now (img .entry)) (now (work .entry)) (now (cwd .entry))
+        (now (path .entry)) time r (now (img .exit)) (now (work .exit)) ⌝ }
 {
     call_change::create_dir(img, k, code, cwd, path, time, work)
 }
@@ -132,12 +137,14 @@ pub fn delete(
     time: u64,
     work: &mut [u8],
 ) -> Answer
-    ensures { λ r. ⌜ Deletes (mount k code) (now (img .entry)) (now (work .entry)) (now (cwd .entry)) (now (path .entry)) time r (now (img .exit)) (now (work .exit)) ⌝ }
+    ensures { λ r. ⌜ Deletes (mount k code) (now (img .entry)) (now (work .entry)) (now (cwd .entry)) (now (path .entry)) time r
+        (now (img .exit)) (now (work .exit)) ⌝ }
 {
     call_change::delete(img, k, code, cwd, path, time, work)
 }
 
-// Writes buf at the handle's position; the file ends there. Refusals: 1, 2, 3, 16, 17, 13, 11, 10, 9; a refused write hands back the very handle.
+// Writes buf at the handle's position; the file ends there. Refusals: 1, 2, 3, 16, 17, 13, 11, 10, 9; a refused write hands back
+// the very handle.
 pub fn write(
     img: &mut [u8],
     k: u32,
@@ -147,7 +154,25 @@ pub fn write(
     time: u64,
     work: &mut [u8],
 ) -> CountedOut
-    ensures { λ o. ⌜ Writes (mount k code) (now (img .entry)) (now (work .entry)) handle (now (buf .entry)) time o (now (img .exit)) (now (work .exit)) ⌝ }
+    ensures { λ o. ⌜ Writes (mount k code) (now (img .entry)) (now (work .entry)) handle (now (buf .entry)) time o
+        (now (img .exit)) (now (work .exit)) ⌝ }
 {
     call_change::write(img, k, code, handle, buf, time, work)
+}
+
+// Puts buf over the file's bytes from the handle's position on; the file keeps its size. Refusals: 1, 2, 3, 16, 17, 13, 11, 19; a
+// refused patch hands back the very handle.
+pub fn patch(
+    img: &mut [u8],
+    k: u32,
+    code: u32,
+    handle: Handle,
+    buf: &[u8],
+    time: u64,
+    work: &mut [u8],
+) -> CountedOut
+    ensures { λ o. ⌜ Patches (mount k code) (now (img .entry)) (now (work .entry)) handle (now (buf .entry)) time o
+        (now (img .exit)) (now (work .exit)) ⌝ }
+{
+    call_patch::patch(img, k, code, handle, buf, time, work)
 }

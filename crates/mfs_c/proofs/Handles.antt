@@ -15,8 +15,9 @@ use Rattle.handle.specs.Post.{MovedIs}
 use Rattle.file_read.specs.Post.{CountedIs}
 use Rattle.write.specs.Writing.{Target, handleAfter, countOf}
 use Rattle.write.specs.Written.{countedSays}
+use Rattle.patch.specs.Patching.{handleBehind}
 use Rattle.call_volume.specs.Says.{onAnswer, says}
-use Rattle.mfs_c.specs.Exports.{outOf, handleOf, numbersOf, HandleOut, OpensC, ReadsC, SeeksC, CreatesFileC, WritesC}
+use Rattle.mfs_c.specs.Exports.{outOf, handleOf, numbersOf, HandleOut, OpensC, ReadsC, SeeksC, CreatesFileC, WritesC, PatchesC}
 
 -- a handle is its four numbers, its name and the name's length
 back : (h : Handle) → handleOf (numbersOf h) (h .name) (h .len) ≡ h
@@ -73,3 +74,15 @@ module _ (ns x : List ℕ) (len : ℕ) where
   pub write-c-handle : (M : Mount) (I W buf : List ℕ) (time bytes c : ℕ) (J Z ns' : List ℕ) (bytes' : ℕ) (a : WritesC M I W ns x len buf time bytes c J Z ns' bytes')
       → handleOf ns' x len ≡ a .answer .handle
   write-c-handle M I W buf time bytes c J Z ns' bytes' a = write-back _ _ (a .answer .handle) ns' (a .answer .answer) (a .call .answer) (a .call .handle) (a .told .numbers)
+
+  patch-back : (k : ℕ) (t : Reply Target) (g : Handle) (ns' : List ℕ) (a : Counted)
+      → countedSays a ≡ countOf k t → g ≡ handleBehind (handleOf ns x len) k t → ns' ≡ outOf (countedSays a) (λ (n : ℕ). numbersOf g) ns → handleOf ns' x len ≡ g
+  unfolding countOf andThen
+  patch-back k (accepted t) g ns' (counted.Bytes j) s r e = parts g ns' x len e (ap (λ (h : Handle). h .name) r) (ap (λ (h : Handle). h .len) r)
+  patch-back k (accepted t) g ns' (counted.Refused y) s r e = let z : _≡_ {A = ℕ} 0 1 = cc in absurd (omega arith)
+  patch-back k (refused i) g ns' (counted.Bytes j) s r e = let z : _≡_ {A = ℕ} 0 1 = cc in absurd (omega arith)
+  patch-back k (refused i) g ns' (counted.Refused y) s r e = ap (λ (z : List ℕ). handleOf z x len) e ∙ sym r
+
+  pub patch-c-handle : (M : Mount) (I W buf : List ℕ) (time bytes c : ℕ) (J Z ns' : List ℕ) (bytes' : ℕ) (a : PatchesC M I W ns x len buf time bytes c J Z ns' bytes')
+      → handleOf ns' x len ≡ a .answer .handle
+  patch-c-handle M I W buf time bytes c J Z ns' bytes' a = patch-back _ _ (a .answer .handle) ns' (a .answer .answer) (a .call .answer) (a .call .handle) (a .told .numbers)

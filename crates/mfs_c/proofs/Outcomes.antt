@@ -16,9 +16,9 @@ use Rattle.call_room.specs.Room.{roomSays}
 use Rattle.call_room.proofs.Means.{room-one}
 use Rattle.call_volume.specs.Says.{says, Sizes, spaceSays}
 use Rattle.call_read.specs.Reading.{About, Counts, openSays, infoSays, listSays}
-use Rattle.mfs.proofs.Outcomes.{format-one, usage-one, open-one, info-one, list-one, read-one, seek-one, create-file-one, create-dir-one, delete-one, write-one}
+use Rattle.mfs.proofs.Outcomes.{format-one, usage-one, open-one, info-one, list-one, read-one, seek-one, create-file-one, create-dir-one, delete-one, write-one, patch-one}
 use Rattle.call_volume.proofs.Checked.{check-one}
-use Rattle.mfs_c.specs.Exports.{told, outOf, numbersOf, FormatsC, UsesC, AsksC, ChecksC, HandleOut, OpensC, InformsC, ListsC, CountOut, ReadsC, SeeksC, CreatesFileC, CreatesDirC, DeletesC, WritesC}
+use Rattle.mfs_c.specs.Exports.{told, outOf, numbersOf, FormatsC, UsesC, AsksC, ChecksC, HandleOut, OpensC, InformsC, ListsC, CountOut, ReadsC, SeeksC, CreatesFileC, CreatesDirC, DeletesC, WritesC, PatchesC}
 
 -- ---- one answer is told in one way
 
@@ -160,6 +160,16 @@ pub write-c-one : (M : Mount) (I W ns x : List ℕ) (len : ℕ) (buf : List ℕ)
     → (c ≡ d) × (J ≡ L) × (Z ≡ Y) × (ns' ≡ ns2) × (bytes' ≡ bytes2)
 write-c-one M I W ns x len buf time bytes c d J L Z Y ns' ns2 bytes' bytes2 a b =
     let one = write-one M I W _ buf time (a .answer) (b .answer) J L Z Y (a .call) (b .call) in
+    let says = ap (λ (o : CountedOut). countedSays (o .answer)) (one .0) in
+    let e = count-out-one _ _ _ _ ns bytes c d ns' ns2 bytes' bytes2 says (ap (λ (o : CountedOut). o .handle) (one .0)) (a .told) (b .told) in
+    (e .0, one .1, one .2, e .1, e .2)
+
+pub patch-c-one : (M : Mount) (I W ns x : List ℕ) (len : ℕ) (buf : List ℕ) (time bytes c d : ℕ) (J L Z Y ns' ns2 : List ℕ) (bytes' bytes2 : ℕ)
+    → PatchesC M I W ns x len buf time bytes c J Z ns' bytes'
+    → PatchesC M I W ns x len buf time bytes d L Y ns2 bytes2
+    → (c ≡ d) × (J ≡ L) × (Z ≡ Y) × (ns' ≡ ns2) × (bytes' ≡ bytes2)
+patch-c-one M I W ns x len buf time bytes c d J L Z Y ns' ns2 bytes' bytes2 a b =
+    let one = patch-one M I W _ buf time (a .answer) (b .answer) J L Z Y (a .call) (b .call) in
     let says = ap (λ (o : CountedOut). countedSays (o .answer)) (one .0) in
     let e = count-out-one _ _ _ _ ns bytes c d ns' ns2 bytes' bytes2 says (ap (λ (o : CountedOut). o .handle) (one .0)) (a .told) (b .told) in
     (e .0, one .1, one .2, e .1, e .2)

@@ -27,7 +27,8 @@ use Rattle.call_volume.specs.Says.{says, onAnswer, Sizes, spaceSays}
 use Rattle.call_volume.specs.Format.{Formats}
 use Rattle.call_read.specs.Reading.{About, Counts, infoSays, listSays, ListIs}
 use Rattle.thm_calls.proofs.Changing.{create-file-kept, create-dir-kept, delete-kept, write-kept}
-use Rattle.mfs_c.specs.Exports.{told, outOf, numbersOf, FormatsC, UsesC, AsksC, HandleOut, OpensC, InformsC, ListsC, CountOut, ReadsC, SeeksC, CreatesFileC, CreatesDirC, DeletesC, WritesC}
+use Rattle.thm_calls.proofs.Patching.{patch-kept}
+use Rattle.mfs_c.specs.Exports.{told, outOf, numbersOf, FormatsC, UsesC, AsksC, HandleOut, OpensC, InformsC, ListsC, CountOut, ReadsC, SeeksC, CreatesFileC, CreatesDirC, DeletesC, WritesC, PatchesC}
 
 -- ---- a number that is not 0 tells a refusal, and 0 tells none
 
@@ -169,3 +170,11 @@ write-c-kept M I W ns x len buf time bytes c J Z ns' bytes' a n =
     let r = counts (o .answer) c (a .told .code) n in
     let k = count-out-kept _ _ ns bytes c ns' bytes' (a .told) n in
     (write-kept M I W _ buf time o J Z (a .call) (r .0) (r .1) .0, k .0, k .1)
+
+pub patch-c-kept : (M : Mount) (I W ns x : List ℕ) (len : ℕ) (buf : List ℕ) (time bytes c : ℕ) (J Z ns' : List ℕ) (bytes' : ℕ)
+    → PatchesC M I W ns x len buf time bytes c J Z ns' bytes' → (c ≡ 0 → ⊥) → (J ≡ I) × (ns' ≡ ns) × (bytes' ≡ bytes)
+patch-c-kept M I W ns x len buf time bytes c J Z ns' bytes' a n =
+    let o = a .answer in
+    let r = counts (o .answer) c (a .told .code) n in
+    let k = count-out-kept _ _ ns bytes c ns' bytes' (a .told) n in
+    (patch-kept M I W _ buf time o J Z (a .call) (r .0) (r .1) .0, k .0, k .1)

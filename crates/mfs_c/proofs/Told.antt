@@ -37,7 +37,8 @@ use Rattle.call_volume.specs.Says.{says}
 use Rattle.call_volume.specs.Format.{Uses}
 use Rattle.call_read.specs.Reading.{openSays, Informs, Lists, Reads}
 use Rattle.call_change.specs.Changing.{Writes}
-use Rattle.mfs_c.specs.Exports.{told, handleOf, numbersOf, UsesC, AsksC, HandleOut, InformsC, ListsC, CountOut, ReadsC, SeeksC, WritesC}
+use Rattle.call_patch.specs.Patches.{Patches}
+use Rattle.mfs_c.specs.Exports.{told, handleOf, numbersOf, UsesC, AsksC, HandleOut, InformsC, ListsC, CountOut, ReadsC, SeeksC, WritesC, PatchesC}
 
 -- a plain answer that is refused
 pub code-refused : (a : Answer) (r : Refusal) (c : ℕ) → a ≡ answer.Refused r → c ≡ refusalNumber r → c ≡ told (says a)
@@ -124,6 +125,10 @@ module _ (ns x : List ℕ) (len : ℕ) (h : Handle) (made : h ≡ handleOf ns x 
   pub writes-c : (M : Mount) (I W buf : List ℕ) (time bytes : ℕ) (o : CountedOut) (c : ℕ) (J Z ms : List ℕ) (b : ℕ)
       → Writes M I W h buf time o J Z → CountOut (countedSays (o .answer)) (o .handle) ns bytes c ms b → WritesC M I W ns x len buf time bytes c J Z ms b
   writes-c M I W buf time bytes o c J Z ms b call given = record { answer = o; call = rw made at call; told = given }
+
+  pub patches-c : (M : Mount) (I W buf : List ℕ) (time bytes : ℕ) (o : CountedOut) (c : ℕ) (J Z ms : List ℕ) (b : ℕ)
+      → Patches M I W h buf time o J Z → CountOut (countedSays (o .answer)) (o .handle) ns bytes c ms b → PatchesC M I W ns x len buf time bytes c J Z ms b
+  patches-c M I W buf time bytes o c J Z ms b call given = record { answer = o; call = rw made at call; told = given }
 
   module _ (from : SeekFrom) (o : Sought) (call : SoughtIs h from o) where
     pub seek-refused : (r : Refusal) (c : ℕ) → o .answer ≡ answer.Refused r → c ≡ refusalNumber r → SeeksC ns x len from c ns

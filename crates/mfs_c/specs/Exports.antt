@@ -27,6 +27,7 @@ use Rattle.call_volume.specs.Format.{Formats, Uses}
 use Rattle.call_read.specs.Reading.{About, Counts, openSays, Opens, infoSays, Informs, listSays, Lists, Reads}
 use Rattle.call_volume.specs.Checking.{Checks}
 use Rattle.call_change.specs.Changing.{CreatesFile, CreatesDir, Deletes, Writes}
+use Rattle.call_patch.specs.Patches.{Patches}
 
 -- C17: the version of the exports: names, parameters and what these mean. It goes up by one where a program that was compiled
 -- against the exports as they were could no longer call them as they are.
@@ -49,7 +50,15 @@ outOf (refused k) f old = old
 -- file, size, position, and a name of len bytes in an array of 255.
 abbrev pub handleOf : List ℕ → List ℕ → ℕ → Handle
 handleOf ns x len =
-    record { dir = record { 0 = getD ns 0 0 }; name = x; len = len; addr = record { 0 = getD ns 1 0 }; size = getD ns 2 0; position = getD ns 3 0 }
+    record {
+      dir = record { 0 = getD ns 0 0 };
+      name = x;
+      len = len;
+      addr = record { 0 = getD ns 1 0 };
+      size
+          = getD ns 2 0;
+      position = getD ns 3 0;
+    }
 
 abbrev pub numbersOf : Handle → List ℕ
 numbersOf h = h .dir .0 ∷ (h .addr .0 ∷ (h .size ∷ (h .position ∷ [])))
@@ -94,7 +103,8 @@ pub record OpensC (M : Mount) (I cwd p ns x : List ℕ) (len c : ℕ) (ns' x' : 
   pub call : Opens M I cwd p answer
   pub out : HandleOut (openSays answer) ns x len c ns' x' len'
 
-pub record InformsC (M : Mount) (I cwd p : List ℕ) (kind size time : ℕ) (x : List ℕ) (len c kind' size' time' : ℕ) (x' : List ℕ) (len' : ℕ) : Type 0 where
+pub record InformsC (M : Mount) (I cwd p : List ℕ) (kind size time : ℕ) (x : List ℕ) (len c kind' size' time' : ℕ) (x' : List ℕ)
+    (len' : ℕ) : Type 0 where
   pub answer : InfoOut
   pub call : Informs M I cwd p answer
   pub code : c ≡ told (infoSays answer)
@@ -104,7 +114,8 @@ pub record InformsC (M : Mount) (I cwd p : List ℕ) (kind size time : ℕ) (x :
   pub name : x' ≡ outOf (infoSays answer) (λ (a : About). a .name) x
   pub long : len' ≡ outOf (infoSays answer) (λ (a : About). a .len) len
 
-pub record ListsC (M : Mount) (I cwd p : List ℕ) (i : ℕ) (buf : List ℕ) (bytes next c : ℕ) (out : List ℕ) (bytes' next' : ℕ) : Type 0 where
+pub record ListsC (M : Mount) (I cwd p : List ℕ) (i : ℕ) (buf : List ℕ) (bytes next c : ℕ) (out : List ℕ)
+    (bytes' next' : ℕ) : Type 0 where
   pub answer : Listing
   pub call : Lists M I cwd p i buf answer out
   pub code : c ≡ told (listSays answer)
@@ -117,7 +128,8 @@ pub record CountOut (r : Reply ℕ) (h : Handle) (ns : List ℕ) (bytes c : ℕ)
   pub numbers : ns' ≡ outOf r (λ (n : ℕ). numbersOf h) ns
   pub counts : bytes' ≡ outOf r (λ (n : ℕ). n) bytes
 
-pub record ReadsC (M : Mount) (I ns x : List ℕ) (len : ℕ) (buf : List ℕ) (bytes c : ℕ) (ns' out : List ℕ) (bytes' : ℕ) : Type 0 where
+pub record ReadsC (M : Mount) (I ns x : List ℕ) (len : ℕ) (buf : List ℕ) (bytes c : ℕ) (ns' out : List ℕ)
+    (bytes' : ℕ) : Type 0 where
   pub answer : CountedOut
   pub call : Reads M I (handleOf ns x len) buf out answer
   pub told : CountOut (countedSays (answer .answer)) (answer .handle) ns bytes c ns' bytes'
@@ -128,7 +140,8 @@ pub record SeeksC (ns x : List ℕ) (len : ℕ) (from : SeekFrom) (c : ℕ) (ns'
   pub code : c ≡ told (says (answer .answer))
   pub numbers : ns' ≡ outOf (says (answer .answer)) (λ (u : Unit {0}). numbersOf (answer .handle)) ns
 
-pub record CreatesFileC (M : Mount) (I W cwd p : List ℕ) (time : ℕ) (ns x : List ℕ) (len c : ℕ) (J Z ns' x' : List ℕ) (len' : ℕ) : Type 0 where
+pub record CreatesFileC (M : Mount) (I W cwd p : List ℕ) (time : ℕ) (ns x : List ℕ) (len c : ℕ) (J Z ns' x' : List ℕ)
+    (len' : ℕ) : Type 0 where
   pub answer : OpenOut
   pub call : CreatesFile M I W cwd p time answer J Z
   pub out : HandleOut (openSays answer) ns x len c ns' x' len'
@@ -143,7 +156,15 @@ pub record DeletesC (M : Mount) (I W cwd p : List ℕ) (time c : ℕ) (J Z : Lis
   pub call : Deletes M I W cwd p time answer J Z
   pub code : c ≡ told (says answer)
 
-pub record WritesC (M : Mount) (I W ns x : List ℕ) (len : ℕ) (buf : List ℕ) (time bytes c : ℕ) (J Z ns' : List ℕ) (bytes' : ℕ) : Type 0 where
+pub record WritesC (M : Mount) (I W ns x : List ℕ) (len : ℕ) (buf : List ℕ) (time bytes c : ℕ) (J Z ns' : List ℕ)
+    (bytes' : ℕ) : Type 0 where
   pub answer : CountedOut
   pub call : Writes M I W (handleOf ns x len) buf time answer J Z
+  pub told : CountOut (countedSays (answer .answer)) (answer .handle) ns bytes c ns' bytes'
+
+-- C19
+pub record PatchesC (M : Mount) (I W ns x : List ℕ) (len : ℕ) (buf : List ℕ) (time bytes c : ℕ) (J Z ns' : List ℕ)
+    (bytes' : ℕ) : Type 0 where
+  pub answer : CountedOut
+  pub call : Patches M I W (handleOf ns x len) buf time answer J Z
   pub told : CountOut (countedSays (answer .answer)) (answer .handle) ns bytes c ns' bytes'

@@ -19,7 +19,7 @@ ghost use Rattle.handle.specs.declared.SeekFrom.the-variants as from;
 ghost use Rattle.write.specs.Written.{countedSays};
 ghost use Rattle.call_volume.specs.Says.{says};
 ghost use Rattle.call_read.specs.Reading.{openSays};
-ghost use Rattle.mfs_c.specs.Exports.{abiVersion, told, handleOf, numbersOf, FormatsC, UsesC, ChecksC, HandleOut, OpensC, InformsC, ListsC, CountOut, ReadsC, SeeksC, CreatesFileC, CreatesDirC, DeletesC, WritesC, AsksC};
+ghost use Rattle.mfs_c.specs.Exports.{abiVersion, told, handleOf, numbersOf, FormatsC, UsesC, ChecksC, HandleOut, OpensC, InformsC, ListsC, CountOut, ReadsC, SeeksC, CreatesFileC, CreatesDirC, DeletesC, WritesC, PatchesC, AsksC};
 
 // The version of these exports, for callers that were compiled against another one to find out.
 #[no_mangle]
@@ -71,7 +71,8 @@ fn numbers_of(h: Handle) -> [u32; 4]
 
 // Hands over the handle of an open or a create: its numbers, its name and the name's length; nothing where the call is refused.
 fn give_handle(out: OpenOut, number: &mut [u32; 4], name: &mut [u8; 255], len: &mut usize) -> u32
-    ensures { λ c. ⌜ HandleOut (openSays out) (now (number .entry)) (now (name .entry)) (now (len .entry)) c (now (number .exit)) (now (name .exit)) (now (len .exit)) ⌝ }
+    ensures { λ c. ⌜ HandleOut (openSays out) (now (number .entry)) (now (name .entry)) (now (len .entry)) c (now (number .exit))
+        (now (name .exit)) (now (len .exit)) ⌝ }
 {
     let answer = out.answer;
     match answer {
@@ -89,7 +90,8 @@ fn give_handle(out: OpenOut, number: &mut [u32; 4], name: &mut [u8; 255], len: &
 
 // Hands over the byte count and the moved handle's numbers; nothing where the call is refused.
 fn give_count(answer: Counted, h: Handle, number: &mut [u32; 4], bytes: &mut usize) -> u32
-    ensures { λ c. ⌜ CountOut (countedSays answer) h (now (number .entry)) (now (bytes .entry)) c (now (number .exit)) (now (bytes .exit)) ⌝ }
+    ensures { λ c. ⌜ CountOut (countedSays answer) h (now (number .entry)) (now (bytes .entry)) c (now (number .exit))
+        (now (bytes .exit)) ⌝ }
 {
     match answer {
         Counted::Refused(r) => refusal(r),
@@ -119,7 +121,8 @@ pub extern "C" fn mfs_c_usage(
     used: &mut u64,
     free: &mut u64,
 ) -> u32
-    ensures { λ c. ⌜ UsesC (mount k code) (now (img .entry)) (now (size .entry)) (now (used .entry)) (now (free .entry)) c (now (size .exit)) (now (used .exit)) (now (free .exit)) ⌝ }
+    ensures { λ c. ⌜ UsesC (mount k code) (now (img .entry)) (now (size .entry)) (now (used .entry)) (now (free .entry)) c
+        (now (size .exit)) (now (used .exit)) (now (free .exit)) ⌝ }
 {
     let space = mfs::usage(img, k, code);
     match space {
@@ -154,7 +157,8 @@ pub extern "C" fn mfs_c_room(
     enough: &mut u32,
     bytes: &mut u32,
 ) -> u32
-    ensures { λ c. ⌜ AsksC (mount k code) (now (img .entry)) count (now (enough .entry)) (now (bytes .entry)) c (now (enough .exit)) (now (bytes .exit)) ⌝ }
+    ensures { λ c. ⌜ AsksC (mount k code) (now (img .entry)) count (now (enough .entry)) (now (bytes .entry)) c
+        (now (enough .exit)) (now (bytes .exit)) ⌝ }
 {
     let known = mfs::room(img, k, code, count);
     match known {
@@ -187,7 +191,8 @@ pub extern "C" fn mfs_c_open(
     name: &mut [u8; 255],
     len: &mut usize,
 ) -> u32
-    ensures { λ c. ⌜ OpensC (mount k code) (now (img .entry)) (now (cwd .entry)) (now (path .entry)) (now (number .entry)) (now (name .entry)) (now (len .entry)) c (now (number .exit)) (now (name .exit)) (now (len .exit)) ⌝ }
+    ensures { λ c. ⌜ OpensC (mount k code) (now (img .entry)) (now (cwd .entry)) (now (path .entry)) (now (number .entry))
+        (now (name .entry)) (now (len .entry)) c (now (number .exit)) (now (name .exit)) (now (len .exit)) ⌝ }
 {
     give_handle(mfs::open(img, k, code, cwd, path), number, name, len)
 }
@@ -206,7 +211,9 @@ pub extern "C" fn mfs_c_info(
     name: &mut [u8; 255],
     len: &mut usize,
 ) -> u32
-    ensures { λ c. ⌜ InformsC (mount k code) (now (img .entry)) (now (cwd .entry)) (now (path .entry)) (now (kind .entry)) (now (size .entry)) (now (time .entry)) (now (name .entry)) (now (len .entry)) c (now (kind .exit)) (now (size .exit)) (now (time .exit)) (now (name .exit)) (now (len .exit)) ⌝ }
+    ensures { λ c. ⌜ InformsC (mount k code) (now (img .entry)) (now (cwd .entry)) (now (path .entry)) (now (kind .entry))
+        (now (size .entry)) (now (time .entry)) (now (name .entry)) (now (len .entry)) c (now (kind .exit)) (now (size .exit))
+        (now (time .exit)) (now (name .exit)) (now (len .exit)) ⌝ }
 {
     let out = mfs::info(img, k, code, cwd, path);
     let answer = out.answer;
@@ -238,7 +245,8 @@ pub extern "C" fn mfs_c_list(
     bytes: &mut usize,
     next: &mut u32,
 ) -> u32
-    ensures { λ c. ⌜ ListsC (mount k code) (now (img .entry)) (now (cwd .entry)) (now (path .entry)) i (now (buf .entry)) (now (bytes .entry)) (now (next .entry)) c (now (buf .exit)) (now (bytes .exit)) (now (next .exit)) ⌝ }
+    ensures { λ c. ⌜ ListsC (mount k code) (now (img .entry)) (now (cwd .entry)) (now (path .entry)) i (now (buf .entry))
+        (now (bytes .entry)) (now (next .entry)) c (now (buf .exit)) (now (bytes .exit)) (now (next .exit)) ⌝ }
 {
     let listed = mfs::list(img, k, code, cwd, path, i, buf);
     match listed {
@@ -263,7 +271,8 @@ pub extern "C" fn mfs_c_read(
     buf: &mut [u8],
     bytes: &mut usize,
 ) -> u32
-    ensures { λ c. ⌜ ReadsC (mount k code) (now (img .entry)) (now (number .entry)) (now (name .entry)) len (now (buf .entry)) (now (bytes .entry)) c (now (number .exit)) (now (buf .exit)) (now (bytes .exit)) ⌝ }
+    ensures { λ c. ⌜ ReadsC (mount k code) (now (img .entry)) (now (number .entry)) (now (name .entry)) len (now (buf .entry))
+        (now (bytes .entry)) c (now (number .exit)) (now (buf .exit)) (now (bytes .exit)) ⌝ }
 {
     let given = handle_of(number, name, len);
     let out = mfs::read(img, k, code, given, buf);
@@ -342,7 +351,9 @@ pub extern "C" fn mfs_c_create_file(
     name: &mut [u8; 255],
     len: &mut usize,
 ) -> u32
-    ensures { λ c. ⌜ CreatesFileC (mount k code) (now (img .entry)) (now (work .entry)) (now (cwd .entry)) (now (path .entry)) time (now (number .entry)) (now (name .entry)) (now (len .entry)) c (now (img .exit)) (now (work .exit)) (now (number .exit)) (now (name .exit)) (now (len .exit)) ⌝ }
+    ensures { λ c. ⌜ CreatesFileC (mount k code) (now (img .entry)) (now (work .entry)) (now (cwd .entry))
+        (now (path .entry)) time (now (number .entry)) (now (name .entry)) (now (len .entry)) c (now (img .exit))
+        (now (work .exit)) (now (number .exit)) (now (name .exit)) (now (len .exit)) ⌝ }
 {
     give_handle(
         mfs::create_file(img, k, code, cwd, path, time, work),
@@ -363,7 +374,8 @@ pub extern "C" fn mfs_c_create_dir(
     time: u64,
     work: &mut [u8],
 ) -> u32
-    ensures { λ c. ⌜ CreatesDirC (mount k code) (now (img .entry)) (now (work .entry)) (now (cwd .entry)) (now (path .entry)) time c (now (img .exit)) (now (work .exit)) ⌝ }
+    ensures { λ c. ⌜ CreatesDirC (mount k code) (now (img .entry)) (now (work .entry)) (now (cwd .entry))
+        (now (path .entry)) time c (now (img .exit)) (now (work .exit)) ⌝ }
 {
     answer_of(mfs::create_dir(img, k, code, cwd, path, time, work))
 }
@@ -379,7 +391,8 @@ pub extern "C" fn mfs_c_delete(
     time: u64,
     work: &mut [u8],
 ) -> u32
-    ensures { λ c. ⌜ DeletesC (mount k code) (now (img .entry)) (now (work .entry)) (now (cwd .entry)) (now (path .entry)) time c (now (img .exit)) (now (work .exit)) ⌝ }
+    ensures { λ c. ⌜ DeletesC (mount k code) (now (img .entry)) (now (work .entry)) (now (cwd .entry)) (now (path .entry)) time c
+        (now (img .exit)) (now (work .exit)) ⌝ }
 {
     answer_of(mfs::delete(img, k, code, cwd, path, time, work))
 }
@@ -398,11 +411,38 @@ pub extern "C" fn mfs_c_write(
     work: &mut [u8],
     bytes: &mut usize,
 ) -> u32
-    ensures { λ c. ⌜ WritesC (mount k code) (now (img .entry)) (now (work .entry)) (now (number .entry)) (now (name .entry)) len (now (buf .entry)) time (now (bytes .entry)) c (now (img .exit)) (now (work .exit)) (now (number .exit)) (now (bytes .exit)) ⌝ }
+    ensures { λ c. ⌜ WritesC (mount k code) (now (img .entry)) (now (work .entry)) (now (number .entry)) (now (name .entry)) len
+        (now (buf .entry)) time (now (bytes .entry)) c (now (img .exit)) (now (work .exit)) (now (number .exit))
+        (now (bytes .exit)) ⌝ }
 {
     let given = handle_of(number, name, len);
     let out = mfs::write(img, k, code, given, buf, time, work);
     let answer = out.answer;
     let grown = out.handle;
     give_count(answer, grown, number, bytes)
+}
+
+// Puts buf over the file's bytes from the handle's position on; the file keeps its size. Refusals: 1, 2, 3, 16, 17, 13, 11, 19.
+#[no_mangle]
+pub extern "C" fn mfs_c_patch(
+    img: &mut [u8],
+    k: u32,
+    code: u32,
+    number: &mut [u32; 4],
+    name: &[u8; 255],
+    len: usize,
+    buf: &[u8],
+    time: u64,
+    work: &mut [u8],
+    bytes: &mut usize,
+) -> u32
+    ensures { λ c. ⌜ PatchesC (mount k code) (now (img .entry)) (now (work .entry)) (now (number .entry)) (now (name .entry)) len
+        (now (buf .entry)) time (now (bytes .entry)) c (now (img .exit)) (now (work .exit)) (now (number .exit))
+        (now (bytes .exit)) ⌝ }
+{
+    let given = handle_of(number, name, len);
+    let out = mfs::patch(img, k, code, given, buf, time, work);
+    let answer = out.answer;
+    let patched = out.handle;
+    give_count(answer, patched, number, bytes)
 }

@@ -150,6 +150,12 @@ refiled now s cs n k (sub x) = record { name = n; time = k; node = sub x }
 unfoldable pub rewritten : (d : ℕ) → List Name → Name → ℕ → ℕ → List Cell → Tree d → Tree d
 rewritten d p n now s cs t = edit d p (λ k. k) (λ e bs. change n (λ x. refiled now s cs (x .name) (x .time) (x .node)) bs) t
 
+-- ---- patch
+
+-- C19: the chain after a patch of buf at c: the same blocks, and the buffer over their bytes from c on.
+unfoldable pub overlaid : ℕ → ℕ → List ℕ → List Cell → List Cell
+overlaid B c buf cs = chop (B - 4) (places cs) (splice (stream cs) c buf)
+
 -- ---- the image around the tree
 
 -- Block b is neither superblock nor bitmap nor reached.
@@ -206,3 +212,15 @@ pub record TreeWrites (g : Geo) (d : ℕ) (p : List Name) (n : Name) (now c : �
   pub limit : c + length buf ≤ fileLimit
   pub room : blocksFor (blockSize g) (c + length buf) - length cells ≤ length (freeBlocks g d t)
   pub makes : Makes g d t (rewritten d p n now (c + length buf) (rewrite (blockSize g) (freeBlocks g d t) c buf cells) t) I J
+
+-- C19, S6: patch: not 13, 11 (the file is there), 19 (the buffer ends in it). It keeps its size, and so its chain.
+pub record TreePatches (g : Geo) (d : ℕ) (p : List Name) (n : Name) (now c : ℕ) (buf : List ℕ) (t : Tree d)
+    (I J : List ℕ) : Type 0 where
+  pub size : ℕ
+  pub time : ℕ
+  pub cells : List Cell
+  pub occupied : Occupied d p n t
+  pub is-file : occupied .entry ≡ fileEntry n time size cells
+  pub some-bytes : 1 ≤ length buf
+  pub inside : c + length buf ≤ size
+  pub makes : Makes g d t (rewritten d p n now size (overlaid (blockSize g) c buf cells) t) I J

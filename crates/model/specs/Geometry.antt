@@ -67,8 +67,8 @@ mapBlocks g = pick (eqb (g .version) 1) (rest g / (mapSize g + 1)) ((rest g + ma
 unfoldable pub dataAt : Geo → ℕ
 dataAt g = mapAt g + mapBlocks g
 
--- F4: how many indexes allocation looks at. The second number is rounded down, so the last blocks may be out of reach; the third is
--- the bits that there are.
+-- F4: how many indexes allocation looks at. The second number is rounded down, so the last blocks may be out of reach; the third
+-- is the bits that there are.
 unfoldable pub reach : Geo → ℕ
 reach g = min (min (g .n - dataAt g) (mapSize g * (g .n / mapSize g))) (mapSize g * mapBlocks g)
 
@@ -137,8 +137,8 @@ pub record Sound (g : Geo) (len : ℕ) : Type 0 where
   pub known : Known g
   pub whole : len % blockSize g ≡ 0
   pub limit : len ≤ imageLimit
-  -- W1: what is asked of n. (Version 1 rounds b down, so it needs the blocks of one bitmap block; where version 2 has N mod 4097 = 1
-  -- a bitmap block would have no block to speak of.)
+  -- W1: what is asked of n. (Version 1 rounds b down, so it needs the blocks of one bitmap block; where version 2 has N mod 4097
+  -- = 1 a bitmap block would have no block to speak of.)
   pub inside-image : g .n * blockSize g ≤ len
   pub room : 2 ≤ rest g
   pub one-map : g .version ≡ 1 → mapSize g + 1 ≤ rest g

@@ -2,6 +2,7 @@
 use Rattle.promises.specs.Exact.{CallsAreExact}
 use Rattle.thm_calls.proofs.Changing.{create-file-before, create-file-tree, create-dir-before, create-dir-tree}
 use Rattle.thm_calls.proofs.Changing.{delete-before, delete-tree, write-before, write-tree}
+use Rattle.thm_calls.proofs.Patching.{patch-before, patch-tree}
 use Rattle.promises.proofs.Answered.{value-said, success-said, count-said}
 
 pub calls-are-exact : CallsAreExact
@@ -24,4 +25,9 @@ calls-are-exact =
           let w = write-before M I W h buf now o J Z c k b e in
           let m = write-tree M I W h buf now o J Z c k w clock e in
           (w, m .0, m .1, m .2);
+      patch = λ M I W h buf now o J Z c b clock k s.
+          let e = count-said (o .answer) k s in
+          let w = patch-before M I W h buf now o J Z c k b e in
+          let n = patch-tree M I W h buf now o J Z c k w clock e in
+          (w, n .0, n .1, n .2);
     }

@@ -32,19 +32,19 @@ use Rattle.promises.proofs.UsedMoves.{used-moves}
 same-some : {A : Type 0} (a b : A) → some a ≡ some b → a ≡ b
 same-some a b e = cc
 
-path-one : (M : Mount) (I : List ℕ) (w : WellFormed M I) (a : ℕ) (p q : List Name) → DirAt maxDepth a p (w .tree)
+pub path-one : (M : Mount) (I : List ℕ) (w : WellFormed M I) (a : ℕ) (p q : List Name) → DirAt maxDepth a p (w .tree)
     → DirAt maxDepth a q (w .tree) → p ≡ q
 path-one M I w a p q r s =
     let l = volume-at M I w .laid in
     same-some p q (sym (path-is (geoAt M I) I maxDepth (w .tree) _ a p l r) ∙ path-is (geoAt M I) I maxDepth (w .tree) _ a q l s)
 
 -- its path, its size, its blocks
-record OneFile (p q : List Name) (z y : ℕ) (cs ds : List Cell) : Type 0 where
-  path : p ≡ q
-  size : z ≡ y
-  cells : cs ≡ ds
+pub record OneFile (p q : List Name) (z y : ℕ) (cs ds : List Cell) : Type 0 where
+  pub path : p ≡ q
+  pub size : z ≡ y
+  pub cells : cs ≡ ds
 
-file-one : (M : Mount) (I : List ℕ) (w : WellFormed M I) (h : Handle) (f g : FileOf h (w .tree))
+pub file-one : (M : Mount) (I : List ℕ) (w : WellFormed M I) (h : Handle) (f g : FileOf h (w .tree))
     → OneFile (f .path) (g .path) (f .size) (g .size) (f .cells) (g .cells)
 file-one M I w h f g =
     let p : f .path ≡ g .path = path-one M I w (h .dir .0) (f .path) (g .path) (f .there) (g .there) in

@@ -61,11 +61,11 @@ one-dir : (s r : Some) → some s ≡ some r → s ≡ r
 one-dir s r e = cc
 
 module _ (g : Geo) (I : List ℕ) (t : Tree maxDepth) (v : Volume g I maxDepth t) (h : Handle) where
-  abbrev Numbered : Type 0
+  abbrev pub Numbered : Type 0
   Numbered = (OnFile maxDepth t h × (staleBy h (fileBy h t) ≡ 0)) ⊎ (Lost maxDepth t h × (staleBy h (fileBy h t) ≡ 11))
 
   -- a handle whose directory has its file
-  in-file : (q : List Name) (s : DirAt maxDepth (h .dir .0) q t) (f : FileIn h (s .dir))
+  pub in-file : (q : List Name) (s : DirAt maxDepth (h .dir .0) q t) (f : FileIn h (s .dir))
       → fileAt maxDepth q (nameOf h) t ≡ some (h .size, f .time, f .cells)
   unfolding fileEntry fileOf
   in-file q s f = file-at maxDepth q (nameOf h) t (s .dir) (s .there) ∙ then-some (λ e. fileOf (e .time) (e .node)) (f .held)
@@ -93,7 +93,7 @@ module _ (g : Geo) (I : List ℕ) (t : Tree maxDepth) (v : Volume g I maxDepth t
   unfolding staleBy
   stale-none = refl
 
-  file-entry : (q : List Name) (z k : ℕ) (cs : List Cell) → fileAt maxDepth q (nameOf h) t ≡ some (z, k, cs)
+  pub file-entry : (q : List Name) (z k : ℕ) (cs : List Cell) → fileAt maxDepth q (nameOf h) t ≡ some (z, k, cs)
       → (o : Occupied maxDepth q (nameOf h) t)
       → o .entry .node ≡ file z cs → z ≡ h .size → o .entry ≡ fileEntry (nameOf h) (o .entry .time) (h .size) cs
   unfolding fileEntry
@@ -102,7 +102,7 @@ module _ (g : Geo) (I : List ℕ) (t : Tree maxDepth) (v : Volume g I maxDepth t
       let x : o .entry .node ≡ file (h .size) cs = n ∙ ap (λ (y : ℕ). file y cs) e in
       λ i. record { name = m i; time = o .entry .time; node = x i }
 
-  numbered : Numbered
+  pub numbered : Numbered
   numbered = go (pathTo maxDepth (h .dir .0) t) refl
     where
       by : (q : List Name) → fileBy h t ≡ fileAt maxDepth q (nameOf h) t → (s : DirAt maxDepth (h .dir .0) q t)

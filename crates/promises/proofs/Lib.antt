@@ -23,8 +23,10 @@ pub mod Gone
 pub mod Kept
 pub mod Work
 pub mod Starts
+pub mod Patched
 pub mod UsedMoves
 pub mod EitherOrder
 pub mod Wiped
+pub mod Torn
 pub mod Promises
 pub mod OwnEntry

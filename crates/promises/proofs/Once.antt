@@ -14,9 +14,10 @@ use Rattle.call_read.specs.Reading.{Counts, noHandle, noAbout, aboutOf, onReply
 use Rattle.file_read.specs.Read.{bytesRead}
 use Rattle.path.specs.Path.{realPath}
 use Rattle.call_room.proofs.Means.{room-one}
-use Rattle.mfs.proofs.Outcomes.{format-one, usage-one, open-one, info-one, list-one, read-one, seek-one, create-file-one, create-dir-one, delete-one, write-one}
+use Rattle.mfs.proofs.Outcomes.{format-one, usage-one, open-one, info-one, list-one, read-one, seek-one, create-file-one, create-dir-one, delete-one, write-one, patch-one}
 use Rattle.call_volume.proofs.Checked.{check-one}
 use Rattle.thm_calls.proofs.Changing.{create-file-kept, create-dir-kept, delete-kept, write-kept}
+use Rattle.thm_calls.proofs.Patching.{patch-kept}
 use Rattle.promises.specs.Once.{OneOutcome, RefusalKeeps}
 use Rattle.promises.proofs.Answered.{value-refused, refusal-said, count-refused}
 
@@ -37,6 +38,7 @@ one-outcome =
       creates-dir = create-dir-one;
       deletes = delete-one;
       writes = write-one;
+      patches = patch-one;
     }
 
 -- a refused format
@@ -77,5 +79,9 @@ refusal-keeps =
       writes = λ M I W h buf time o J Z j c e.
           let x = count-refused (o .answer) j e in
           let k = write-kept M I W h buf time o J Z c (x .0) (x .1) in
+          (k .0, k .1, c .work);
+      patches = λ M I W h buf time o J Z j c e.
+          let x = count-refused (o .answer) j e in
+          let k = patch-kept M I W h buf time o J Z c (x .0) (x .1) in
           (k .0, k .1, c .work);
     }

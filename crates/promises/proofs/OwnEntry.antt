@@ -1,7 +1,7 @@
 -- After the check and the walk the own entry of the holding directory is there.
 use mathlib.Core.Path.{_≡_, refl}
 use mathlib.Core.List.{List}
-use Prim.Native.Nat.{ℕ, _≤_}
+use Prim.Native.Nat.{ℕ}
 use native.Mathlib.Omega.{arith}
 use Rattle.model.specs.Answers.{accepted}
 use Rattle.model.specs.Geometry.{Mount, geoAt, blockSize, areaOf}
@@ -9,7 +9,7 @@ use Rattle.model.specs.Volume.{maxDepth}
 use Rattle.model.specs.Steps.{Bytes}
 use Rattle.limits.specs.Refusals.{refusalNumber}
 use Rattle.limits.specs.declared.Refusal.{Refusal}
-use Rattle.limits.specs.declared.Refusal.the-variants.{BadImage, NotMfs, BadCount, BadPath, NotFound, WrongKind, Exists, BadName, NoRoom, TooLarge, Stale, BadSeek, EmptyWrite, NotEmpty, TooDeep, ShortWork, Damaged}
+use Rattle.limits.specs.declared.Refusal.the-variants.{BadImage, NotMfs, BadCount, BadPath, NotFound, WrongKind, Exists, BadName, NoRoom, TooLarge, Stale, BadSeek, EmptyWrite, NotEmpty, TooDeep, ShortWork, Damaged, PastEnd}
 use Rattle.super_block.specs.declared.SuperBlock.{SuperBlock}
 use Rattle.super_block.specs.Super.{superBlock}
 use Rattle.super_block.proofs.Fits.{opened-fit}
@@ -30,30 +30,31 @@ own-inside M I len b e cwd p h q =
     let s : SuperBlock = superBlock (geoAt M I) in
     hold-inside s I (opened-fit M I s (check-passed M I len b e .1) refl) (dirPart (realPath cwd p)) h q
 
--- The last is 17: the number 18 is not used.
-number-few : (r : Refusal) → refusalNumber r ≤ 17
-number-few BadImage = omega arith
-number-few NotMfs = omega arith
-number-few BadCount = omega arith
-number-few BadPath = omega arith
-number-few NotFound = omega arith
-number-few WrongKind = omega arith
-number-few Exists = omega arith
-number-few BadName = omega arith
-number-few NoRoom = omega arith
-number-few TooLarge = omega arith
-number-few Stale = omega arith
-number-few BadSeek = omega arith
-number-few EmptyWrite = omega arith
-number-few NotEmpty = omega arith
-number-few TooDeep = omega arith
-number-few ShortWork = omega arith
-number-few Damaged = omega arith
+-- The number 18 is not used.
+not-18 : (r : Refusal) → refusalNumber r ≡ 18 → ⊥
+not-18 BadImage e = omega arith
+not-18 NotMfs e = omega arith
+not-18 BadCount e = omega arith
+not-18 BadPath e = omega arith
+not-18 NotFound e = omega arith
+not-18 WrongKind e = omega arith
+not-18 Exists e = omega arith
+not-18 BadName e = omega arith
+not-18 NoRoom e = omega arith
+not-18 TooLarge e = omega arith
+not-18 Stale e = omega arith
+not-18 BadSeek e = omega arith
+not-18 EmptyWrite e = omega arith
+not-18 NotEmpty e = omega arith
+not-18 TooDeep e = omega arith
+not-18 ShortWork e = omega arith
+not-18 Damaged e = omega arith
+not-18 PastEnd e = omega arith
 
 pub own-entry-there : OwnEntryThere
 own-entry-there =
     record {
       inside = own-inside;
       there = λ M I w cwd p h q. own-there (geoAt M I) I maxDepth (w .tree) _ (wayOf cwd p) (volume-at M I w .laid) h q;
-      numbers = number-few;
+      numbers = not-18;
     }

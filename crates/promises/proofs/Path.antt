@@ -28,10 +28,14 @@ use Rattle.limits.specs.declared.Answer.{Answer}
 use Rattle.limits.specs.declared.Answer.the-variants as answer
 use Rattle.call_read.specs.declared.OpenOut.{OpenOut}
 use Rattle.call_change.specs.Changing.{CreatesFile, Deletes, Writes}
+use Rattle.call_patch.specs.Patches.{Patches}
+use lib.ListN.{length}
+use Rattle.patch.proofs.Targets.{wholeOf}
 use Rattle.thm_calls.specs.Named.{lastOf}
 use Rattle.thm_calls.proofs.Changing.{volume-at, create-file-tree, create-file-bytes, create-file-kept, delete-tree, delete-bytes, delete-kept, write-tree, write-bytes, write-kept}
+use Rattle.thm_calls.proofs.Patching.{patch-bytes, patch-kept, patch-on, patch-writes}
 use Rattle.promises.proofs.Answered.{answer-is, counted-is}
-use Rattle.promises.specs.Sequence.{Leads, HandleAt, Call, creates, opens, reads, seeks, writes, deletes, Calls, done, call, ReachedIn, UsedBy}
+use Rattle.promises.specs.Sequence.{Leads, HandleAt, Call, creates, opens, reads, seeks, writes, patches, deletes, Calls, done, call, ReachedIn, UsedBy}
 
 -- ---- the holding directory begins where it did
 
@@ -158,12 +162,29 @@ module _ (M : Mount) (a : ℕ) (p : List Name) (n : Name) (I J : List ℕ) (w : 
           (λ b. write-bytes M I W h buf now o J Z c (e .0) b d (e .1))
       go (inr e) = stays (write-kept M I W h buf now o J Z c (e .0) (e .1) .0)
 
+  -- a patch is a step as that write is which leaves the same
+  patches-next : (h : Handle) (buf W Z : List ℕ) (now : ℕ) (o : CountedOut) → HandleAt a n h → Bytes buf → now < 2 ^ 64
+      → Patches M I W h buf now o J Z → Next M a p n I w J
+  patches-next h buf W Z now o l d clock c = go (counted-is (o .answer))
+    where
+      go : ((k : ℕ) × (o .answer ≡ counted.Bytes k)) ⊎ ((x : Refusal) × (o .answer ≡ counted.Refused x)) → Next M a p n I w J
+      go (inl e) =
+          let vs : List ℕ = wholeOf maxDepth (w .tree) h buf (patch-on M I W h buf now o J Z c (e .0) w (e .1) .on-file) in
+          let m = write-tree M I W h vs now _ J Z (patch-writes M I W h buf now o J Z c (e .0) w (e .1)) (length vs) w clock refl in
+          written-next now (h .position) vs
+          (subst (λ (m : Name). TreeWrites (geoAt M I) maxDepth p m now (h .position) vs (w .tree) I J) (l .name)
+          (subst (λ (q : List Name). TreeWrites (geoAt M I) maxDepth q (nameOf h) now (h .position) vs (w .tree) I J)
+          (path-of (h .dir .0) (m .0) (l .dir) (m .1)) (m .2)))
+          (λ b. patch-bytes M I W h buf now o J Z c (e .0) b d (e .1))
+      go (inr e) = stays (patch-kept M I W h buf now o J Z c (e .0) (e .1) .0)
+
   next : Call M a p n I J → Next M a p n I w J
   next (creates cwd path W Z now o l clock c) = creates-next cwd path W Z now o l clock c
   next (opens cwd path o l c e) = stays e
   next (reads h buf out o l c e) = stays e
   next (seeks h from m l c e) = stays e
   next (writes h buf W Z now o l d clock c) = writes-next h buf W Z now o l d clock c
+  next (patches h buf W Z now o l d clock c) = patches-next h buf W Z now o l d clock c
   next (deletes cwd path W Z now r l clock c) = deletes-next cwd path W Z now r l clock c
 
 -- ---- so a sequence is a run

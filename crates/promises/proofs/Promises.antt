@@ -4,6 +4,7 @@ use Rattle.promises.specs.Promises.{StaysWell, UsedIsTrue, PathIsRestore
 use Rattle.promises.proofs.Answered.{value-said, success-said, count-said}
 use Rattle.promises.proofs.Path.{calls-well, calls-restore}
 use Rattle.promises.proofs.Counter.{stale-kept, stale-answer, current-again}
+use Rattle.promises.proofs.Patched.{patched-well, patch-used, patch-others}
 use Rattle.promises.proofs.Kept.{write-others, create-file-others, create-dir-others, delete-others}
 use Rattle.promises.proofs.Well.{format-well, file-well, dir-well, deleted-well, written-well, check-well}
 use Rattle.promises.proofs.Well.{format-used, create-file-used, create-dir-used, delete-used, write-used}
@@ -20,6 +21,7 @@ stays-well =
       create-dir = dir-well;
       delete = deleted-well;
       write = written-well;
+      patch = patched-well;
       check = λ M I W Z r c w long. check-well M I W Z r c w (omega (arith, long));
     }
 
@@ -32,6 +34,7 @@ used-is-true =
       create-dir = create-dir-used;
       delete = delete-used;
       write = write-used;
+      patch = patch-used;
     }
 
 -- D3.
@@ -43,6 +46,7 @@ pub others-kept : OthersKept
 others-kept =
     record {
       write = λ M I W h buf now o J Z c k e. write-others M I W h buf now o J Z c k (count-said (o .answer) k e);
+      patch = patch-others;
       create-file = λ M I W cwd p now o J Z c a e.
           create-file-others M I W cwd p now o J Z c (value-said (o .answer) (o .handle) a e);
       create-dir = λ M I W cwd p now r J Z c e. create-dir-others M I W cwd p now r J Z c (success-said r e);

@@ -5,6 +5,7 @@ use Rattle.promises.proofs.Looks.{opens, informs, lists}
 use Rattle.promises.proofs.Creates.{creates-file, creates-dir}
 use Rattle.promises.proofs.Deletes.{deletes}
 use Rattle.promises.proofs.Handles.{writes, reads}
+use Rattle.promises.proofs.Patched.{patches}
 use Rattle.promises.proofs.Rooms.{write-full, create-full, create-dir-full}
 
 pub refusal-is-exact : RefusalIsExact
@@ -17,6 +18,7 @@ refusal-is-exact =
       creates-dir = creates-dir;
       deletes = λ M I W b w long. deletes M I W b w (omega (arith, long));
       writes = writes;
+      patches = patches;
       reads = reads;
     }
 

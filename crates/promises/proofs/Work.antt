@@ -8,6 +8,7 @@ use Rattle.thm_calls.specs.Named.{lastOf}
 use Rattle.promises.specs.Work.{WorkIsDone}
 use Rattle.promises.proofs.Answered.{value-said, value-is, success-said}
 use Rattle.promises.proofs.Done.{write-then-read, write-leaves}
+use Rattle.promises.proofs.Patched.{patch-then-read, patch-leaves}
 use Rattle.promises.proofs.Reopened.{open-then-read}
 use Rattle.promises.proofs.CreateLeaves.{create-file-leaves, create-dir-leaves, create-changes}
 use Rattle.promises.proofs.Gone.{delete-leaves}
@@ -17,6 +18,8 @@ work-is-done =
     record {
       write-then-read = λ M I W h buf now o J Z c k e clock name w. write-then-read M I W h buf now o J Z c k e clock w name;
       write-leaves = write-leaves;
+      patch-then-read = λ M I W h buf now o J Z c k e clock name w. patch-then-read M I W h buf now o J Z c k e w clock name;
+      patch-leaves = λ M I W h buf now o J Z c k e clock w v. patch-leaves M I W h buf now o J Z c k e w clock v;
       open-then-read = open-then-read;
       create-file-leaves = λ M I W cwd p now o J Z c h e clock w v.
           let r = create-file-leaves M I W cwd p now o J Z c (value-said (o .answer) (o .handle) h e) clock w v in (

@@ -8,7 +8,7 @@ use Rattle.model.specs.Answers.{accepted}
 use Rattle.model.specs.Tree.{Name}
 use Rattle.model.specs.Geometry.{Mount, geoAt}
 use Rattle.model.specs.Volume.{WellFormed, maxDepth}
-use Rattle.model.specs.Calls.{DirAt, TreeCreatesFile, TreeCreatesDir, TreeDeletes, TreeWrites}
+use Rattle.model.specs.Calls.{DirAt, TreeCreatesFile, TreeCreatesDir, TreeDeletes, TreeWrites, TreePatches}
 use Rattle.model.specs.Steps.{Bytes}
 use Rattle.handle.specs.declared.Handle.{Handle}
 use Rattle.handle.specs.declared.CountedOut.{CountedOut}
@@ -20,6 +20,7 @@ use Rattle.call_volume.specs.Says.{says}
 use Rattle.call_read.specs.Reading.{openSays}
 use Rattle.call_volume.specs.Checking.{checkCall, checkRefusal}
 use Rattle.call_change.specs.Changing.{CreatesFile, CreatesDir, Deletes, Writes}
+use Rattle.call_patch.specs.Patches.{Patches}
 use Rattle.thm_calls.specs.Named.{wayOf, lastOf}
 
 -- S6: a changing call that is accepted found a well-formed volume, and what it made of the image is the model's call on that
@@ -43,6 +44,12 @@ pub record CallsAreExact : Type 0 where
       → Bytes I → now < 2 ^ 64 → (k : ℕ) → countedSays (o .answer) ≡ accepted k
       → (w : WellFormed M I) × (q : List Name) × DirAt maxDepth (h .dir .0) q (w .tree)
       × TreeWrites (geoAt M I) maxDepth q (nameOf h) now (h .position) buf (w .tree) I J
+  -- C19: the same of a patch.
+  pub patch : (M : Mount) (I W : List ℕ) (h : Handle) (buf : List ℕ) (now : ℕ) (o : CountedOut) (J Z : List ℕ)
+      → Patches M I W h buf now o J Z
+      → Bytes I → now < 2 ^ 64 → (k : ℕ) → countedSays (o .answer) ≡ accepted k
+      → (w : WellFormed M I) × (q : List Name) × DirAt maxDepth (h .dir .0) q (w .tree)
+      × TreePatches (geoAt M I) maxDepth q (nameOf h) now (h .position) buf (w .tree) I J
 
 -- S7: what the check part of a changing call (`checkRefusal`, with a work buffer of len bytes) gives for a list of bytes I.
 -- `checkCall` is 1, 2, 3 or 16, or 0 where none of them is given.
@@ -50,7 +57,8 @@ pub record CheckIsExact : Type 0 where
   -- It gives one of those where there is one,
   pub earlier : (M : Mount) (I : List ℕ) (len : ℕ) → 1 ≤ checkCall M I len → checkRefusal M I len ≡ checkCall M I len
   -- else nothing exactly for a well-formed volume,
-  pub passes : (M : Mount) (I : List ℕ) (len : ℕ) → Bytes I → (checkRefusal M I len ≡ 0) ↔ ((checkCall M I len ≡ 0) × WellFormed M I)
+  pub passes : (M : Mount) (I : List ℕ) (len : ℕ) → Bytes I
+      → (checkRefusal M I len ≡ 0) ↔ ((checkCall M I len ≡ 0) × WellFormed M I)
   -- and R17 exactly for what is none.
   pub damaged : (M : Mount) (I : List ℕ) (len : ℕ) → Bytes I
       → (checkRefusal M I len ≡ 17) ↔ ((checkCall M I len ≡ 0) × (WellFormed M I → ⊥))

@@ -9,4 +9,5 @@ pub mod EitherOrder
 pub mod Exact
 pub mod Wiped
 pub mod Promises
+pub mod Torn
 pub mod OwnEntry

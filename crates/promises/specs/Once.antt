@@ -23,6 +23,7 @@ use Rattle.call_volume.specs.Says.{says}
 use Rattle.call_read.specs.Reading.{noHandle, openSays, Opens, noAbout, aboutOf, infoSays, Informs, listSays, Lists, Reads}
 use Rattle.call_volume.specs.Checking.{workAfter, Checks}
 use Rattle.call_change.specs.Changing.{CreatesFile, CreatesDir, Deletes, Writes}
+use Rattle.call_patch.specs.Patches.{Patches}
 
 -- D1: any two outcomes that a call's contract allows are equal, in answer, image, handle, work buffer and read buffer, refused
 -- ones too.
@@ -46,6 +47,8 @@ pub record OneOutcome : Type 0 where
       → Deletes M I W cwd p time r J Z → Deletes M I W cwd p time q L Y → (r ≡ q) × (J ≡ L) × (Z ≡ Y)
   pub writes : (M : Mount) (I W : List ℕ) (h : Handle) (buf : List ℕ) (time : ℕ) (r q : CountedOut) (J L Z Y : List ℕ)
       → Writes M I W h buf time r J Z → Writes M I W h buf time q L Y → (r ≡ q) × (J ≡ L) × (Z ≡ Y)
+  pub patches : (M : Mount) (I W : List ℕ) (h : Handle) (buf : List ℕ) (time : ℕ) (r q : CountedOut) (J L Z Y : List ℕ)
+      → Patches M I W h buf time r J Z → Patches M I W h buf time q L Y → (r ≡ q) × (J ≡ L) × (Z ≡ Y)
 
 -- D1, a refused call, whatever its number j: image, handle and read buffer are as they were, and the work buffer ends as C3 says.
 -- I is the image before and J after, W the work buffer before and Z after. (Usage, room, open, info, list, read, seek and the
@@ -71,3 +74,5 @@ pub record RefusalKeeps : Type 0 where
       → Deletes M I W cwd p time r J Z → says r ≡ refused j → (J ≡ I) × (Z ≡ workAfter M I W)
   pub writes : (M : Mount) (I W : List ℕ) (h : Handle) (buf : List ℕ) (time : ℕ) (o : CountedOut) (J Z : List ℕ) (j : ℕ)
       → Writes M I W h buf time o J Z → countedSays (o .answer) ≡ refused j → (J ≡ I) × (o .handle ≡ h) × (Z ≡ workAfter M I W)
+  pub patches : (M : Mount) (I W : List ℕ) (h : Handle) (buf : List ℕ) (time : ℕ) (o : CountedOut) (J Z : List ℕ) (j : ℕ)
+      → Patches M I W h buf time o J Z → countedSays (o .answer) ≡ refused j → (J ≡ I) × (o .handle ≡ h) × (Z ≡ workAfter M I W)

@@ -1,6 +1,6 @@
 -- The promises of the public calls, in order; D1 stands in Once. Definitions alone: proofs/Promises.antt has the proof of each.
--- In all of them M is the mount (the superblock's block and the size code), I the image at a call's entry and J after it, W the work
--- buffer before and Z after.
+-- In all of them M is the mount (the superblock's block and the size code), I the image at a call's entry and J after it, W the
+-- work buffer before and Z after.
 use mathlib.Core.Path.{_≡_}
 use mathlib.Core.Bool.{false}
 use mathlib.Core.List.{List}
@@ -26,6 +26,7 @@ use Rattle.call_read.specs.Reading.{openSays}
 use Rattle.call_volume.specs.Format.{Formats}
 use Rattle.call_volume.specs.Checking.{Checks}
 use Rattle.call_change.specs.Changing.{CreatesFile, CreatesDir, Deletes, Writes}
+use Rattle.call_patch.specs.Patches.{Patches}
 use Rattle.promises.specs.Sequence.{Leads, Calls, UsedBy}
 use Rattle.promises.specs.Counter.{Untouched, Another, StaleAtEntry}
 
@@ -45,6 +46,9 @@ pub record StaysWell : Type 0 where
   pub write : (M : Mount) (I W : List ℕ) (now : ℕ) (J Z : List ℕ) → Bytes I → now < 2 ^ 64
       → (h : Handle) (buf : List ℕ) (o : CountedOut)
       → (k : ℕ) → Writes M I W h buf now o J Z → countedSays (o .answer) ≡ accepted k → WellFormed M J
+  pub patch : (M : Mount) (I W : List ℕ) (now : ℕ) (J Z : List ℕ) → Bytes I → now < 2 ^ 64
+      → (h : Handle) (buf : List ℕ) (o : CountedOut)
+      → (k : ℕ) → Patches M I W h buf now o J Z → countedSays (o .answer) ≡ accepted k → WellFormed M J
   pub check : (M : Mount) (I W Z : List ℕ) (r : Answer) → Checks M I W r Z → WellFormed M I → markLong (geoAt M I) ≤ length W
       → says r ≡ accepted tt
 
@@ -64,6 +68,9 @@ pub record UsedIsTrue : Type 0 where
   pub write : (M : Mount) (I W : List ℕ) (now : ℕ) (J Z : List ℕ) → Bytes I → now < 2 ^ 64
       → (h : Handle) (buf : List ℕ) (o : CountedOut)
       → (k : ℕ) → Writes M I W h buf now o J Z → countedSays (o .answer) ≡ accepted k → UsedTrue M J
+  pub patch : (M : Mount) (I W : List ℕ) (now : ℕ) (J Z : List ℕ) → Bytes I → now < 2 ^ 64
+      → (h : Handle) (buf : List ℕ) (o : CountedOut)
+      → (k : ℕ) → Patches M I W h buf now o J Z → countedSays (o .answer) ≡ accepted k → UsedTrue M J
 
 -- ---- D3
 
@@ -79,11 +86,16 @@ pub record PathIsRestored : Type 0 where
 
 -- ---- what a call leaves alone
 
--- S3: an accepted write through a handle changes no byte of another file or device; nor does an accepted create or delete, at
--- a path that is not the call's own.
+-- S3: an accepted write or patch through a handle changes no byte of another file or device; nor does an accepted create or
+-- delete, at a path that is not the call's own.
 pub record OthersKept : Type 0 where
   pub write : (M : Mount) (I W : List ℕ) (h : Handle) (buf : List ℕ) (now : ℕ) (o : CountedOut) (J Z : List ℕ)
       → Writes M I W h buf now o J Z
+      → (k : ℕ) → countedSays (o .answer) ≡ accepted k → now < 2 ^ 64 → (w : WellFormed M I) (v : WellFormed M J)
+      → (q : List Name) (m : Name) → Another maxDepth (w .tree) h q m
+      → Untouched (blockSize (geoAt M I)) maxDepth (w .tree) (v .tree) I J q m
+  pub patch : (M : Mount) (I W : List ℕ) (h : Handle) (buf : List ℕ) (now : ℕ) (o : CountedOut) (J Z : List ℕ)
+      → Patches M I W h buf now o J Z
       → (k : ℕ) → countedSays (o .answer) ≡ accepted k → now < 2 ^ 64 → (w : WellFormed M I) (v : WellFormed M J)
       → (q : List Name) (m : Name) → Another maxDepth (w .tree) h q m
       → Untouched (blockSize (geoAt M I)) maxDepth (w .tree) (v .tree) I J q m
@@ -108,5 +120,6 @@ pub record CounterIsSafe : Type 0 where
       → Writes M I W h buf now o J Z → Bytes I → markLong (geoAt M I) ≤ length W → 1 ≤ length buf
       → (w : WellFormed M I) → Stale maxDepth (w .tree) h → countedSays (o .answer) ≡ refused 11
   -- A handle can become current again (H3): when its directory has a file entry with its name, address and size, it is not stale.
-  pub current-again : (M : Mount) (I : List ℕ) (w : WellFormed M I) (h : Handle) → staleFields h ≡ false → OnFile maxDepth (w .tree) h
+  pub current-again : (M : Mount) (I : List ℕ) (w : WellFormed M I) (h : Handle) → staleFields h ≡ false
+      → OnFile maxDepth (w .tree) h
       → Stale maxDepth (w .tree) h → ⊥

@@ -40,7 +40,9 @@ use Rattle.call_read.specs.declared.InfoOut.{InfoOut}
 use Rattle.call_read.specs.declared.Listing.{Listing}
 use Rattle.call_volume.specs.Says.{says}
 use Rattle.call_read.specs.Reading.{About, about, Counts, openSays, Opens, infoSays, Informs, listSays, Lists, Reads}
+use Rattle.patch.specs.Patching.{pastEnd}
 use Rattle.call_change.specs.Changing.{freshHandle, plainly, CreatesFile, CreatesDir, Deletes, Writes}
+use Rattle.call_patch.specs.Patches.{Patches}
 use Rattle.thm_calls.specs.Named.{wayOf, lastOf, allOf, recordsLong, recordsOf, listedFrom}
 use Rattle.promises.specs.Honest.{CreateFull}
 
@@ -176,6 +178,11 @@ writeNumber g h len t =
     ∷ (when 10 (tooLong h len)
     ∷ (when 9 (ltb (length (freeBlocks g maxDepth t)) (blocksToAdd (blockSize g) h len)) ∷ [])))))
 
+-- O14: 13, 11, 19, of a patch of len bytes
+unfoldable pub patchNumber : Handle → ℕ → Tree maxDepth → ℕ
+patchNumber h len t =
+    firstOf (when 13 (eqb len 0) ∷ (when 11 (staleFields h) ∷ (staleBy h (fileBy h t) ∷ (when 19 (pastEnd h len) ∷ []))))
+
 -- ---- D2: what the calls say
 
 -- On a well-formed volume each call answers just that: refused by k exactly where its function gives k, and accepted exactly
@@ -203,6 +210,9 @@ pub record RefusalIsExact : Type 0 where
   pub writes : (M : Mount) (I W : List ℕ) → Bytes I → (w : WellFormed M I) → markLong (geoAt M I) ≤ length W
       → (h : Handle) (buf : List ℕ) (now : ℕ) (o : CountedOut) (J Z : List ℕ) → Writes M I W h buf now o J Z
       → countedSays (o .answer) ≡ reply (writeNumber (geoAt M I) h (length buf) (w .tree)) (length buf)
+  pub patches : (M : Mount) (I W : List ℕ) → Bytes I → (w : WellFormed M I) → markLong (geoAt M I) ≤ length W
+      → (h : Handle) (buf : List ℕ) (now : ℕ) (o : CountedOut) (J Z : List ℕ) → Patches M I W h buf now o J Z
+      → countedSays (o .answer) ≡ reply (patchNumber h (length buf) (w .tree)) (length buf)
   -- Of a handle whose directory is one of the tree, as it is of a handle that a call answered while that directory stands. Read
   -- does not ask for it (H4), and through a made-up handle it walks any blocks. (A handle's name is an array of 255 bytes.)
   pub reads : (M : Mount) (I : List ℕ) (w : WellFormed M I) (h : Handle) (q : List Name) → DirAt maxDepth (h .dir .0) q (w .tree)

@@ -18,6 +18,7 @@ use Rattle.limits.specs.declared.Answer.{Answer}
 use Rattle.call_read.specs.declared.OpenOut.{OpenOut}
 use Rattle.call_read.specs.Reading.{Opens, Reads}
 use Rattle.call_change.specs.Changing.{CreatesFile, Deletes, Writes}
+use Rattle.call_patch.specs.Patches.{Patches}
 use Rattle.thm_calls.specs.Named.{wayOf, lastOf}
 
 -- D3, any working directory and spelling that lead to the path: what is given has the directory names p and the last name n
@@ -42,6 +43,8 @@ pub data Call (M : Mount) (a : ℕ) (p : List Name) (n : Name) (I J : List ℕ) 
   seeks : (h : Handle) (from : SeekFrom) (s : Sought) → HandleAt a n h → SoughtIs h from s → J ≡ I → Call M a p n I J
   writes : (h : Handle) (buf W Z : List ℕ) (time : ℕ) (o : CountedOut) → HandleAt a n h → Bytes buf → time < 2 ^ 64
       → Writes M I W h buf time o J Z → Call M a p n I J
+  patches : (h : Handle) (buf W Z : List ℕ) (time : ℕ) (o : CountedOut) → HandleAt a n h → Bytes buf → time < 2 ^ 64
+      → Patches M I W h buf time o J Z → Call M a p n I J
   deletes : (cwd path W Z : List ℕ) (time : ℕ) (r : Answer) → Leads p n cwd path → time < 2 ^ 64
       → Deletes M I W cwd path time r J Z → Call M a p n I J
 

@@ -1,5 +1,5 @@
-// The entries of a directory, read from any image: the cursor, the names, the sum. Lookup and listing stand on it, each in a crate of
-// its own (dir_lookup, dir_list). Damage is met on the walk, and a walk goes no further than its answer needs (O12).
+// The entries of a directory, read from any image: the cursor, the names, the sum. Lookup and listing stand on it, each in a
+// crate of its own (dir_lookup, dir_list). Damage is met on the walk, and a walk goes no further than its answer needs (O12).
 use block::Addr;
 use block::LinkedBlock;
 use dir_entry::DirEntry;

@@ -48,7 +48,7 @@ use Rattle.thm_calls.proofs.Stored.{bytes-inserted, bytes-removed, byte
 -- ---- answers
 
 -- What a refused call leaves: by an earlier refusal, or by its own, which leaves y too.
-settle-kept : {A B : Type 0} (k : ℕ) (r : Reply A) (j : ℕ) (x y : B) → given k r ≡ refused j → ((i : ℕ) → r ≡ refused i → x ≡ y) → settle k x y ≡ y
+pub settle-kept : {A B : Type 0} (k : ℕ) (r : Reply A) (j : ℕ) (x y : B) → given k r ≡ refused j → ((i : ℕ) → r ≡ refused i → x ≡ y) → settle k x y ≡ y
 unfolding given settle
 settle-kept zero r j x y e f = f j e
 settle-kept (suc k) r j x y e f = refl

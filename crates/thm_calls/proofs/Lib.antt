@@ -4,3 +4,4 @@ pub mod Calls
 pub mod Stored
 pub mod Changing
 pub mod ReadsBack
+pub mod Patching

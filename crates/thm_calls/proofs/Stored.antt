@@ -39,6 +39,7 @@ use Rattle.create_store.specs.Create.{blockTaken as withFresh}
 use Rattle.delete_store.specs.Delete.{after, cutOut, beforeFrom, unlinked, lessBare, entryGone, removed}
 use Rattle.chain_store.specs.Chain.{released, chainFreed}
 use Rattle.write_store.specs.Write.{hop, grown, extended, cutAfter, resized, poured, spread, wrote}
+use Rattle.patch_store.specs.Patch.{patched}
 
 -- ---- lists
 
@@ -214,7 +215,7 @@ module _ (g : Geo) where
 
   bytes-released : (I : List ℕ) → Bytes I → (a : ℕ) → Bytes (released g I a)
   unfolding released
-  bytes-released I b a = bytes-pick (eqb (usedCount g I) 0) I (freed g I (a - dataAt g)) b (bytes-freed I b (a - dataAt g))
+  bytes-released I b a = bytes-pick _ I (freed g I (a - dataAt g)) b (bytes-freed I b (a - dataAt g))
 
   bytes-chain : (k : ℕ) (I : List ℕ) → Bytes I → (a : ℕ) → Bytes (chainFreed g I k a)
   unfolding chainFreed
@@ -283,3 +284,14 @@ module _ (g : Geo) where
       bytes-sized (poured B J at (c % (B - 4)) vs (m - c / (B - 4)))
       (bytes-poured (m - c / (B - 4)) J (bytes-resized I b (e .addr .0) (blocksFor B (e .size)) m) at (c % (B - 4)) vs d)
       (placeAt B (p .block .0) (p .offset) + 5) (placeAt B (p .block .0) (p .offset) + 9) (c + length vs) time
+
+  pub bytes-patched : (I : List ℕ) → Bytes I → (e : DirEntry) (p : Place) (c : ℕ) (vs : List ℕ) → Bytes vs → (time : ℕ)
+      → Bytes (patched g I e p c vs time)
+  unfolding patched spread
+  bytes-patched I b e p c vs d time =
+      let B : ℕ = blockSize g in
+      let m : ℕ = blocksFor B (c + length vs) in
+      let at : ℕ = hop B I (c / (B - 4)) (e .addr .0) in
+      bytes-sized (poured B I at (c % (B - 4)) vs (m - c / (B - 4)))
+      (bytes-poured (m - c / (B - 4)) I b at (c % (B - 4)) vs d)
+      (placeAt B (p .block .0) (p .offset) + 5) (placeAt B (p .block .0) (p .offset) + 9) (e .size) time

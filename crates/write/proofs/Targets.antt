@@ -13,7 +13,7 @@ use borrow.Author.Tests.{lt-ltb, le-ltb}
 use Rattle.wire.proofs.Picks.{either, not-both}
 use Rattle.model.specs.Tree.{Name, Entry, Below, Tree, lookup}
 use Rattle.model.specs.Render.{View, view}
-use Rattle.model.specs.Answers.{Reply, accepted, refused}
+use Rattle.model.specs.Answers.{Reply, accepted, refused, andThen}
 use Rattle.model.specs.Geometry.{areaOf, Geo, blockSize}
 use Rattle.model.specs.Volume.{fileLimit, blocksFor, Volume, maxDepth}
 use Rattle.model.specs.Calls.{DirAt, pathTo, freeBlocks, fileEntry, TreeWrites}
@@ -35,11 +35,11 @@ use Rattle.write_store.specs.Write.{wrote, CanWrite}
 use Rattle.write_store.proofs.Writes.{good-file, wrote-is, can-write-is}
 use Rattle.handle.specs.declared.Handle.{Handle}
 use Rattle.handle.specs.Handles.{nameOf, staleFields, currentIn}
-use Rattle.write.specs.Writing.{Target, tooLong, blocksToAdd, unreached, noRoom, targetOf, imageAt, writtenImage}
+use Rattle.write.specs.Writing.{Target, tooLong, blocksToAdd, unreached, noRoom, heldAt, targetOf, imageAt, writtenImage}
 use Rattle.write.specs.Written.{fitsAt}
 use Rattle.handle.specs.OnTree.{FileIn, OnFile, Lost, Stale}
 use Rattle.write.specs.OnTree.{toAdd, NoRoom, Accepts}
-use Rattle.write.proofs.Aims.{fits-long, fits-full, fits-in, aim-empty, aim-stale, aim-unreached, aim-entry}
+use Rattle.write.proofs.Aims.{fits-long, fits-full, fits-in, held-stale, held-unreached, held-entry, aim-empty, aim-then}
 use Rattle.handle.proofs.Currents.{own, own-file, file-own, walk-current, walk-missing}
 use Rattle.handle.proofs.Seeks.{fresh}
 
@@ -84,7 +84,7 @@ module _ (g : Geo) (I : List ℕ) (t : Tree maxDepth) (v : Volume g I maxDepth t
   -- ---- a handle on a file
 
   -- where a write goes
-  aimed : OnFile maxDepth t h → Target
+  unfoldable pub aimed : OnFile maxDepth t h → Target
   aimed q =
       record {
         entry = headOf (view (blockSize g) (q .there .dir .0)) (fileEntry (nameOf h) (q .file .time) (h .size) (q .file .cells));
@@ -117,6 +117,27 @@ module _ (g : Geo) (I : List ℕ) (t : Tree maxDepth) (v : Volume g I maxDepth t
       let old : blocksFor (blockSize g) (h .size) ≡ length (q .file .cells) = sym (chain-long q) in
       λ i. ltb (length (volume-clears g I maxDepth t v i)) (blocksFor (blockSize g) (h .position + len) - old i)
 
+  -- ---- the handle's entry
+
+  -- A stale handle has none,
+  pub stale-held : Stale maxDepth t h → heldAt g I h ≡ refused 11
+  stale-held s = go s (either (staleFields h))
+    where
+      go : Stale maxDepth t h → (staleFields h ≡ true) ⊎ (staleFields h ≡ false) → heldAt g I h ≡ refused 11
+      go s (inl a) = sym (held-stale g I h (staleFields h) refl a)
+      go (inl a) (inr b) = absurd (not-both a b)
+      go (inr (inl e)) (inr b) = sym (held-unreached g I h (staleFields h) refl b true (unreached-by e) refl)
+      go (inr (inr s)) (inr b) = by (file-or (s .0) (s .1))
+        where
+          by : FileIn h (s .1 .dir) ⊎ ((FileIn h (s .1 .dir) → ⊥) × (here ≡ found.Missing)) → heldAt g I h ≡ refused 11
+          by (inl f) = absurd (s .2 f)
+          by (inr m) = sym (held-entry g I h (staleFields h) refl b false (reached-by (s .0) (s .1)) found.Missing refl (sym (m .1)))
+
+  -- and one on a file has its own.
+  pub on-held : staleFields h ≡ false → (q : OnFile maxDepth t h) → heldAt g I h ≡ accepted (aimed q)
+  unfolding aimed
+  on-held fields q = sym (held-entry g I h (staleFields h) refl fields false (reached-by (q .path) (q .there)) (found.At (aimed q .entry) (aimed q .place)) refl (sym (here-at q)))
+
   -- ---- each answer
 
   module _ (len : ℕ) (some-bytes : 1 ≤ len) where
@@ -124,21 +145,13 @@ module _ (g : Geo) (I : List ℕ) (t : Tree maxDepth) (v : Volume g I maxDepth t
     nonzero e = omega arith
 
     stale-target : Stale maxDepth t h → targetOf g I h len ≡ refused 11
-    stale-target s = go s (either (staleFields h))
-      where
-        go : Stale maxDepth t h → (staleFields h ≡ true) ⊎ (staleFields h ≡ false) → targetOf g I h len ≡ refused 11
-        go s (inl a) = sym (aim-stale g I h len nonzero (staleFields h) refl a)
-        go (inl a) (inr b) = absurd (not-both a b)
-        go (inr (inl e)) (inr b) = sym (aim-unreached g I h len nonzero (staleFields h) refl b true (unreached-by e) refl)
-        go (inr (inr s)) (inr b) = by (file-or (s .0) (s .1))
-          where
-            by : FileIn h (s .1 .dir) ⊎ ((FileIn h (s .1 .dir) → ⊥) × (here ≡ found.Missing)) → targetOf g I h len ≡ refused 11
-            by (inl f) = absurd (s .2 f)
-            by (inr m) = sym (aim-entry g I h len nonzero (staleFields h) refl b false (reached-by (s .0) (s .1)) found.Missing refl (sym (m .1)))
+    unfolding andThen
+    stale-target s = aim-then g I h len nonzero ∙ ap (λ (x : Reply Target). andThen x (λ t. fitsAt g I h len (t .entry) (t .place))) (stale-held s)
 
     module _ (fields : staleFields h ≡ false) (q : OnFile maxDepth t h) where
       on-file : targetOf g I h len ≡ fitsAt g I h len (aimed q .entry) (aimed q .place)
-      on-file = sym (aim-entry g I h len nonzero (staleFields h) refl fields false (reached-by (q .path) (q .there)) (found.At (aimed q .entry) (aimed q .place)) refl (sym (here-at q)))
+      unfolding andThen
+      on-file = aim-then g I h len nonzero ∙ ap (λ (x : Reply Target). andThen x (λ t. fitsAt g I h len (t .entry) (t .place))) (on-held fields q)
 
       long-target : fileLimit < h .position + len → targetOf g I h len ≡ refused 10
       unfolding tooLong
@@ -153,13 +166,13 @@ module _ (g : Geo) (I : List ℕ) (t : Tree maxDepth) (v : Volume g I maxDepth t
         full-target l =
             on-file ∙ sym (fits-full g I h len (aimed q .entry) (aimed q .place) false short true refl (sym (room-is len q ∙ lt-ltb _ _ l)) refl)
 
-        good-target : adds len q ≤ length (freeBlocks g maxDepth t) → targetOf g I h len ≡ accepted (aimed q)
+        pub good-target : adds len q ≤ length (freeBlocks g maxDepth t) → targetOf g I h len ≡ accepted (aimed q)
         unfolding aimed
         good-target l =
             on-file ∙ sym (fits-in g I h len (aimed q .entry) (aimed q .place) false short false refl (sym (room-is len q ∙ le-ltb _ _ l)) refl)
 
   -- The handle is on a file, or the tree has lost it.
-  file-lost : OnFile maxDepth t h ⊎ Lost maxDepth t h
+  pub file-lost : OnFile maxDepth t h ⊎ Lost maxDepth t h
   file-lost = go (pathTo maxDepth (h .dir .0) t) refl
     where
       go : (o : Option (List Name)) → pathTo maxDepth (h .dir .0) t ≡ o → OnFile maxDepth t h ⊎ Lost maxDepth t h
@@ -229,7 +242,7 @@ module _ (g : Geo) (I : List ℕ) (t : Tree maxDepth) (v : Volume g I maxDepth t
       (λ b f q k m.
       can-write-is g I t (q .path) (nameOf h) (q .there .dir) _ (q .file .time) (h .size) (q .file .cells) _ _ (h .position) buf v (q .there .there) (q .file .held) refl refl refl b (fresh h f .place) k m)
 
-  image-is : (buf : List ℕ) (now : ℕ) (τ : Target) → targetOf g I h (length buf) ≡ accepted τ → wrote g I (τ .entry) (τ .place) (h .position) buf now ≡ writtenImage g I h buf now
+  pub image-is : (buf : List ℕ) (now : ℕ) (τ : Target) → targetOf g I h (length buf) ≡ accepted τ → wrote g I (τ .entry) (τ .place) (h .position) buf now ≡ writtenImage g I h buf now
   unfolding writtenImage
   image-is buf now τ e = sym (ap (imageAt g I h buf now) e)
 

@@ -47,14 +47,23 @@ module _ (g : Geo) (I : List ℕ) where
   unfoldable pub noRoom : Handle → ℕ → Bool
   noRoom h len = ltb (length (clears g I)) (blocksToAdd (blockSize g) h len)
 
+  -- H3, H4, R11: what follows for the entry of a handle that is current; 11 where its own fields refuse it, its directory is not
+  -- reached or has no such entry
+  abbrev pub whereHeld : {A : Type 0} → Handle → (DirEntry → Place → Reply A) → Reply A
+  whereHeld h f =
+      given (when 11 (staleFields h))
+      (given (when 11 (unreached h)) (onCurrent (currentIn h (walk (areaOf g) I (h .dir .0))) f))
+
+  -- that entry itself
+  unfoldable pub heldAt : Handle → Reply Target
+  heldAt h = whereHeld h (λ e p. accepted (record { entry = e; place = p }))
+
   -- O11, R13: a write of len bytes: 13, 11, 10, 9, or where it goes.
   unfoldable pub targetOf : Handle → ℕ → Reply Target
   targetOf h len =
       given (when 13 (eqb len 0))
-      (given (when 11 (staleFields h))
-      (given (when 11 (unreached h))
-      (onCurrent (currentIn h (walk (areaOf g) I (h .dir .0)))
-      (λ e p. given (when 10 (tooLong h len)) (given (when 9 (noRoom h len)) (accepted (record { entry = e; place = p })))))))
+      (whereHeld h
+      (λ e p. given (when 10 (tooLong h len)) (given (when 9 (noRoom h len)) (accepted (record { entry = e; place = p })))))
 
   -- The image afterwards: the file is rewritten, or all is as it was.
   abbrev pub imageAt : Handle → List ℕ → ℕ → Reply Target → List ℕ

@@ -12,14 +12,14 @@ ghost use mathlib.Core.Path.{_≡_};
 ghost use mathlib.Core.Bool.{true, false};
 ghost use Prim.Native.Nat.{_+_, _-_, _≤_, _<_};
 ghost use Rattle.super_block.specs.Super.{geoOf, Fit, Ready};
-ghost use Rattle.write.specs.Writing.{tooLong, unreached, noRoom, targetOf, grownHandle};
+ghost use Rattle.write.specs.Writing.{tooLong, unreached, noRoom, heldAt, targetOf, grownHandle};
 ghost use Rattle.write.specs.Written.{targetedSays, fitsAt, WriteIs};
 
 // The bytes of the largest file, as ends of buffers are counted.
 const END_LIMIT: usize = limits::FILE_LIMIT as usize;
 
 // Where a write goes: the entry of the handle's file, and its place.
-enum Targeted {
+pub enum Targeted {
     At(DirEntry, Place),
     Refused(Refusal),
 }
@@ -72,6 +72,24 @@ fn fits(h: Handle, img: &[u8], s: SuperBlock, len: usize, e: DirEntry, p: Place)
     Targeted::At(e, p)
 }
 
+// The entry of a handle's file in a directory that is reached from the root, or 11.
+pub fn held(h: Handle, img: &[u8], s: SuperBlock) -> Targeted
+    requires { ⌜ Fit s (now img) ⌝ }
+    ensures { λ r. ⌜ targetedSays r ≡ heldAt (geoOf s) (now (img .entry)) h ⌝ }
+{
+    if h.stale() {
+        return Targeted::Refused(Refusal::Stale);
+    }
+    if unreached(h, img, s) {
+        return Targeted::Refused(Refusal::Stale);
+    }
+    match h.entry(img, s) {
+        Found::At(e, p) => Targeted::At(e, p),
+        Found::Missing => Targeted::Refused(Refusal::Stale),
+        Found::Damaged => Targeted::Refused(Refusal::Damaged),
+    }
+}
+
 // Where a write of len bytes goes, or the first of 13, 11, 10, 9 that refuses it.
 fn target_of(h: Handle, img: &[u8], s: SuperBlock, len: usize) -> Targeted
     requires { ⌜ Fit s (now img) ⌝ }
@@ -80,16 +98,9 @@ fn target_of(h: Handle, img: &[u8], s: SuperBlock, len: usize) -> Targeted
     if len == 0 {
         return Targeted::Refused(Refusal::EmptyWrite);
     }
-    if h.stale() {
-        return Targeted::Refused(Refusal::Stale);
-    }
-    if unreached(h, img, s) {
-        return Targeted::Refused(Refusal::Stale);
-    }
-    match h.entry(img, s) {
-        Found::At(e, p) => fits(h, img, s, len, e, p),
-        Found::Missing => Targeted::Refused(Refusal::Stale),
-        Found::Damaged => Targeted::Refused(Refusal::Damaged),
+    match held(h, img, s) {
+        Targeted::At(e, p) => fits(h, img, s, len, e, p),
+        Targeted::Refused(r) => Targeted::Refused(r),
     }
 }
 

@@ -205,10 +205,10 @@ module _ (g : Geo) where
   unfolding spread
   spread-at I a c vs m = refl
 
-  -- The chain shows the old bytes with the buffer from byte c on, and no other block has changed.
-  pub spread-is : (I : List ℕ) → Sound g (length I) → (cs : List Cell) → Row g I cs → (c : ℕ) (vs : List ℕ) → 1 ≤ length vs → c + length vs ≤ w * length cs
-      → Filled g I (spread (blockSize g) I (cellsAt cs) c vs (length cs)) cs (chop w (places cs) (splice (stream cs) c vs))
-  spread-is I s cs r c vs h l = go (decLt (c / w) (length cs))
+  -- The chain shows the old bytes with the buffer from byte c on, which goes into its first m blocks; no other block has changed.
+  pub spread-part : (I : List ℕ) → Sound g (length I) → (cs : List Cell) → Row g I cs → (c : ℕ) (vs : List ℕ) → 1 ≤ length vs → (m : ℕ) → m ≤ length cs → c + length vs ≤ w * m
+      → Filled g I (spread (blockSize g) I (cellsAt cs) c vs m) cs (chop w (places cs) (splice (stream cs) c vs))
+  spread-part I s cs r c vs h m few l = go (decLt (c / w) m)
     where
       some : 0 < w
       some = omega (arith, size-large g)
@@ -216,25 +216,30 @@ module _ (g : Geo) where
       parts : w * (c / w) + c % w ≡ c
       parts = div-add-mod c w
 
-      from : (f : Front (c / w) cs) → Filled g I (spread (blockSize g) I (cellsAt cs) c vs (length cs)) cs (chop w (places cs) (splice (stream cs) c vs))
-      from f =
+      from : (f : Front (c / w) cs) → c / w < m → Filled g I (spread (blockSize g) I (cellsAt cs) c vs m) cs (chop w (places cs) (splice (stream cs) c vs))
+      from f below =
           let xs : List Cell = f .front in
           let ys : List Cell = f .cell ∷ f .back in
+          let k : ℕ = m - c / w in
           let row : Row g I (xs ++ ys) = subst (Row g I) (f .is) r in
           let n : length cs ≡ length xs + length ys = ap length (f .is) ∙ length-append xs ys in
-          let k : length cs - c / w ≡ length ys = omega (arith, f .long) in
           let e : c ≡ w * length xs + c % w = sym parts ∙ ap (λ (x : ℕ). w * x + c % w) (sym (f .long)) in
           let a : hop (blockSize g) I (c / w) (cellsAt cs) ≡ cellsAt ys
           = ap (λ (z : List Cell). hop (blockSize g) I (c / w) (cellsAt z)) (f .is) ∙ ap (λ (x : ℕ). hop (blockSize g) I x (cellsAt (xs ++ ys))) (sym (f .long)) ∙ hop-cells g I s xs ys (row .range) (row .shown) in
-          let p : spread (blockSize g) I (cellsAt cs) c vs (length cs) ≡ poured (blockSize g) I (cellsAt ys) (c % w) vs (length ys)
-          = spread-at I (cellsAt cs) c vs (length cs) ∙ (λ i. poured (blockSize g) I (a i) (c % w) vs (k i)) in
-          let q : c % w + length vs ≤ w * length ys = omega (arith, e, n, ap (λ (x : ℕ). w * x) n, mul-add w (length xs) (length ys)) in
+          let p : spread (blockSize g) I (cellsAt cs) c vs m ≡ poured (blockSize g) I (cellsAt ys) (c % w) vs k
+          = spread-at I (cellsAt cs) c vs m ∙ ap (λ (x : ℕ). poured (blockSize g) I x (c % w) vs k) a in
+          let all : w * m ≡ w * (c / w) + w * k = ap (λ (x : ℕ). w * x) (let z : m ≡ c / w + k = omega arith in z) ∙ mul-add w (c / w) k in
+          let q : c % w + length vs ≤ w * k = omega (arith, parts, all) in
           subst (λ (J : List ℕ). Filled g I J cs (chop w (places cs) (splice (stream cs) c vs))) (sym p)
-          (subst (λ (z : List Cell). Filled g I (poured (blockSize g) I (cellsAt ys) (c % w) vs (length ys)) z (chop w (places z) (splice (stream z) c vs))) (sym (f .is))
-          (subst (λ (x : ℕ). Filled g I (poured (blockSize g) I (cellsAt ys) (c % w) vs (length ys)) (xs ++ ys) (chop w (places (xs ++ ys)) (splice (stream (xs ++ ys)) x vs))) (sym e)
-          (filled-past I s xs ys row (poured (blockSize g) I (cellsAt ys) (c % w) vs (length ys)) (c % w) vs
-          (poured-is (length ys) I s ys (back-row I s xs ys row) (c % w) (omega (arith, mod-lt c some)) vs (omega arith) q))))
+          (subst (λ (z : List Cell). Filled g I (poured (blockSize g) I (cellsAt ys) (c % w) vs k) z (chop w (places z) (splice (stream z) c vs))) (sym (f .is))
+          (subst (λ (x : ℕ). Filled g I (poured (blockSize g) I (cellsAt ys) (c % w) vs k) (xs ++ ys) (chop w (places (xs ++ ys)) (splice (stream (xs ++ ys)) x vs))) (sym e)
+          (filled-past I s xs ys row (poured (blockSize g) I (cellsAt ys) (c % w) vs k) (c % w) vs
+          (poured-is k I s ys (back-row I s xs ys row) (c % w) (omega (arith, mod-lt c some)) vs (omega (arith, n, f .long)) q))))
 
-      go : Dec (c / w < length cs) → Filled g I (spread (blockSize g) I (cellsAt cs) c vs (length cs)) cs (chop w (places cs) (splice (stream cs) c vs))
-      go (yes q) = from (front-of (c / w) cs q)
-      go (no q) = absurd (omega (arith, parts, mul-le-mul-left w (let z : length cs ≤ c / w = omega arith in z)))
+      go : Dec (c / w < m) → Filled g I (spread (blockSize g) I (cellsAt cs) c vs m) cs (chop w (places cs) (splice (stream cs) c vs))
+      go (yes q) = from (front-of (c / w) cs (omega arith)) q
+      go (no q) = absurd (omega (arith, parts, mul-le-mul-left w (let z : m ≤ c / w = omega arith in z)))
+
+  pub spread-is : (I : List ℕ) → Sound g (length I) → (cs : List Cell) → Row g I cs → (c : ℕ) (vs : List ℕ) → 1 ≤ length vs → c + length vs ≤ w * length cs
+      → Filled g I (spread (blockSize g) I (cellsAt cs) c vs (length cs)) cs (chop w (places cs) (splice (stream cs) c vs))
+  spread-is I s cs r c vs h l = spread-part I s cs r c vs h (length cs) (omega arith) l

@@ -220,7 +220,7 @@ cut-is s I J L last k z m a y p v f ez em ea ej ey ep ev el =
 
 -- ---- the chain resized
 
-chain-along : (g : Geo) (I : List ℕ) (a k : ℕ) → Sound g (length I) → Chained g I a k → Along g I a k
+pub chain-along : (g : Geo) (I : List ℕ) (a k : ℕ) → Sound g (length I) → Chained g I a k → Along g I a k
 chain-along g I a k s c =
     subst (λ (x : ℕ). Along g I x k) (c .starts) (subst (Along g I (cellsAt (c .cells))) (c .long) (along-cells g I s (c .cells) (c .held .range) (c .held .shown)))
 

@@ -96,7 +96,7 @@ module _ (g : Geo) (I : List ℕ) (d : ℕ) (t : Tree d) (v : Volume g I d t) (p
   within i = omega (arith, cut-within B _ _ _ _ _ _ _ (cut k z cs) i, ap (count i) (ats-cells cs))
 
   -- The file's chain is as W2, W4 and W5 say.
-  file-held : HeldCells g I cs
+  pub file-held : HeldCells g I cs
   file-held =
       record {
         shown = stored .shown;
@@ -482,6 +482,18 @@ wrote-is g I t p n s x k z cs e at c buf now v f l q h a some-bytes position lim
     let b : e ≡ headOf (view (blockSize g) (s .0)) (fileEntry n k z cs) = h ∙ ap (headOf (view (blockSize g) (s .0))) q in
     subst (λ (J : List ℕ). TreeWrites g maxDepth p n now c buf t I J) (λ i. wrote g I (sym b i) (sym a i) c buf now)
     (wrote-file g I maxDepth t v p n s f k z cs m c buf now some-bytes position limit room clock)
+
+-- the same with the tree named: its blocks are those that the entry has
+pub wrote-makes : (g : Geo) (I : List ℕ) (t : Tree maxDepth) (p : List Name) (n : Name) (s : Some) (x : Entry (Below (s .0))) (k z : ℕ) (cs : List Cell) (e : DirEntry) (at : Place) (c : ℕ) (buf : List ℕ) (now : ℕ)
+    → Volume g I maxDepth t → find maxDepth p t ≡ some s → lookup n (s .1) ≡ some x → x ≡ fileEntry n k z cs → e ≡ headOf (view (blockSize g) (s .0)) x → at ≡ spotOf n (s .1)
+    → 1 ≤ length buf → c ≤ z → c + length buf ≤ fileLimit → blocksFor (blockSize g) (c + length buf) - length cs ≤ length (freeBlocks g maxDepth t) → now < 2 ^ 64
+    → Makes g maxDepth t (rewritten maxDepth p n now (c + length buf) (rewrite (blockSize g) (freeBlocks g maxDepth t) c buf cs) t) I (wrote g I e at c buf now)
+wrote-makes g I t p n s x k z cs e at c buf now v f l q h a some-bytes position limit room clock =
+    let m : lookup n (s .1) ≡ some (fileEntry n k z cs) = l ∙ ap some q in
+    let b : e ≡ headOf (view (blockSize g) (s .0)) (fileEntry n k z cs) = h ∙ ap (headOf (view (blockSize g) (s .0))) q in
+    subst (Makes g maxDepth t (rewritten maxDepth p n now (c + length buf) (rewrite (blockSize g) (freeBlocks g maxDepth t) c buf cs) t) I)
+    (sym (stores-are g I maxDepth t v p n s f k z cs m c buf now some-bytes position limit room) ∙ λ i. wrote g I (sym b i) (sym a i) c buf now)
+    (makes g I maxDepth t v p n s f k z cs m c buf now some-bytes position limit room clock)
 
 -- What `write` requires holds there.
 pub can-write-is : (g : Geo) (I : List ℕ) (t : Tree maxDepth) (p : List Name) (n : Name) (s : Some) (x : Entry (Below (s .0))) (k z : ℕ) (cs : List Cell) (e : DirEntry) (at : Place) (c : ℕ) (buf : List ℕ)

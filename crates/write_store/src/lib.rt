@@ -133,8 +133,8 @@ fn pour(img: &mut [u8], s: SuperBlock, a: Addr, o: usize, buf: &[u8], k: u32)
     }
 }
 
-// The buffer from byte c on of the chain of m blocks from a on.
-fn put_bytes(img: &mut [u8], s: SuperBlock, a: Addr, c: u32, buf: &[u8], m: u32)
+// The buffer from byte c on of the chain from a on, into its first m blocks.
+pub fn put_bytes(img: &mut [u8], s: SuperBlock, a: Addr, c: u32, buf: &[u8], m: u32)
     requires { ⌜ Fit s (now img) ⌝ }
     requires { ⌜ c / (s .size - 4) ≤ m ⌝ }
     requires { ⌜ Along (geoOf s) (now img) (a .0) m ⌝ }

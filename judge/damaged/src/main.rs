@@ -5,6 +5,7 @@ mod by_model;
 mod case;
 mod damage;
 mod draw;
+mod edges;
 mod forms;
 mod guard;
 mod handles;
@@ -14,6 +15,7 @@ mod paths;
 mod rooms;
 mod scene;
 mod shrink;
+mod supers;
 mod tally;
 mod vast;
 
@@ -57,6 +59,8 @@ fn main() {
         round += 1;
     }
     rooms::compare(&mut library, &mut tally);
+    supers::compare(&mut library, &mut tally);
+    edges::compare(&mut library, &mut tally);
     if Known::TODAY.patch {
         patches::compare(&mut library, &mut tally);
     }

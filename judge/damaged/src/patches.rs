@@ -26,7 +26,7 @@ pub fn compare(library: &mut Library, tally: &mut Tally) {
 fn card(form: Form) -> Volume {
     let capacity = form.capacity() as u32;
     let mut tree = Tree::new();
-    tree.file(ROOT, b"long", 1, 3 * capacity + 100);
+    tree.file(ROOT, b"long", 9, 3 * capacity + 100);
     tree.file(ROOT, b"block", 2, capacity);
     tree.file(ROOT, b"none", 3, 0);
     let dir = tree.dir(ROOT, b"old", 4);

@@ -1,4 +1,4 @@
-//! The calls (C1 to C12 and C18), each with its refusals in order (O1 to O12).
+//! The calls (C1 to C12, C18 and C19), each with its refusals in order (O1 to O14).
 use crate::check::{well_formed, MAX_DEPTH, MAX_FILE};
 use crate::directory::{self, Entry, Kind, Opened, HEADER};
 use crate::geometry::{Geometry, Known, Mount, WRITTEN};
@@ -409,7 +409,7 @@ pub fn write(
     Ok(buf.len())
 }
 
-/// The buffer over bytes that are in the file already: its size, its chain and all its other bytes stay, and the entry takes
+/// O14. C19: the buffer over bytes that are in the file already: its size, its chain and all its other bytes stay, and the entry takes
 /// the time. Refused as a write is up to 11, and then by 19 where the buffer would go past the file's end.
 pub fn patch(
     image: &mut [u8],

@@ -171,6 +171,44 @@ fn append_adds_at_the_end_and_makes_the_file() {
 }
 
 #[test]
+fn put_at_changes_bytes_and_keeps_the_tail() {
+    let bench = Bench::with_street();
+    bench.file("new", b"42");
+    bench.ok(&["put", "--at", "6", "--time", "5", "card.img", "new", "/street/water"]);
+    assert_eq!(bench.ok(&["cat", "card.img", "/street/water"]), "00000042\n");
+    assert_eq!(bench.ok(&["ls", "-l", "card.img", "/street/water"]), "f      9  1970-01-01 00:00:05  /street/water\n");
+    // Across the edge of two blocks, and to the very end.
+    bench.file("long", &[b'x'; 600]);
+    bench.ok(&["put", "--at=400", "card.img", "long", "/street/old/gas"]);
+    bench.file("end", b"yz");
+    bench.ok(&["put", "--at", "1198", "card.img", "end", "/street/old/gas"]);
+    let gas = bench.ok(&["cat", "card.img", "/street/old/gas"]);
+    assert_eq!(gas, [&"g".repeat(400)[..], &"x".repeat(600), &"g".repeat(198), "yz"].concat());
+    assert_eq!(bench.run_with(&["put", "--at", "0", "card.img", "-", "/street/water"], b"1").code, 0);
+    assert_eq!(bench.ok(&["cat", "card.img", "/street/water"]), "10000042\n");
+    let before = bench.read("card.img");
+    assert_eq!(
+        bench.ok(&["put", "--dry-run", "--at", "1", "--time", "6", "card.img", "new", "/street/water"]),
+        "would put /street/water (2 bytes)\nwould change 2 blocks\n"
+    );
+    let longer = "'mfs info card.img PATH' tells the file's size, and 'mfs append' makes it longer";
+    let past = format!("mfs: card.img:/street/water: refused 19: the bytes would go past the end of the file: {longer}");
+    bench.fails(&["put", "--at", "8", "card.img", "new", "/street/water"], 1, &past);
+    let outside = format!("mfs: card.img:/street/water: refused 12: the target is outside the file: {longer}");
+    bench.fails(&["put", "--at", "10", "card.img", "new", "/street/water"], 1, &outside);
+    bench.file("none", b"");
+    bench.fails(
+        &["put", "--at", "0", "card.img", "none", "/street/water"],
+        1,
+        "mfs: card.img:/street/water: refused 13: there is no byte to write",
+    );
+    let run = bench.run(&["put", "--at", "0", "card.img", "new", "/street/none"]);
+    assert!(run.code == 1 && run.err.contains("refused 5"), "{run:?}");
+    assert!(bench.read("card.img") == before);
+    bench.ok(&["check", "--explain", "card.img"]);
+}
+
+#[test]
 fn mkdir_makes_one_or_all_on_the_way() {
     let bench = Bench::with_card();
     bench.ok(&["mkdir", "card.img", "/a", "/a/b/"]);

@@ -63,5 +63,6 @@ fn codes_that_there_are() {
     let bench = Bench::with_card();
     bench.ok(&["--code", "0", "ls", "card.img"]);
     bench.ok(&["ls", "--code=auto", "card.img"]);
-    bench.fails(&["--code", "2", "ls", "card.img"], 2, "mfs: --code takes 0, 1 or auto, not '2'");
+    let run = bench.run(&["--code", "2", "ls", "card.img"]);
+    assert!(run.code == 2 && run.err.starts_with("mfs: --code takes 0, 1 or auto, not '2'\n"), "{run:?}");
 }

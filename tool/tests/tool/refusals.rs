@@ -217,7 +217,7 @@ fn a_log_that_cannot_be_written_changes_nothing() {
 #[test]
 fn a_command_line_that_makes_no_sense() {
     let bench = Bench::with_card();
-    let cases: [(&[&str], &str); 14] = [
+    let cases: [(&[&str], &str); 16] = [
         (&[], "mfs: which command?"),
         (&["lss", "card.img"], "mfs: there is no command 'lss'"),
         (&["ls"], "mfs ls: too few words: it is used as 'mfs ls [-l] [-R] IMAGE [PATH...]'"),
@@ -226,10 +226,9 @@ fn a_command_line_that_makes_no_sense() {
         (&["ls", "--blocks", "5", "card.img"], "mfs ls: there is no option --blocks here"),
         (&["ls", "-x", "card.img"], "mfs ls: there is no option -x here"),
         (&["ls", "-k", "eight", "card.img"], "mfs ls: -k wants a number, not 'eight'"),
-        (
-            &["put", "--at", "5", "card.img", "f"],
-            "mfs put: --at is not offered: the library cannot change bytes inside a file yet",
-        ),
+        (&["put", "--at", "5", "card.img", "f"], "mfs put: --at takes one file and the path of the one that it goes into"),
+        (&["put", "-r", "--at", "5", "card.img", "f", "/f"], "mfs put: -r is for folders, and --at for one file"),
+        (&["put", "--at", "-1", "card.img", "f", "/f"], "mfs put: --at wants a number, not '-1'"),
         (&["rm", "-r", "card.img", "/"], "mfs rm: the root cannot be removed: 'mfs format --force' empties a card"),
         (&["dump", "card.img", "all"], "mfs dump: what? One of 'superblock', 'bitmap', 'block N'"),
         (&["dump", "card.img", "block", "4200"], "mfs dump: there is no block 4200: the image has 4200"),

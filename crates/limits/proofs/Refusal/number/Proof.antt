@@ -74,6 +74,9 @@ enum-told-16 c = search needs
 enum-told-17 : tie.Need-enum-told-17
 enum-told-17 c = search needs
 
+enum-told-18 : tie.Need-enum-told-18
+enum-told-18 c = search needs
+
 -- src/lib.rt:49:5
 returns : tie.Need-returns
 returns c = sym (ap refusalNumber (c .enum-told .given .1))
@@ -142,6 +145,9 @@ returns-16 c = sym (ap refusalNumber (c .enum-told16 .given .1))
 returns-17 : tie.Need-returns-17
 returns-17 c = sym (ap refusalNumber (c .enum-told17 .given .1))
 
+returns-18 : tie.Need-returns-18
+returns-18 c = sym (ap refusalNumber (c .enum-told18 .given .1))
+
 pub number-spec : {M : Type 1} → statement M
 number-spec =
     tie.close
@@ -163,6 +169,7 @@ number-spec =
     enum-told-15
     enum-told-16
     enum-told-17
+    enum-told-18
     returns
     returns-2
     returns-3
@@ -179,4 +186,5 @@ number-spec =
     returns-14
     returns-15
     returns-16
-    returns-17)
+    returns-17
+    returns-18)

@@ -1,0 +1,4 @@
+pub mod Aims
+pub mod Stores
+pub mod Targets
+pub mod Torn
