@@ -2,6 +2,7 @@
 // asked for. Eight are counted together where the eighth is needed whatever they hold, since more than 64 are still to find;
 // eight full ones are passed together, each read only where those before it are full; all others are counted singly.
 // (No contract can say what is not read: judge/damaged shows it, with a guard page behind the last byte.)
+#![tactic(auto)]
 ghost use Rattle.std.specs.Prelude.{◌≡◌, true, ◌+◌, ◌*◌, ◌≤◌, ◌<◌, ltb, length};
 ghost use Rattle.bits.specs.Bit.{ones, BitsFit};
 ghost use Rattle.super_block.specs.Super.{geo_of, Fit};
@@ -11,14 +12,14 @@ ghost use Rattle.bitmap_room.specs.Search.{clear_in, Together, told_of, room_in}
 use super_block::SuperBlock;
 
 // Whether there are enough clear bits, and how many bytes were read to tell.
-#[derive(Drop)]
+#[derive(Clone, Copy)]
 pub struct Told {
     pub enough: bool,
     pub bytes: u32,
 }
 
 // Bytes that are looked at together, and how many of their bits in reach are clear.
-#[derive(Drop)]
+#[derive(Clone, Copy)]
 struct Piece {
     bytes: u32,
     clear: u32,

@@ -1,5 +1,7 @@
 // Bits of a lent slice, numbered from byte `from` on: bit x is in byte x / 8, at x % 8 counted from the lowest.
 // The bitmap of a volume and the work buffer of the check are both read and written here, by shifts and masks.
+#![tactic(auto)]
+
 ghost use Rattle.std.specs.Prelude.{◌≡◌, ◌+◌, ◌*◌, ◌/◌, ◌<◌, ◌≤◌, length};
 ghost use Rattle.bits.specs.Bit.{bit, with_bit, ones, BitIs, BitsFit, AllSet};
 ghost use Rattle.bits.specs.Find.{Lowest};
@@ -32,7 +34,7 @@ pub fn clear_bit(s: &mut [u8], from: usize, x: u32)
 }
 
 // A bit number that may be missing.
-#[derive(Drop)]
+#[derive(Clone, Copy)]
 pub enum Found {
     At(u32),
     Nothing,

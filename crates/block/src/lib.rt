@@ -1,5 +1,6 @@
 // Blocks of an image: their addresses and indexes, and the linked block with its next address.
 // Stores are functions of specs/ on the list of bytes; what a store leaves is said by `Kept` over (block, offset).
+#![tactic(auto)]
 ghost use Rattle.std.specs.Prelude.{◌≡◌, ◌+◌, ◌-◌, ◌*◌, ◌≤◌, ◌<◌, ◌^◌, length};
 ghost use Rattle.block.specs.Block.{BlockSize, next, linked, zeroed};
 
@@ -7,11 +8,11 @@ ghost use Rattle.block.specs.Block.{BlockSize, next, linked, zeroed};
 pub const BLOCK_SIZE: u32 = 512;
 
 // A block counted from the start of the image.
-#[derive(Drop)]
+#[derive(Clone, Copy)]
 pub struct Addr(pub u32);
 
 // A block counted from the start of the data area.
-#[derive(Drop)]
+#[derive(Clone, Copy)]
 pub struct Index(pub u32);
 
 impl Addr {
@@ -54,7 +55,7 @@ pub fn clear(img: &mut [u8], size: u32, a: Addr, k: u32)
 }
 
 // A block of a chain: a next address, then data bytes to the block's end.
-#[derive(Drop)]
+#[derive(Clone, Copy)]
 pub struct LinkedBlock {
     pub size: u32,
     pub addr: Addr,

@@ -1,4 +1,5 @@
 // The public calls that read: open, info, list, read and seek. Their answers for a caller are those of `mfs`.
+#![tactic(auto)]
 ghost use Rattle.std.specs.Prelude.{◌≡◌, ◌-◌, ◌≤◌, length, take};
 ghost use Rattle.model.specs.Geometry.{mount};
 ghost use Rattle.super_block.specs.Super.{area_in, Fit};
@@ -22,14 +23,14 @@ use read_dir::{Listed, Summed};
 use super_block::{Opened, SuperBlock};
 
 // An opened file: the handle stands at position 0. A refused open gives an empty handle.
-#[derive(Drop)]
+#[derive(Clone, Copy)]
 pub struct OpenOut {
     pub answer: Answer,
     pub handle: Handle,
 }
 
 // What is known of an entry; the name stands in the first len bytes. All is empty where the answer is a refusal.
-#[derive(Drop)]
+#[derive(Clone, Copy)]
 pub struct InfoOut {
     pub answer: Answer,
     pub kind: Kind,
@@ -40,7 +41,7 @@ pub struct InfoOut {
 }
 
 // The bytes of the records in the buffer, and the number of the entry after them.
-#[derive(Drop)]
+#[derive(Clone, Copy)]
 pub enum Listing {
     Records(usize, u32),
     Refused(Refusal),

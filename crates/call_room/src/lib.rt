@@ -1,4 +1,5 @@
 // Whether so many blocks are free, and how many bytes of the bitmap that takes to tell: the search of `bitmap_room`, of an image.
+#![tactic(auto)]
 ghost use Rattle.model.specs.Geometry.{mount};
 ghost use Rattle.call_room.specs.Room.{Asks};
 
@@ -6,7 +7,7 @@ use bitmap_room::Told;
 use limits::Refusal;
 use super_block::{Opened, SuperBlock};
 
-#[derive(Drop)]
+#[derive(Clone, Copy)]
 pub enum RoomOut {
     Known(Told),
     Refused(Refusal),

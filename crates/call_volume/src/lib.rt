@@ -1,5 +1,6 @@
 // The public calls on a volume as a whole: format, usage and the check; and the check that a changing call runs first.
 // Their answers for a caller are those of `mfs`, which passes them on.
+#![tactic(auto)]
 ghost use Rattle.std.specs.Prelude.{◌≡◌, ◌-◌, take};
 ghost use Rattle.model.specs.Geometry.{mount, block_size};
 ghost use Rattle.super_block.specs.Super.{geo_of, Fit, OpenedIs};
@@ -14,7 +15,7 @@ use limits::{Answer, Refusal};
 use super_block::{Opened, SuperBlock};
 
 // Bytes of the volume, bytes of its used blocks, and the rest; wide enough for 4 GiB.
-#[derive(Drop)]
+#[derive(Clone, Copy)]
 pub enum Space {
     Bytes { size: u64, used: u64, free: u64 },
     Refused(Refusal),

@@ -38,6 +38,7 @@
 //   w SLOT LEN SEED TIME X COUNT POSITION SIZE  write LEN bytes (4096 at most), byte j is (SEED + 7 * j) mod 251
 //   g DIGEST                                    the digest of the whole image now
 // DIGEST of bytes: from 0, for each byte d = (d * 257 + byte) mod 4,294,967,291. A step that cannot be read is answered `unread`.
+#![tactic(auto)]
 ghost use Rattle.std.specs.Prelude.{◌≡◌, ◌≤◌, ◌<◌, length};
 ghost use Rattle.io.specs.Counts.{IsPrefixLen};
 
@@ -66,7 +67,7 @@ const COLON: u8 = 58;
 const U32_MAX: u64 = 4_294_967_295;
 
 // What a call is told of where the volume is: the superblock's block, and the size code.
-#[derive(Drop)]
+#[derive(Clone, Copy)]
 struct Mount {
     k: u32,
     code: u32,
@@ -224,7 +225,7 @@ fn others(s: &[u8], b: u8) -> u64 {
 // be read there.
 
 // A number, whether a minus stands before it, and the place of the next field.
-#[derive(Drop)]
+#[derive(Clone, Copy)]
 struct Number {
     value: u64,
     minus: bool,
@@ -232,7 +233,7 @@ struct Number {
 }
 
 // Up to five numbers, the minus of the last, and the place of the next field.
-#[derive(Drop)]
+#[derive(Clone, Copy)]
 struct Row {
     n: [u64; 5],
     minus: bool,
@@ -240,7 +241,7 @@ struct Row {
 }
 
 // How many bytes were read into a lent buffer, and the place of the next field.
-#[derive(Drop)]
+#[derive(Clone, Copy)]
 struct Text {
     len: usize,
     next: usize,
@@ -248,7 +249,7 @@ struct Text {
 
 // A part of a string: so many bytes of that value, the place after it, 0 where it cannot be read, and whether text in quotes
 // goes on there.
-#[derive(Drop)]
+#[derive(Clone, Copy)]
 struct Piece {
     byte: u8,
     times: usize,
@@ -1040,7 +1041,7 @@ fn image_step(img: &mut [u8], base: &mut [u8], letter: u8, b: &[u8], p: Row) {
 
 // What the lines so far leave: how many bytes the image has, its mount, the length of the work buffer, the image's digest at the
 // last title, the handles.
-#[derive(Drop)]
+#[derive(Clone, Copy)]
 struct State {
     len: usize,
     m: Mount,

@@ -1,6 +1,7 @@
 // The zeros of W1, and W5, decided on the bytes of a volume's image: the superblock's last bytes, the bitmap against the marks
 // of a walk, and the used count. The marks stand in the work buffer: bit x is that of address D + x.
 // What the answers say of the definitions of a volume is in proofs/Top.antt and proofs/Marks.antt.
+#![tactic(auto)]
 ghost use Rattle.std.specs.Prelude.{◌≡◌, ◌+◌, ◌-◌, ◌*◌, ◌/◌, ◌≤◌, min, eqb, length};
 ghost use Rattle.wire.specs.Pick.{zero_from};
 ghost use Rattle.model.specs.Geometry.{data_at, set_bits, used_count};

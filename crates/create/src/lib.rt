@@ -1,5 +1,6 @@
 // Creating a file or a directory by its full path, on a volume that is opened and checked: refusals 8, 5, 6, 15, 7, 9 in this
 // order, then the stores of `create_store`.
+#![tactic(auto)]
 ghost use Rattle.std.specs.Prelude.{◌≡◌, ◌&&◌, ◌≤◌, leb, length, take};
 ghost use Rattle.model.specs.Volume.{max_depth};
 ghost use Rattle.super_block.specs.Super.{area_in, geo_of, Ready};
@@ -23,14 +24,14 @@ use super_block::SuperBlock;
 const NAME_LIMIT: usize = 255;
 
 // Where a new entry goes in its directory.
-#[derive(Drop)]
+#[derive(Clone, Copy)]
 enum Sited {
     At(Spot),
     Refused(Refusal),
 }
 
 // The holding directory's first address, and the new entry's block.
-#[derive(Drop)]
+#[derive(Clone, Copy)]
 pub enum Created {
     At(Addr, Addr),
     Refused(Refusal),

@@ -1,5 +1,6 @@
 // Creating a file or a directory: where the new entry goes in its directory, and the stores that put it there.
 // specs/Create.antt says each step; proofs/ shows that on a well-formed volume they are the tree's edit.
+#![tactic(auto)]
 ghost use Rattle.std.specs.Prelude.{◌≡◌, ◌++◌, ◌+◌, ◌-◌, ◌*◌, ◌≤◌, ◌<◌, length};
 ghost use Rattle.wire.specs.Be.{splice};
 ghost use Rattle.block.specs.Block.{BlockSize, linked};
@@ -16,7 +17,7 @@ use read_dir::Place;
 use super_block::SuperBlock;
 
 // Where a new entry goes: at a place of the directory, or into a new block after its last one.
-#[derive(Drop)]
+#[derive(Clone, Copy)]
 pub enum Spot {
     In(Place),
     After(Addr),

@@ -1,6 +1,7 @@
 // Deleting an entry by its full path, on a volume that is opened and checked: refusals 5, 6, 14 in this order, then the stores
 // of `delete_store`. All that may refuse is read before the first store, and the contracts hold on any opened image; on a volume
 // they are the tree's delete (proofs/OnVolume.antt). A path is the first bytes of a lent buffer, as the crate path leaves it.
+#![tactic(auto)]
 ghost use Rattle.std.specs.Prelude.{◌≡◌, ◌≤◌, length, take};
 ghost use Rattle.super_block.specs.Super.{geo_of, Fit, Ready};
 ghost use Rattle.path.specs.Path.{path_limit};
@@ -17,13 +18,13 @@ use read_dir::{Found, Place};
 use super_block::SuperBlock;
 
 // The entry to delete: the first address of its directory, its fixed part, its place there, and that directory's own entry.
-#[derive(Drop)]
+#[derive(Clone, Copy)]
 enum Dooms {
     At(Addr, DirEntry, Place, Own),
     Refused(Refusal),
 }
 
-#[derive(Drop)]
+#[derive(Clone, Copy)]
 pub enum Deleted {
     Done,
     Refused(Refusal),

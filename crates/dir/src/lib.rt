@@ -1,5 +1,6 @@
 // Directories and entries by their path, on any image: the reading half of dir.rs.
 // A path is the first bytes of a lent buffer, as the crate path leaves it.
+#![tactic(auto)]
 ghost use Rattle.std.specs.Prelude.{◌≡◌, ◌≤◌, length, take, drop};
 ghost use Rattle.model.specs.Answers.{accepted};
 ghost use Rattle.super_block.specs.Super.{area_in, Fit};
@@ -16,14 +17,14 @@ use read_dir::{Found, Place};
 use super_block::SuperBlock;
 
 // A directory's first address.
-#[derive(Drop)]
+#[derive(Clone, Copy)]
 pub enum Opened {
     At(Addr),
     Refused(Refusal),
 }
 
 // The entry at a path: the directory that holds it, and its fixed part.
-#[derive(Drop)]
+#[derive(Clone, Copy)]
 pub enum Located {
     At(Addr, DirEntry),
     Refused(Refusal),
@@ -31,14 +32,14 @@ pub enum Located {
 
 // A directory that a path leads to, with what a change of it needs: its first address, where its own entry stands, and its
 // depth. The root is at depth 0 and has no own entry.
-#[derive(Drop)]
+#[derive(Clone, Copy)]
 pub struct Holding {
     pub dir: Addr,
     pub own: Own,
     pub depth: u32,
 }
 
-#[derive(Drop)]
+#[derive(Clone, Copy)]
 pub enum Holds {
     At(Holding),
     Refused(Refusal),

@@ -1,4 +1,5 @@
 // One directory entry: its kind, its fixed part, decoding by the four stop rules, and encoding.
+#![tactic(auto)]
 ghost use Rattle.std.specs.Prelude.{◌≡◌, ◌+◌, ◌*◌, ◌≤◌, ◌<◌, length};
 ghost use Rattle.wire.specs.Be.{splice};
 ghost use Rattle.block.specs.Block.{BlockSize};
@@ -7,7 +8,7 @@ ghost use Rattle.dir_entry.specs.Entry.{kind_at, kind_byte, entry_at, head_bytes
 use block::{Addr, LinkedBlock};
 
 // What an entry stands for.
-#[derive(Drop)]
+#[derive(Clone, Copy)]
 pub enum Kind {
     Dir,
     File,
@@ -15,7 +16,7 @@ pub enum Kind {
 }
 
 // The fixed part of an entry; the name of len bytes follows it in the block.
-#[derive(Drop)]
+#[derive(Clone, Copy)]
 pub struct DirEntry {
     pub kind: Kind,
     pub addr: Addr,
@@ -25,7 +26,7 @@ pub struct DirEntry {
 }
 
 // What stands at an offset of a block.
-#[derive(Drop)]
+#[derive(Clone, Copy)]
 pub enum Slot {
     Entry(DirEntry),
     Stop,

@@ -1,5 +1,6 @@
 // Reading by a handle, on any image: the chain of a file is followed before a byte is copied.
 // A refusal hands back the very handle that was given.
+#![tactic(auto)]
 ghost use Rattle.std.specs.Prelude.{◌≡◌, false, ◌+◌, ◌-◌, ◌≤◌, ◌<◌, length};
 ghost use Rattle.wire.specs.Be.{splice};
 ghost use Rattle.super_block.specs.Super.{area_in, Fit};
@@ -13,7 +14,7 @@ use limits::{Answer, Refusal};
 use super_block::SuperBlock;
 
 // Where a walk along a chain came to.
-#[derive(Drop)]
+#[derive(Clone, Copy)]
 enum Walked {
     At(Addr),
     Damaged,

@@ -1,5 +1,6 @@
 // The handle of a file: its own fields, seeking, and its entry in the directory that holds it.
 // A handle goes in by value and comes back advanced; a refusal hands back the very handle that was given.
+#![tactic(auto)]
 ghost use Rattle.std.specs.Prelude.{◌≡◌, true, false, ◌&&◌, ◌+◌, ◌-◌, ◌*◌, ◌≤◌, ◌<◌, eqb, length};
 ghost use Rattle.wire.specs.Be.{be};
 ghost use Rattle.wire.specs.Pick.{same};
@@ -20,7 +21,7 @@ use read_dir::{Found, Place, ReadDir, Step};
 use super_block::SuperBlock;
 
 // What an open file is known by. The name stands in the first len bytes.
-#[derive(Drop)]
+#[derive(Clone, Copy)]
 pub struct Handle {
     pub dir: Addr,
     pub name: [u8; 255],
@@ -31,7 +32,7 @@ pub struct Handle {
 }
 
 // Where a seek goes: from the start, from the position, from the end.
-#[derive(Drop)]
+#[derive(Clone, Copy)]
 pub enum SeekFrom {
     Start(u32),
     Current(i32),
@@ -39,21 +40,21 @@ pub enum SeekFrom {
 }
 
 // What a seek gives: its answer, and the handle after it.
-#[derive(Drop)]
+#[derive(Clone, Copy)]
 pub struct Sought {
     pub answer: Answer,
     pub handle: Handle,
 }
 
 // How many bytes were read or written.
-#[derive(Drop)]
+#[derive(Clone, Copy)]
 pub enum Counted {
     Bytes(usize),
     Refused(Refusal),
 }
 
 // What a read or a write gives: its answer, and the handle after it.
-#[derive(Drop)]
+#[derive(Clone, Copy)]
 pub struct CountedOut {
     pub answer: Counted,
     pub handle: Handle,

@@ -1,5 +1,6 @@
 // What all calls share: the refusals with their numbers, the limits of a volume, how many blocks a file has
 // and how many bytes a block.
+#![tactic(auto)]
 ghost use Rattle.std.specs.Prelude.{◌≡◌, ◌-◌, ◌<◌, min};
 ghost use Rattle.block.specs.Block.{BlockSize};
 ghost use Rattle.limits.specs.Refusals.{refusal_number};
@@ -34,7 +35,7 @@ pub fn run_of(capacity: usize, o: usize, k: usize) -> usize
 }
 
 // Why a call is refused, in the order of the rules R.
-#[derive(Drop)]
+#[derive(Clone, Copy)]
 pub enum Refusal {
     // 1: the image is empty, no multiple of the block size, over the limit, or ends before the bitmap
     BadImage,
@@ -75,7 +76,7 @@ pub enum Refusal {
 }
 
 // The answer of a call that gives nothing back but a refusal.
-#[derive(Drop)]
+#[derive(Clone, Copy)]
 pub enum Answer {
     Success,
     Refused(Refusal),

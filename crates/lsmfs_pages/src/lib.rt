@@ -1,5 +1,6 @@
 // What the listing program writes, made in a lent buffer: a page of the root's lines at a time, or why an image is refused. The
 // program itself reads the image and writes these bytes, which no contract can say.
+#![tactic(auto)]
 ghost use Rattle.std.specs.Prelude.{◌*◌, ◌≤◌, length};
 ghost use Rattle.model.specs.Geometry.{mount};
 ghost use Rattle.limits.specs.Refusals.{refusal_number};
@@ -15,7 +16,7 @@ const CODE: u32 = 0;
 
 // How many bytes of text stand at the buffer's start, and the number of the entry after them: where that is the number asked for,
 // nothing is left.
-#[derive(Drop)]
+#[derive(Clone, Copy)]
 pub struct Said {
     pub len: usize,
     pub next: u32,

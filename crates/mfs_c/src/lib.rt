@@ -1,6 +1,7 @@
 // The public calls for programs in C and Rust, on numbers, byte slices and arrays of fixed size. Each answers 0, or the number of
 // its refusal; a refusal leaves every out parameter as it was. A size code that is not known is refused by 2, before the refusals
 // that stand with each call. include/mfs_c.h declares them.
+#![tactic(auto)]
 ghost use Rattle.std.specs.Prelude.{◌≡◌};
 ghost use Rattle.wire.specs.Pick.{pick};
 ghost use Rattle.model.specs.Geometry.{mount};

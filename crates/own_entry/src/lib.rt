@@ -1,4 +1,5 @@
 // A directory's own entry, which stands in the directory above it: its size and time are stored here, and nowhere else.
+#![tactic(auto)]
 ghost use Rattle.std.specs.Prelude.{◌≡◌};
 ghost use Rattle.block.specs.Block.{BlockSize};
 ghost use Rattle.super_block.specs.Super.{geo_of, Fit};
@@ -11,7 +12,7 @@ use read_dir::{Place, Summed};
 use super_block::SuperBlock;
 
 // Where a directory's own entry stands; the root has none.
-#[derive(Drop)]
+#[derive(Clone, Copy)]
 pub enum Own {
     Root,
     At(Place),

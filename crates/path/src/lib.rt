@@ -1,6 +1,7 @@
 // Paths: the full path of a call, its directory part and its last name as places in the bytes, and the pieces of a
 // directory part.
 // Everything is tested before the first byte is written, so a refusal leaves the buffer as it was.
+#![tactic(auto)]
 ghost use Rattle.std.specs.Prelude.{◌≡◌, false, not, ◌||◌, [], ◌∷◌, ◌++◌, ◌+◌, ◌≤◌, ltb, leb, length, take, replicate};
 ghost use Rattle.wire.specs.Be.{splice};
 ghost use Rattle.wire.specs.Pick.{pick, same};
@@ -14,14 +15,14 @@ pub const PATH_LIMIT: usize = 1024;
 const SLASH: u8 = b'/';
 
 // How long a full path is, or refusal 4.
-#[derive(Drop)]
+#[derive(Clone, Copy)]
 pub enum Real {
     Len(usize),
     Refused,
 }
 
 // Of a full path: where its directory part ends, and where its last name begins and ends.
-#[derive(Drop)]
+#[derive(Clone, Copy)]
 pub struct Parts {
     pub dir: usize,
     pub from: usize,

@@ -1,5 +1,6 @@
 // The entries of a directory, read from any image: the cursor, the names, the sum. Lookup and listing stand on it, each in a
 // crate of its own (dir_lookup, dir_list). Damage is met on the walk, and a walk goes no further than its answer needs (O12).
+#![tactic(auto)]
 ghost use Rattle.std.specs.Prelude.{◌≡◌, ◌+◌, ◌-◌, ◌*◌, ◌≤◌, ◌<◌, ◌^◌, length};
 ghost use Rattle.wire.specs.Pick.{same};
 ghost use Rattle.block.specs.Block.{BlockSize};
@@ -17,7 +18,7 @@ use super_block::SuperBlock;
 pub const RECORD: usize = 14;
 
 // Where reading goes on, and how many blocks of the chain may still be read, this one counted.
-#[derive(Drop)]
+#[derive(Clone, Copy)]
 pub struct ReadDir {
     pub block: Addr,
     pub offset: usize,
@@ -25,14 +26,14 @@ pub struct ReadDir {
 }
 
 // Where an entry stands: its block, and its offset in the block's data.
-#[derive(Drop)]
+#[derive(Clone, Copy)]
 pub struct Place {
     pub block: Addr,
     pub offset: usize,
 }
 
 // One move of reading: an entry, another place, the end or damage.
-#[derive(Drop)]
+#[derive(Clone, Copy)]
 enum Move {
     Entry(DirEntry, Place, ReadDir),
     Go(ReadDir),
@@ -41,28 +42,28 @@ enum Move {
 }
 
 // The next entry, with the cursor past it.
-#[derive(Drop)]
+#[derive(Clone, Copy)]
 pub enum Step {
     Entry(DirEntry, Place, ReadDir),
     End,
     Damaged,
 }
 
-#[derive(Drop)]
+#[derive(Clone, Copy)]
 pub enum Found {
     At(DirEntry, Place),
     Missing,
     Damaged,
 }
 
-#[derive(Drop)]
+#[derive(Clone, Copy)]
 pub enum Summed {
     Total(u32),
     Damaged,
 }
 
 // The bytes of the records and the number of the entry after them.
-#[derive(Drop)]
+#[derive(Clone, Copy)]
 pub enum Listed {
     Records(usize, u32),
     Damaged,

@@ -1,5 +1,6 @@
 // The superblock: the numbers of a volume, or why there are none (refusals 1, 2, 3); the used count.
 // Only this crate computes D and the reach; all others take them from the struct.
+#![tactic(auto)]
 ghost use Rattle.std.specs.Prelude.{◌≡◌, ◌+◌, ◌-◌, ◌*◌, ◌/◌, ◌≤◌, ◌<◌, min, eqb, length};
 ghost use Rattle.wire.specs.Pick.{pick};
 ghost use Rattle.block.specs.Block.{BlockSize};
@@ -24,7 +25,7 @@ const OLD_VERSION: u8 = 1;
 const MAX_CODE: u32 = 1;
 
 // The numbers of a volume.
-#[derive(Drop)]
+#[derive(Clone, Copy)]
 pub struct SuperBlock {
     // where the superblock stands
     pub addr: Addr,
@@ -43,7 +44,7 @@ pub struct SuperBlock {
     pub reach: u32,
 }
 
-#[derive(Drop)]
+#[derive(Clone, Copy)]
 pub enum Opened {
     At(SuperBlock),
     Refused(Refusal),

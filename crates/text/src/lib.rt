@@ -1,5 +1,6 @@
 // Text: well-formed UTF-8 by RFC 3629 without controls. A name is text without `/`.
 // Most texts have plain bytes alone, so these are passed first; the walk along characters begins at the first other byte.
+#![tactic(auto)]
 ghost use Rattle.std.specs.Prelude.{◌≡◌, ◌≤◌, length, drop};
 ghost use Rattle.text.specs.Text.{table, begun, step, is_text, has_byte, is_name};
 ghost use Rattle.text.specs.Awaited.{ranges, due, Passed};
@@ -10,7 +11,7 @@ const SLASH: u8 = b'/';
 const DELETE: u8 = 0x7F;
 
 // What is due of a character: how many bytes, and the range of the next of them. All behind it are from 0x80 to 0xBF.
-#[derive(Drop)]
+#[derive(Clone, Copy)]
 pub struct Due {
     pub left: u8,
     pub low: u8,

@@ -1,5 +1,7 @@
 // Bytes of a lent slice: big-endian numbers at a place, and runs of bytes filled, copied and moved.
 // Every store is a `splice` of the list of bytes, and every number read is a `be`; their laws are in proofs/Numbers.antt.
+#![tactic(auto)]
+
 ghost use Rattle.std.specs.Prelude.{◌≡◌, ◌&&◌, ◌+◌, ◌≤◌, ◌<◌, ◌^◌, eqb, length, take, drop, replicate};
 ghost use Rattle.wire.specs.Be.{be, bytes, splice};
 ghost use Rattle.wire.specs.Pick.{same, zero_from};

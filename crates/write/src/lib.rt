@@ -1,5 +1,6 @@
 // Writing by a handle, on a checked volume: the refusals in order, then the stores of `write_store`.
 // A refusal hands back the very handle that was given.
+#![tactic(auto)]
 ghost use Rattle.std.specs.Prelude.{◌≡◌, true, false, ◌+◌, ◌-◌, ◌≤◌, ◌<◌};
 ghost use Rattle.super_block.specs.Super.{geo_of, Fit, Ready};
 ghost use Rattle.write.specs.Writing.{too_long, unreached, no_room, held_at, target_of, grown_handle};
@@ -15,7 +16,7 @@ use super_block::SuperBlock;
 const END_LIMIT: usize = limits::FILE_LIMIT as usize;
 
 // Where a write goes: the entry of the handle's file, and its place.
-#[derive(Drop)]
+#[derive(Clone, Copy)]
 pub enum Targeted {
     At(DirEntry, Place),
     Refused(Refusal),

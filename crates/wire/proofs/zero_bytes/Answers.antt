@@ -1,0 +1,13 @@
+use Prim.Native.Nat.{◌-◌}
+use borrow.Author.Rules.{rules}
+use Rattle.wire.proofs.Zeros.{left-start, left-more, left-none}
+use Rattle.wire.proofs.zero_bytes.Goals as goal
+
+pub loop-i-init : goal.loop-i-init
+loop-i-init c = (search rules, search (left-start, rules))
+
+pub loop-i-preserved : goal.loop-i-preserved
+loop-i-preserved c = (search rules, search (left-more, rules))
+
+pub returns : goal.returns
+returns c = search (left-none, rules)

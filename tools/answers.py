@@ -1,0 +1,242 @@
+#!/usr/bin/env python3
+"""Turns each proofs/F/Proof.antt of a crate, which passes every goal of F to tie.spec, to proofs/F/Invariants.antt and proofs/F/Answers.antt.
+
+usage: tools/answers.py CRATE NAMES [F..]     NAMES: the folder that `rt check --generated NAMES --old-names` wrote, run in the crate's folder
+
+What a goal and a step were called, and are called now, stands in NAMES/names.json. A path c.before.before.STEP is followed from place to place to the step that it
+names; an answer that only says `search rules` goes, since the check tries that itself.
+"""
+import glob, json, os, re, sys
+
+crate, names = sys.argv[1:3]
+only = sys.argv[3:]
+root = 'crates/%s/proofs/' % crate
+data = json.load(open(os.path.join(names, 'names.json'), encoding='utf-8'))
+
+
+def plain(n):
+    n = n.replace('_', '-')
+    return n[9:] if n.startswith('overflow-') else n
+
+
+def blocks(text):
+    """The top-level declarations of a file, each as its lines; `use` lines apart."""
+    uses, out, cur = [], [], []
+    for line in text.split('\n'):
+        if line.startswith('use '):
+            uses.append(line)
+        elif not line.strip():
+            if cur:
+                out.append(cur)
+            cur = []
+        elif re.match(r'(abbrev|pub|unfoldable|module|data|record|\S+ :)', line) and cur and not cur[-1].startswith('--') and re.match(r'(?:abbrev |pub |unfoldable )*\S+ :', line):
+            out.append(cur)
+            cur = [line]
+        else:
+            cur.append(line)
+    if cur:
+        out.append(cur)
+    return uses, out
+
+
+class Fn:
+    def __init__(self, path, info):
+        self.path, self.info = path, info
+        self.places = {p[0]: p for p in info['places']}
+        self.clauses = {p[0]: c for p, c in zip(info['places'], info['clauses'])}
+        self.arms = {p[0]: c for p, c in zip(info['places'], info['arms'])}
+        self.said = []
+
+    def step(self, place, word):
+        """The new name of the step `word` of a place."""
+        if word in ('args', 'requires'):
+            return word
+        p = self.places[place]
+        old, new = p[2]
+        if plain(old) == plain(word):
+            return new
+        self.said.append('no step %s at %s (%s)' % (word, place, old))
+        return None
+
+    def clause(self, place, word, rest):
+        """rest with a numbered clause by its name."""
+        if word == 'requires':
+            fields = self.info['pre']['fields']
+        elif len(rest) > 1 and rest[0] in ('ensures', 'requires'):
+            fields = self.clauses.get(place)
+            if fields and rest[1].isdigit() and int(rest[1]) < len(fields):
+                return [rest[0], fields[int(rest[1])]] + rest[2:]
+            return rest
+        else:
+            return rest
+        if fields and rest and rest[0].isdigit() and int(rest[0]) < len(fields):
+            return [fields[int(rest[0])]] + rest[1:]
+        return rest
+
+    def chains(self, body, place):
+        bound = {'c': place}
+        # let x = c.before.before in: x stands at a place
+        pat = re.compile(r"let ([\w']+) = (\w+)((?:\.before)+) in\s*")
+        while True:
+            m = next((m for m in pat.finditer(body) if m.group(2) in bound), None)
+            if not m:
+                break
+            at = self.climb(bound[m.group(2)], m.group(3).count('.before'))
+            bound[m.group(1)] = at
+            body = body[:m.start()] + body[m.end():]
+        path = re.compile(r"(?<![\w.'-])(%s)((?:\.[^\s.(){}\[\],;]+)+)" % '|'.join(bound))
+
+        def turn(m):
+            place, parts = bound[m.group(1)], m.group(2)[1:].split('.')
+            n = 0
+            while n < len(parts) and parts[n] == 'before':
+                n += 1
+            place = self.climb(place, n)
+            if place is None or n == len(parts):
+                self.said.append('cannot follow ' + m.group(0))
+                return m.group(0)
+            word = self.step(place, parts[n])
+            if word is None:
+                return m.group(0)
+            rest = self.clause(place, word, parts[n + 1:])
+            return '.'.join(['c', word] + rest)
+
+        body = path.sub(turn, body)
+        for b in bound:
+            if b != 'c' and re.search(r"(?<![\w.'-])%s(?![\w'-])" % b, body):
+                self.said.append('%s still stands for a place' % b)
+        return body
+
+    def climb(self, place, n):
+        for _ in range(n):
+            if place is None:
+                return None
+            place = self.places[place][1]
+        return place
+
+    def live(self, k, lines):
+        """The body of an invariant or measure over l."""
+        text = '\n'.join(lines)
+        m = re.match(r'\S+((?: \S+)*?) =\s*', text)
+        params, body = m.group(1).split(), text[m.end():]
+        (old, new), vars_ = self.info['loops'][k]
+        changed = self.info['changed'][k]
+        want = [('l.initial.' + v if ch else 'l.' + v) for v, ch in zip(vars_, changed)] + ['l.' + v for v, ch in zip(vars_, changed) if ch]
+        if len(want) != len(params):
+            self.said.append('loop %s has %d variables, its invariant %d' % (new, len(want), len(params)))
+        table = dict(zip(params, want))
+        return re.sub(r"(?<![\w.'-])(%s)(?![\w'-])" % '|'.join(re.escape(p) for p in sorted(table, key=len, reverse=True)), lambda m: table[m.group(1)], body) if table else body
+
+    def turn(self, text):
+        uses, parts = blocks(text)
+        dead = re.compile(r'use Rattle\.\S+\.(?:Statement\.\{statement\}|Tie as tie|Tie\.\{.*\}|Lts as lts|\S*Reads as \S+|Kinds as \S+)$')
+        uses = [u for u in uses if not dead.match(u) and not re.search(r'\.Reads as \S+$', u)]
+        inv, ans, helpers = [], [], []
+        order = [plain(o) for o, _ in self.info['needs']]
+        loops = {plain(l[0][0]): i for i, l in enumerate(self.info['loops'])}
+        for b in parts:
+            notes = [x for x in b if x.startswith('--')]
+            b = [x for x in b if not x.startswith('--')]
+            if not b:
+                continue
+            head = b[0]
+            m = re.match(r'abbrev (?:pub )?(\S+) : tie\.(invariant|decreases)-(\S+)$', head)
+            if m:
+                k = loops.get(plain(m.group(3)))
+                if k is None:
+                    self.said.append('no loop ' + m.group(3))
+                    continue
+                new = self.info['loops'][k][0][1]
+                name = '%s-%s' % (m.group(2), new)
+                notes = [x for x in notes if not re.match(r'-- src/', x)]
+                opened = [x for x in b[1:] if x.startswith('unfolding')]
+                inv.append('\n'.join(notes + ['abbrev pub %s : goal.%s' % (name, name)] + opened + ['%s l = %s' % (name, self.live(k, [x for x in b[1:] if not x.startswith('unfolding')]))]))
+                continue
+            sig = ' '.join(b)
+            m = re.match(r'(\S+) :\s+tie\.Need-(\S+)', sig)
+            if m:
+                word = plain(m.group(2))
+                # the signature may go over several lines: the body begins with the answer's own name
+                i = next(i for i, x in enumerate(b) if i and (x.startswith(m.group(1) + ' ') or x.startswith('unfolding')))
+                opened = []
+                while b[i].startswith('unfolding'):
+                    opened.append(b[i])
+                    i += 1
+                body = '\n'.join(b[i:])
+                if word not in order:
+                    self.said.append('no goal %s of %s' % (word, order))
+                    continue
+                k = order.index(word)
+                new = self.info['needs'][k][1]
+                place = self.info['asked_at'][k][0]
+                h = re.match(r'%s((?: \S+)*?) =\s*' % re.escape(m.group(1)), body)
+                heads = [x for x in h.group(1).split() if x != 'κs']
+                body = body[h.end():]
+                if body.strip() == 'search rules' and not opened:
+                    continue
+                if 'κs' in body:
+                    self.said.append('κs in ' + new)
+                body = self.chains(body, place)
+                sep = '\n    ' if '\n' in body or len(body) > 120 else ' '
+                notes = [x for x in notes if not re.match(r'-- src/', x)]
+                ans.append('\n'.join(notes + ['pub %s : goal.%s' % (new, new)] + opened + ['%s %s =%s%s' % (new, ' '.join(heads), sep, body)]))
+                continue
+            if re.match(r'pub \S+[-_]spec : ', head):
+                continue
+            helpers.append('\n'.join(notes + b))
+        module = 'Rattle.%s.proofs.%s' % (crate, self.path.replace('/', '.'))
+        files = {}
+        if inv:
+            mine = [h for h in helpers if any(used(h, i) for i in inv)]
+            files['Invariants.antt'] = '\n'.join(uses + ['use %s.Given as goal' % module]) + '\n\n' + '\n\n'.join(mine + inv) + '\n'
+            helpers = [h for h in helpers if h not in mine]
+        if ans or helpers:
+            files['Answers.antt'] = '\n'.join(uses + ['use %s.Goals as goal' % module]) + '\n\n' + '\n\n'.join(helpers + ans) + '\n'
+        return {f: trim(t) for f, t in files.items()}
+
+
+def used(helper, text):
+    m = re.search(r'^(?:abbrev |pub |unfoldable )*(\S+) :', helper, re.M)
+    return bool(m and re.search(r"(?<![\w'-])%s(?![\w'-])" % re.escape(m.group(1)), text))
+
+
+def trim(text):
+    """Drops the imports that the file does not use."""
+    lines = text.split('\n')
+    rest = '\n'.join(x for x in lines if not x.startswith('use '))
+    out = []
+    for x in lines:
+        m = re.match(r'(use [^\s{]+\.)\{([^}]*)\}$', x)
+        if m:
+            kept = []
+            for n in m.group(2).split(','):
+                n = n.strip()
+                bits = [b for b in n.split('◌') if b]
+                if all(re.search(r"(?<![\w'-])%s(?![\w'-])" % re.escape(b), rest) if re.match(r'\w', b) else b in rest for b in bits):
+                    kept.append(n)
+            if kept:
+                out.append('%s{%s}' % (m.group(1), ', '.join(kept)))
+        else:
+            out.append(x)
+    return '\n'.join(out)
+
+
+for p in sorted(glob.glob(root + '**/Proof.antt', recursive=True)):
+    path = os.path.relpath(os.path.dirname(p), root)
+    if only and path not in only:
+        continue
+    key = 'Rattle-%s-proofs.%s.Lts' % (crate, path.replace('/', '.'))
+    if key not in data:
+        print('no names for', path, [k for k in data if path.split('/')[-1] in k][:3])
+        continue
+    f = Fn(path, data[key])
+    try:
+        made = f.turn(open(p, encoding='utf-8').read())
+    except Exception as e:
+        print('failed', path, type(e).__name__, e)
+        continue
+    for name, text in made.items():
+        open(os.path.join(os.path.dirname(p), name), 'w', encoding='utf-8').write(text)
+    os.remove(p)
+    for s in f.said:
+        print(path + ':', s)
