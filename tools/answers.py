@@ -45,6 +45,7 @@ class Fn:
         self.places = {p[0]: p for p in info['places']}
         self.clauses = {p[0]: c for p, c in zip(info['places'], info['clauses'])}
         self.arms = {p[0]: c for p, c in zip(info['places'], info['arms'])}
+        self.typed = {p[0]: c for p, c in zip(info['places'], info['typed'])}
         self.said = []
 
     def step(self, place, word):
@@ -73,8 +74,8 @@ class Fn:
             return [fields[int(rest[0])]] + rest[1:]
         return rest
 
-    def chains(self, body, place):
-        bound = {'c': place}
+    def chains(self, body, goal):
+        bound = {'c': goal}
         # let x = c.before.before in: x stands at a place
         pat = re.compile(r"let ([\w']+) = (\w+)((?:\.before)+) in\s*")
         while True:
@@ -95,6 +96,9 @@ class Fn:
             if place is None or n == len(parts):
                 self.said.append('cannot follow ' + m.group(0))
                 return m.group(0)
+            known = [v for v, s in self.typed.get(goal, []) if plain(s) == plain(parts[n])]
+            if known and parts[n + 1:n + 2] == ['given']:
+                return '.'.join(['c', 'type_inv', known[0]] + parts[n + 2:])
             word = self.step(place, parts[n])
             if word is None:
                 return m.group(0)
@@ -211,7 +215,7 @@ def trim(text):
             kept = []
             for n in m.group(2).split(','):
                 n = n.strip()
-                bits = [b for b in n.split('◌') if b]
+                bits = [b for b in n.split(' as ')[-1].split('◌') if b]
                 if all(re.search(r"(?<![\w'-])%s(?![\w'-])" % re.escape(b), rest) if re.match(r'\w', b) else b in rest for b in bits):
                     kept.append(n)
             if kept:

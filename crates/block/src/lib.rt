@@ -1,6 +1,7 @@
 // Blocks of an image: their addresses and indexes, and the linked block with its next address.
 // Stores are functions of specs/ on the list of bytes; what a store leaves is said by `Kept` over (block, offset).
 #![tactic(auto)]
+
 ghost use Rattle.std.specs.Prelude.{◌≡◌, ◌+◌, ◌-◌, ◌*◌, ◌≤◌, ◌<◌, ◌^◌, length};
 ghost use Rattle.block.specs.Block.{BlockSize, next, linked, zeroed};
 

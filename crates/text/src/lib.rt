@@ -1,6 +1,7 @@
 // Text: well-formed UTF-8 by RFC 3629 without controls. A name is text without `/`.
 // Most texts have plain bytes alone, so these are passed first; the walk along characters begins at the first other byte.
 #![tactic(auto)]
+
 ghost use Rattle.std.specs.Prelude.{◌≡◌, ◌≤◌, length, drop};
 ghost use Rattle.text.specs.Text.{table, begun, step, is_text, has_byte, is_name};
 ghost use Rattle.text.specs.Awaited.{ranges, due, Passed};

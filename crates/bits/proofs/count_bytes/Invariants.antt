@@ -1,0 +1,10 @@
+use Prim.Native.Nat.{◌-◌, ◌*◌, ◌≤◌}
+use mathlib.Core.Path.{◌≡◌}
+use Rattle.bits.specs.Bit.{ones}
+use Rattle.bits.proofs.count_bytes.Given as goal
+
+abbrev pub invariant-loop-i : goal.invariant-loop-i
+invariant-loop-i l = (l.i ≤ l.k) × (l.n ≡ ones l.s l.from (8 * l.i)) × (l.n ≤ 8 * l.i)
+
+abbrev pub decreases-loop-i : goal.decreases-loop-i
+decreases-loop-i l = l.k - l.i

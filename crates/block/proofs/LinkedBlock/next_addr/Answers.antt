@@ -1,0 +1,6 @@
+use Rattle.block.specs.Block.{next}
+use Rattle.block.proofs.LinkedBlock.next_addr.Goals as goal
+
+pub returns : goal.returns
+unfolding next
+returns c = cc
