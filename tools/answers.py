@@ -15,8 +15,7 @@ data = json.load(open(os.path.join(names, 'names.json'), encoding='utf-8'))
 
 
 def plain(n):
-    n = n.replace('_', '-')
-    return n[9:] if n.startswith('overflow-') else n
+    return re.sub(r'^(overflow|nonzero|bounds)-', '', n.replace('_', '-'))
 
 
 def blocks(text):
@@ -99,6 +98,9 @@ class Fn:
             known = [v for v, s in self.typed.get(goal, []) if plain(s) == plain(parts[n])]
             if known and parts[n + 1:n + 2] == ['given']:
                 return '.'.join(['c', 'type_inv', known[0]] + parts[n + 2:])
+            arm = self.arm(goal, place, parts[n:])
+            if arm:
+                return '.'.join(['c'] + arm)
             word = self.step(place, parts[n])
             if word is None:
                 return m.group(0)
@@ -110,6 +112,25 @@ class Fn:
             if b != 'c' and re.search(r"(?<![\w.'-])%s(?![\w'-])" % b, body):
                 self.said.append('%s still stands for a place' % b)
         return body
+
+    def arm(self, goal, place, parts):
+        """The path of a fact of a match's arm, which has one step now for what were several."""
+        at = goal
+        while at is not None:
+            it = self.arms.get(at)
+            if it:
+                over, q = [], at
+                for _ in range(it[1]):
+                    over.append(q)
+                    q = self.places[q][1]
+                if place in over:
+                    for field, old, path in sorted(it[2], key=lambda x: -len(x[2])):
+                        if plain(old) == plain(parts[0]) and parts[1:1 + len(path)] == path:
+                            if field.endswith('-own'):
+                                return [it[0]] + parts[1 + len(path):]
+                            return [it[0], field] + parts[1 + len(path):]
+            at = self.places[at][1]
+        return None
 
     def climb(self, place, n):
         for _ in range(n):

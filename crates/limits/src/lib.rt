@@ -1,6 +1,7 @@
 // What all calls share: the refusals with their numbers, the limits of a volume, how many blocks a file has
 // and how many bytes a block.
 #![tactic(auto)]
+
 ghost use Rattle.std.specs.Prelude.{◌≡◌, ◌-◌, ◌<◌, min};
 ghost use Rattle.block.specs.Block.{BlockSize};
 ghost use Rattle.limits.specs.Refusals.{refusal_number};
