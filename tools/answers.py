@@ -38,6 +38,74 @@ def blocks(text):
     return uses, out
 
 
+def named(fields, rest):
+    if not fields or not rest or not rest[0].isdigit():
+        return rest
+    k = 0
+    while True:
+        if k == len(fields) - 1:
+            return [fields[k]] + rest
+        if not rest or not rest[0].isdigit():
+            return ['(' + '?'.join(fields[k:]) + ')'] + rest
+        d, rest = rest[0], rest[1:]
+        if d == '0':
+            return [fields[k]] + rest
+        k += 1
+
+
+def split_tuple(text):
+    """The parts of a text that is one (a, b, ..), else None."""
+    text = text.strip()
+    if not (text.startswith('(') and text.endswith(')')):
+        return None
+    depth, parts, cur = 0, [], ''
+    for i, ch in enumerate(text):
+        if ch in '([{':
+            depth += 1
+            if depth == 1:
+                continue
+        elif ch in ')]}':
+            depth -= 1
+            if depth == 0:
+                if i != len(text) - 1:
+                    return None
+                parts.append(cur)
+                break
+        if ch == ',' and depth == 1:
+            parts.append(cur)
+            cur = ''
+        else:
+            cur += ch
+    return [x.strip() for x in parts] if len(parts) > 1 else None
+
+
+def as_record(body, fields):
+    """An answer of several clauses, which was a pair or nested pairs, as a record."""
+    at = 0
+    depth = 0
+    # the last part of a chain of lets
+    for m in re.finditer(r'[(\[{)\]}]|(?<=\s)in\s', body):
+        if m.group(0) in '([{':
+            depth += 1
+        elif m.group(0) in ')]}':
+            depth -= 1
+        elif depth == 0:
+            at = m.end()
+    head, last = body[:at], body[at:]
+    parts = split_tuple(last)
+    if not parts:
+        return None
+    while len(parts) < len(fields):
+        more = split_tuple(parts[-1])
+        if not more:
+            return None
+        parts = parts[:-1] + more
+    if len(parts) != len(fields):
+        return None
+    lead = re.match(r'\s*', last).group(0)
+    return head + lead + 'record { ' + '; '.join('%s = %s' % (f, x) for f, x in zip(fields, parts)) + ' }'
+
+
 class Fn:
     def __init__(self, path, info):
         self.path, self.info = path, info
@@ -59,18 +127,11 @@ class Fn:
         return None
 
     def clause(self, place, word, rest):
-        """rest with a numbered clause by its name."""
+        """rest with a numbered clause by its name: the clauses were a pair whose second part is the pair of the others."""
         if word == 'requires':
-            fields = self.info['pre']['fields']
-        elif len(rest) > 1 and rest[0] in ('ensures', 'requires'):
-            fields = self.clauses.get(place)
-            if fields and rest[1].isdigit() and int(rest[1]) < len(fields):
-                return [rest[0], fields[int(rest[1])]] + rest[2:]
-            return rest
-        else:
-            return rest
-        if fields and rest and rest[0].isdigit() and int(rest[0]) < len(fields):
-            return [fields[int(rest[0])]] + rest[1:]
+            return named((self.info['pre'] or {}).get('fields'), rest)
+        if rest[:1] in (['ensures'], ['requires']):
+            return rest[:1] + named(self.clauses.get(place), rest[1:])
         return rest
 
     def chains(self, body, goal):
@@ -188,6 +249,8 @@ class Fn:
                     opened.append(b[i])
                     i += 1
                 body = '\n'.join(b[i:])
+                if word not in order and re.search(r'= search rules$', body.strip()):
+                    continue
                 if word not in order:
                     self.said.append('no goal %s of %s' % (word, order))
                     continue
@@ -202,6 +265,13 @@ class Fn:
                 if 'κs' in body:
                     self.said.append('κs in ' + new)
                 body = self.chains(body, place)
+                fields = self.info['asked'].get(self.info['needs'][k][0])
+                if fields:
+                    whole = as_record(body, fields)
+                    if whole is not None:
+                        body = whole
+                    elif not body.strip().startswith('search'):
+                        self.said.append('%s asks %s' % (new, ' '.join(fields)))
                 sep = '\n    ' if '\n' in body or len(body) > 120 else ' '
                 notes = [x for x in notes if not re.match(r'-- src/', x)]
                 ans.append('\n'.join(notes + ['pub %s : goal.%s' % (new, new)] + opened + ['%s %s =%s%s' % (new, ' '.join(heads), sep, body)]))

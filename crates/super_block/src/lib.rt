@@ -1,6 +1,7 @@
 // The superblock: the numbers of a volume, or why there are none (refusals 1, 2, 3); the used count.
 // Only this crate computes D and the reach; all others take them from the struct.
 #![tactic(auto)]
+
 ghost use Rattle.std.specs.Prelude.{◌≡◌, ◌+◌, ◌-◌, ◌*◌, ◌/◌, ◌≤◌, ◌<◌, min, eqb, length};
 ghost use Rattle.wire.specs.Pick.{pick};
 ghost use Rattle.block.specs.Block.{BlockSize};
