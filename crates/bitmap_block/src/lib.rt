@@ -1,5 +1,6 @@
 // The bitmap: which data blocks are taken. Blocks are taken, given back and counted here, and nowhere else.
 #![tactic(auto)]
+
 ghost use Rattle.std.specs.Prelude.{◌≡◌, ◌+◌, ◌*◌, ◌≤◌, ◌<◌, length, get_or};
 ghost use Rattle.bits.specs.Bit.{AllSet};
 ghost use Rattle.model.specs.Geometry.{block_size, map_at, data_at, bit_end, used_count};
