@@ -3,6 +3,7 @@
 // eight full ones are passed together, each read only where those before it are full; all others are counted singly.
 // (No contract can say what is not read: judge/damaged shows it, with a guard page behind the last byte.)
 #![tactic(auto)]
+
 ghost use Rattle.std.specs.Prelude.{◌≡◌, true, ◌+◌, ◌*◌, ◌≤◌, ◌<◌, ltb, length};
 ghost use Rattle.bits.specs.Bit.{ones, BitsFit};
 ghost use Rattle.super_block.specs.Super.{geo_of, Fit};
