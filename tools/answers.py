@@ -187,7 +187,7 @@ class Fn:
                 if place in over:
                     for field, old, path in sorted(it[2], key=lambda x: -len(x[2])):
                         if plain(old) == plain(parts[0]) and parts[1:1 + len(path)] == path:
-                            if field.endswith('-own'):
+                            if field.endswith('-own') and parts[1 + len(path):][:1] != ['rest']:
                                 return [it[0]] + parts[1 + len(path):]
                             return [it[0], field] + parts[1 + len(path):]
             at = self.places[at][1]

@@ -1,5 +1,6 @@
 // One directory entry: its kind, its fixed part, decoding by the four stop rules, and encoding.
 #![tactic(auto)]
+
 ghost use Rattle.std.specs.Prelude.{◌≡◌, ◌+◌, ◌*◌, ◌≤◌, ◌<◌, length};
 ghost use Rattle.wire.specs.Be.{splice};
 ghost use Rattle.block.specs.Block.{BlockSize};
