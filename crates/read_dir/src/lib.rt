@@ -1,6 +1,7 @@
 // The entries of a directory, read from any image: the cursor, the names, the sum. Lookup and listing stand on it, each in a
 // crate of its own (dir_lookup, dir_list). Damage is met on the walk, and a walk goes no further than its answer needs (O12).
 #![tactic(auto)]
+
 ghost use Rattle.std.specs.Prelude.{◌≡◌, ◌+◌, ◌-◌, ◌*◌, ◌≤◌, ◌<◌, ◌^◌, length};
 ghost use Rattle.wire.specs.Pick.{same};
 ghost use Rattle.block.specs.Block.{BlockSize};

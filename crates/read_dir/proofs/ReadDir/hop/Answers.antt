@@ -1,0 +1,13 @@
+use Rattle.block.proofs.Blocks.{linked-inside}
+use borrow.Author.Rules.{rules}
+use Rattle.read_dir.proofs.Moves.{hop-end, hop-go}
+use Rattle.read_dir.proofs.ReadDir.hop.Goals as goal
+
+pub next_addr-next-requires : goal.next_addr-next-requires
+next_addr-next-requires c = record { block_size = search rules; size_in_bounds = search linked-inside }
+
+pub returns-then-next-eq0 : goal.returns-then-next-eq0
+returns-then-next-eq0 c = search hop-end
+
+pub returns : goal.returns
+returns c = search hop-go
