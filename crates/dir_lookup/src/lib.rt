@@ -1,5 +1,6 @@
 // A directory's entry by its name, read from any image. Entries of other names are passed over by their lengths alone.
 #![tactic(auto)]
+
 ghost use Rattle.std.specs.Prelude.{◌≡◌, ◌+◌, ◌-◌, ◌*◌, ◌≤◌, ◌<◌, length};
 ghost use Rattle.wire.specs.Pick.{same};
 ghost use Rattle.block.specs.Block.{BlockSize};

@@ -1,0 +1,14 @@
+use Rattle.read_dir.proofs.Passes.{len-offset, len-kind, len-long, len_is}
+use Rattle.dir_lookup.proofs.entry_len.Goals as goal
+
+pub returns-then-capacity-o : goal.returns-then-capacity-o
+returns-then-capacity-o c = search len-offset
+
+pub returns-then-img-at-gt2 : goal.returns-then-img-at-gt2
+returns-then-img-at-gt2 c = search len-kind
+
+pub returns-then-capacity-o-2 : goal.returns-then-capacity-o-2
+returns-then-capacity-o-2 c = search len-long
+
+pub returns : goal.returns
+returns c = search len_is
