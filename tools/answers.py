@@ -53,6 +53,16 @@ def named(fields, rest):
         k += 1
 
 
+def lent_params(callee):
+    """The names of a function's `&mut` parameters."""
+    words = (callee or '').split('::')
+    for p in glob.glob('crates/%s/src/*.rt' % words[0]):
+        m = re.search(r'fn %s(?:<[^(]*>)?\(([^)]*)\)' % re.escape(words[-1]), open(p, encoding='utf-8').read())
+        if m:
+            return [x.split(':')[0].strip().split(' ')[-1] for x in m.group(1).split(',') if '&mut' in x]
+    return []
+
+
 def split_tuple(text):
     """The parts of a text that is one (a, b, ..), else None."""
     text = text.strip()
@@ -130,6 +140,10 @@ class Fn:
         """rest with a numbered clause by its name: the clauses were a pair whose second part is the pair of the others."""
         if word == 'requires':
             return named((self.info['pre'] or {}).get('fields'), rest)
+        if rest[:1] == ['new'] and rest[1:2] and rest[1].isdigit():
+            lent = lent_params(self.places[place][3])
+            if int(rest[1]) < len(lent):
+                return ['new', lent[int(rest[1])]] + rest[2:]
         if rest[:1] in (['ensures'], ['requires']):
             return rest[:1] + named(self.clauses.get(place), rest[1:])
         return rest

@@ -1,6 +1,7 @@
 // A directory's entries as records in a lent buffer, from any number on, read from any image. The records are measured first and
 // stored then, so that damage leaves the buffer as it was.
 #![tactic(auto)]
+
 ghost use Rattle.std.specs.Prelude.{◌≡◌, ◌+◌, ◌-◌, ◌*◌, ◌≤◌, ◌<◌, ◌^◌, length};
 ghost use Rattle.wire.specs.Be.{splice};
 ghost use Rattle.block.specs.Block.{BlockSize};
