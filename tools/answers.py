@@ -131,7 +131,7 @@ class Fn:
             return word
         p = self.places[place]
         old, new = p[2]
-        if plain(old) == plain(word):
+        if plain(old) == plain(word) or re.sub(r'\d+$', '', plain(old)) == re.sub(r'\d+$', '', plain(word)):
             return new
         self.said.append('no step %s at %s (%s)' % (word, place, old))
         return None
@@ -179,7 +179,11 @@ class Fn:
             word = self.step(place, parts[n])
             if word is None:
                 return m.group(0)
-            rest = self.clause(place, word, parts[n + 1:])
+            rest = parts[n + 1:]
+            again = dict(self.places[place][4] or [])
+            if rest and rest[0] in again:
+                rest = [again[rest[0]]] + rest[1:]
+            rest = self.clause(place, word, rest)
             return '.'.join(['c', word] + rest)
 
         body = path.sub(turn, body)

@@ -2,6 +2,7 @@
 // directory part.
 // Everything is tested before the first byte is written, so a refusal leaves the buffer as it was.
 #![tactic(auto)]
+
 ghost use Rattle.std.specs.Prelude.{◌≡◌, false, not, ◌||◌, [], ◌∷◌, ◌++◌, ◌+◌, ◌≤◌, ltb, leb, length, take, replicate};
 ghost use Rattle.wire.specs.Be.{splice};
 ghost use Rattle.wire.specs.Pick.{pick, same};
