@@ -1,5 +1,6 @@
 // A directory's own entry, which stands in the directory above it: its size and time are stored here, and nowhere else.
 #![tactic(auto)]
+
 ghost use Rattle.std.specs.Prelude.{◌≡◌};
 ghost use Rattle.block.specs.Block.{BlockSize};
 ghost use Rattle.super_block.specs.Super.{geo_of, Fit};
