@@ -1,6 +1,7 @@
 // Directories and entries by their path, on any image: the reading half of dir.rs.
 // A path is the first bytes of a lent buffer, as the crate path leaves it.
 #![tactic(auto)]
+
 ghost use Rattle.std.specs.Prelude.{◌≡◌, ◌≤◌, length, take, drop};
 ghost use Rattle.model.specs.Answers.{accepted};
 ghost use Rattle.super_block.specs.Super.{area_in, Fit};
