@@ -127,7 +127,7 @@ class Fn:
 
     def step(self, place, word):
         """The new name of the step `word` of a place."""
-        if word in ('args', 'requires'):
+        if word in ('args', 'requires', 'ranges', 'lifetimes'):
             return word
         p = self.places[place]
         old, new = p[2]

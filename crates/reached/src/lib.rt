@@ -1,6 +1,7 @@
 // Whether a block is the first of a directory that is reached from the root: what a write asks of its handle.
 // Two functions that call each other: one for a directory, one for an entry of it; each directory entered leaves one level less.
 #![tactic(auto)]
+
 ghost use Rattle.std.specs.Prelude.{◌≡◌, ℕ, ◌+◌, ◌*◌, ◌≤◌, ◌<◌, length, get_or};
 ghost use Rattle.block.specs.Block.{BlockSize};
 ghost use Rattle.dir_entry.specs.Entry.{is_dir, kind_at, place_at};
