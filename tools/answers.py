@@ -145,7 +145,7 @@ class Fn:
             if int(rest[1]) < len(lent):
                 return ['new', lent[int(rest[1])]] + rest[2:]
         if rest[:1] in (['ensures'], ['requires']):
-            return rest[:1] + named(self.clauses.get(place), rest[1:])
+            return rest[:1] + named((self.clauses.get(place) or {}).get('fields'), rest[1:])
         return rest
 
     def chains(self, body, goal):

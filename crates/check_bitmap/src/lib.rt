@@ -2,6 +2,7 @@
 // of a walk, and the used count. The marks stand in the work buffer: bit x is that of address D + x.
 // What the answers say of the definitions of a volume is in proofs/Top.antt and proofs/Marks.antt.
 #![tactic(auto)]
+
 ghost use Rattle.std.specs.Prelude.{◌≡◌, ◌+◌, ◌-◌, ◌*◌, ◌/◌, ◌≤◌, min, eqb, length};
 ghost use Rattle.wire.specs.Pick.{zero_from};
 ghost use Rattle.model.specs.Geometry.{data_at, set_bits, used_count};

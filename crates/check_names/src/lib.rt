@@ -1,6 +1,7 @@
 // Names in a directory: whether they are distinct.
 // A filter of hashed names answers for most of them at once; only where it does not are the earlier names searched.
 #![tactic(auto)]
+
 ghost use Rattle.std.specs.Prelude.{◌≡◌, not, ◌&&◌, ◌<◌, length, take};
 ghost use Rattle.super_block.specs.Super.{area_in, Fit};
 ghost use Rattle.read_dir.specs.Walk.{walk};

@@ -1,6 +1,7 @@
 // Reading by a handle, on any image: the chain of a file is followed before a byte is copied.
 // A refusal hands back the very handle that was given.
 #![tactic(auto)]
+
 ghost use Rattle.std.specs.Prelude.{◌≡◌, false, ◌+◌, ◌-◌, ◌≤◌, ◌<◌, length};
 ghost use Rattle.wire.specs.Be.{splice};
 ghost use Rattle.super_block.specs.Super.{area_in, Fit};

@@ -1,6 +1,7 @@
 // The handle of a file: its own fields, seeking, and its entry in the directory that holds it.
 // A handle goes in by value and comes back advanced; a refusal hands back the very handle that was given.
 #![tactic(auto)]
+
 ghost use Rattle.std.specs.Prelude.{◌≡◌, true, false, ◌&&◌, ◌+◌, ◌-◌, ◌*◌, ◌≤◌, ◌<◌, eqb, length};
 ghost use Rattle.wire.specs.Be.{be};
 ghost use Rattle.wire.specs.Pick.{same};

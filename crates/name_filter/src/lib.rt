@@ -1,5 +1,6 @@
 // A filter of names: four bits for each name, by its hash, in a lent slice. A name of which one bit is clear was never noted.
 #![tactic(auto)]
+
 ghost use Rattle.std.specs.Prelude.{◌≡◌, length};
 ghost use Rattle.name_filter.specs.Bits.{hash_of, filter_bytes, turned, pair_in, with_pair, less_pair, filtered, noted, wiped};
 
