@@ -1,6 +1,7 @@
 // The blocks of files and devices, claimed for the check of a volume: a bit in the work buffer for each block (specs/Marks.antt).
 // thm_survey/specs/Survey.antt says what is computed.
 #![tactic(auto)]
+
 ghost use Rattle.std.specs.Prelude.{◌-◌, ◌≤◌, ◌<◌, [], leb, length};
 ghost use Rattle.std.proofs.Math.Option.{none};
 ghost use Rattle.wire.specs.Pick.{pick};
