@@ -1,6 +1,7 @@
 // A directory in the check of a volume, before its entries are walked: its blocks are claimed and what each holds is looked at,
 // its names are distinct, and its sum is what the entry above says.
 #![tactic(auto)]
+
 ghost use Rattle.std.specs.Prelude.{◌≡◌, ◌+◌, ◌-◌, ◌*◌, ◌≤◌, length};
 ghost use Rattle.block.specs.Block.{BlockSize};
 ghost use Rattle.super_block.specs.Super.{area_in, Fit};
