@@ -38,6 +38,10 @@ def blocks(text):
     return uses, out
 
 
+def same_step(old, word):
+    return plain(old) == plain(word) or re.sub(r'\d+$', '', plain(old)) == re.sub(r'\d+$', '', plain(word))
+
+
 def named(fields, rest):
     if not fields or not rest or not rest[0].isdigit():
         return rest
@@ -86,7 +90,10 @@ def split_tuple(text):
             cur = ''
         else:
             cur += ch
-    return [x.strip() for x in parts] if len(parts) > 1 else None
+    parts = [x.strip() for x in parts]
+    if parts and not parts[-1]:
+        parts.pop()
+    return parts if len(parts) > 1 else None
 
 
 def as_record(body, fields):
@@ -131,7 +138,7 @@ class Fn:
             return word
         p = self.places[place]
         old, new = p[2]
-        if plain(old) == plain(word) or re.sub(r'\d+$', '', plain(old)) == re.sub(r'\d+$', '', plain(word)):
+        if same_step(old, word):
             return new
         self.said.append('no step %s at %s (%s)' % (word, place, old))
         return None
@@ -160,6 +167,13 @@ class Fn:
             bound[m.group(1)] = at
             body = body[:m.start()] + body[m.end():]
         path = re.compile(r"(?<![\w.'-])(%s)((?:\.[^\s.(){}\[\],;]+)+)" % '|'.join(bound))
+        # let x = c.before.f.ensures in: its clauses are named too
+        for m in list(re.finditer(r"let ([\w']+) = (%s)((?:\.before)*)\.((?:[\w-]+\.)?)(requires|ensures) in" % '|'.join(bound), body)):
+            word = m.group(4)[:-1] or 'requires'
+            at = self.near(goal, self.climb(bound[m.group(2)], m.group(3).count('.before')), word)
+            fields = ((self.info['pre'] or {}) if word == 'requires' else (self.clauses.get(at) or {})).get('fields')
+            if fields:
+                body = re.sub(r"(?<![\w.'-])%s((?:\.\d+)+)" % re.escape(m.group(1)), lambda k: '.'.join([m.group(1)] + named(fields, k.group(1)[1:].split('.'))), body)
 
         def turn(m):
             place, parts = bound[m.group(1)], m.group(2)[1:].split('.')
@@ -167,7 +181,11 @@ class Fn:
             while n < len(parts) and parts[n] == 'before':
                 n += 1
             place = self.climb(place, n)
-            if place is None or n == len(parts):
+            if n == len(parts):
+                self.said.append('cannot follow ' + m.group(0))
+                return m.group(0)
+            place = self.near(goal, place, parts[n])
+            if place is None:
                 self.said.append('cannot follow ' + m.group(0))
                 return m.group(0)
             known = [v for v, s in self.typed.get(goal, []) if plain(s) == plain(parts[n])]
@@ -191,6 +209,22 @@ class Fn:
             if b != 'c' and re.search(r"(?<![\w.'-])%s(?![\w'-])" % b, body):
                 self.said.append('%s still stands for a place' % b)
         return body
+
+    def near(self, goal, place, word):
+        """The place that the path meant: where today's walk has fewer places, the nearest above the goal that has such a step."""
+        if word in ('args', 'requires', 'ranges', 'lifetimes'):
+            return self.info['places'][0][0]
+        at = goal
+        seen = []
+        while at is not None:
+            seen.append(at)
+            at = self.places[at][1]
+        if place in seen and same_step(self.places[place][2][0], word):
+            return place
+        good = [p for p in seen if plain(self.places[p][2][0]) == plain(word)] or [p for p in seen if same_step(self.places[p][2][0], word)]
+        if good:
+            return good[0]
+        return place if place is not None else None
 
     def arm(self, goal, place, parts):
         """The path of a fact of a match's arm, which has one step now for what were several."""

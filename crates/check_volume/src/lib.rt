@@ -2,6 +2,7 @@
 // thm_survey/specs says what it computes; the marks of claimed blocks stand in the work buffer.
 // Two functions call each other: one for a directory, one for an entry of it; each directory entered leaves one level less.
 #![tactic(auto)]
+
 ghost use Rattle.std.specs.Prelude.{◌≡◌, ◌-◌, ◌≤◌, [], length};
 ghost use Rattle.wire.specs.Be.{zeros, splice};
 ghost use Rattle.model.specs.Volume.{max_depth};
