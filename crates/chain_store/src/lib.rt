@@ -1,5 +1,6 @@
 // Giving blocks back: one block of the data area, and the blocks of a chain. Delete and write share it.
 #![tactic(auto)]
+
 ghost use Rattle.std.specs.Prelude.{◌≡◌, ◌≤◌, ◌<◌};
 ghost use Rattle.super_block.specs.Super.{geo_of, Fit};
 ghost use Rattle.chain_store.specs.Chain.{released, chain_freed};
