@@ -1,6 +1,7 @@
 // Creating a file or a directory: where the new entry goes in its directory, and the stores that put it there.
 // specs/Create.antt says each step; proofs/ shows that on a well-formed volume they are the tree's edit.
 #![tactic(auto)]
+
 ghost use Rattle.std.specs.Prelude.{◌≡◌, ◌++◌, ◌+◌, ◌-◌, ◌*◌, ◌≤◌, ◌<◌, length};
 ghost use Rattle.wire.specs.Be.{splice};
 ghost use Rattle.block.specs.Block.{BlockSize, linked};
