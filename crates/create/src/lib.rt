@@ -1,6 +1,7 @@
 // Creating a file or a directory by its full path, on a volume that is opened and checked: refusals 8, 5, 6, 15, 7, 9 in this
 // order, then the stores of `create_store`.
 #![tactic(auto)]
+
 ghost use Rattle.std.specs.Prelude.{◌≡◌, ◌&&◌, ◌≤◌, leb, length, take};
 ghost use Rattle.model.specs.Volume.{max_depth};
 ghost use Rattle.super_block.specs.Super.{area_in, geo_of, Ready};
