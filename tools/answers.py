@@ -168,9 +168,13 @@ class Fn:
             body = body[:m.start()] + body[m.end():]
         path = re.compile(r"(?<![\w.'-])(%s)((?:\.[^\s.(){}\[\],;]+)+)" % '|'.join(bound))
         # let x = c.before.f.ensures in: its clauses are named too
-        for m in list(re.finditer(r"let ([\w']+) = (%s)((?:\.before)*)\.((?:[\w-]+\.)?)(requires|ensures) in" % '|'.join(bound), body)):
+        for m in list(re.finditer(r"let ([\w']+) = (%s)((?:\.before)*)\.((?:[\w-]+\.)?)(requires|ensures|new) in" % '|'.join(bound), body)):
             word = m.group(4)[:-1] or 'requires'
             at = self.near(goal, self.climb(bound[m.group(2)], m.group(3).count('.before')), word)
+            if m.group(5) == 'new':
+                lent = lent_params(self.places[at][3]) if at else []
+                body = re.sub(r"(?<![\w.'-])%s\.(\d+)" % re.escape(m.group(1)), lambda k: m.group(1) + '.' + lent[int(k.group(1))] if int(k.group(1)) < len(lent) else k.group(0), body)
+                continue
             fields = ((self.info['pre'] or {}) if word == 'requires' else (self.clauses.get(at) or {})).get('fields')
             if fields:
                 body = re.sub(r"(?<![\w.'-])%s((?:\.\d+)+)" % re.escape(m.group(1)), lambda k: '.'.join([m.group(1)] + named(fields, k.group(1)[1:].split('.'))), body)

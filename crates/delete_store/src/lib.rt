@@ -1,6 +1,7 @@
 // Deleting a directory's entry: its bytes go, a block that they leave empty is unlinked and freed, its chain is freed,
 // and the directory's own entry is renewed (C13). What is refused is looked at before, above this crate.
 #![tactic(auto)]
+
 ghost use Rattle.std.specs.Prelude.{◌≡◌, ◌+◌, ◌-◌, ◌*◌, ◌≤◌, ◌<◌, length};
 ghost use Rattle.block.specs.Block.{BlockSize};
 ghost use Rattle.super_block.specs.Super.{geo_of, Fit};
