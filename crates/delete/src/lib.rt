@@ -2,6 +2,7 @@
 // of `delete_store`. All that may refuse is read before the first store, and the contracts hold on any opened image; on a volume
 // they are the tree's delete (proofs/OnVolume.antt). A path is the first bytes of a lent buffer, as the crate path leaves it.
 #![tactic(auto)]
+
 ghost use Rattle.std.specs.Prelude.{◌≡◌, ◌≤◌, length, take};
 ghost use Rattle.super_block.specs.Super.{geo_of, Fit, Ready};
 ghost use Rattle.path.specs.Path.{path_limit};
