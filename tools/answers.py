@@ -147,10 +147,10 @@ class Fn:
         """rest with a numbered clause by its name: the clauses were a pair whose second part is the pair of the others."""
         if word == 'requires':
             return named((self.info['pre'] or {}).get('fields'), rest)
-        if rest[:1] == ['new'] and rest[1:2] and rest[1].isdigit():
+        if rest[:1] in (['new'], ['auto']) and rest[1:2] and rest[1].isdigit():
             lent = lent_params(self.places[place][3])
             if int(rest[1]) < len(lent):
-                return ['new', lent[int(rest[1])]] + rest[2:]
+                return [rest[0], lent[int(rest[1])]] + rest[2:]
         if rest[:1] in (['ensures'], ['requires']):
             return rest[:1] + named((self.clauses.get(place) or {}).get('fields'), rest[1:])
         return rest
@@ -208,6 +208,13 @@ class Fn:
             rest = self.clause(place, word, rest)
             return '.'.join(['c', word] + rest)
 
+        # let x = c.before.f in: x stands for a call
+        for m in list(re.finditer(r"let ([\w']+) = (%s)((?:\.before)*)\.([\w-]+) in" % '|'.join(bound), body)):
+            if m.group(4) in ('before', 'args', 'requires', 'ranges', 'lifetimes'):
+                continue
+            at = self.near(goal, self.climb(bound[m.group(2)], m.group(3).count('.before')), m.group(4))
+            if at and self.places[at][3]:
+                body = re.sub(r"(?<![\w.'-])%s\.((?:new|auto|ensures)(?:\.\d+)+)" % re.escape(m.group(1)), lambda k: '.'.join([m.group(1)] + self.clause(at, m.group(4), k.group(1).split('.'))), body)
         body = path.sub(turn, body)
         for b in bound:
             if b != 'c' and re.search(r"(?<![\w.'-])%s(?![\w'-])" % b, body):

@@ -2,6 +2,7 @@
 // the buffer along the chain, size and time into the entry.
 // Every store is a function of specs/ on the list of bytes; that they are the edit of `model` is proved in proofs/Writes.antt.
 #![tactic(auto)]
+
 ghost use Rattle.std.specs.Prelude.{◌≡◌, ◌+◌, ◌-◌, ◌*◌, ◌/◌, ◌≤◌, ◌<◌, min, length, take, drop};
 ghost use Rattle.wire.specs.Be.{splice};
 ghost use Rattle.bits.specs.Bit.{AllSet};
