@@ -1,6 +1,7 @@
 // The stores of a patch: the buffer over bytes that a file has, and the time into its entry. No block is added or given back, and
 // of the chain no block behind the buffer's last byte is looked at.
 #![tactic(auto)]
+
 ghost use Rattle.std.specs.Prelude.{◌≡◌, length};
 ghost use Rattle.super_block.specs.Super.{geo_of, Fit};
 ghost use Rattle.patch_store.specs.Patch.{patched, CanPatch};
