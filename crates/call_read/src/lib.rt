@@ -48,7 +48,7 @@ pub enum Listing {
 }
 
 // The last name of the path full[..len].
-fn last_name_lem(full: &[u8], len: usize) -> &[u8]
+fn last_name(full: &[u8], len: usize) -> &[u8]
     requires { len ≤ length full.now }
     ensures { result.now ≡ last_name (take len full.now) }
 {
@@ -82,7 +82,7 @@ pub fn handle_for(full: &[u8], len: usize, dir: Addr, addr: Addr, size: u32) -> 
 {
     OpenOut {
         answer: Answer::Success,
-        handle: Handle::new(dir, last_name_lem(full, len), addr, size),
+        handle: Handle::new(dir, last_name(full, len), addr, size),
     }
 }
 
@@ -127,7 +127,7 @@ fn about_entry(full: &[u8], len: usize, e: DirEntry) -> InfoOut
     requires full_len_bound { length (last_name (take len full.now)) ≤ 255 }
     ensures { InfoIs (accepted (about e.kind e.size e.time (last_name (take len full.now)))) result }
 {
-    let name = last_name_lem(full, len);
+    let name = last_name(full, len);
     let all = handle::name_array(name);
     let kind = e.kind;
     InfoOut {

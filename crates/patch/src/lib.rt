@@ -15,7 +15,7 @@ use super_block::SuperBlock;
 use write::Targeted;
 
 // Whether len bytes at the position would end past the file's size. A length that passes it alone is told before the sum.
-fn past_end_lem(h: Handle, len: usize) -> bool
+fn past_end(h: Handle, len: usize) -> bool
     ensures { result ≡ past_end h len }
 {
     let size = h.size as usize;
@@ -30,7 +30,7 @@ fn past_end_lem(h: Handle, len: usize) -> bool
 fn ends(h: Handle, len: usize, e: DirEntry, p: Place) -> Targeted
     ensures { targeted_says result ≡ ends_at h len e p }
 {
-    if past_end_lem(h, len) {
+    if past_end(h, len) {
         return Targeted::Refused(Refusal::PastEnd);
     }
     Targeted::At(e, p)

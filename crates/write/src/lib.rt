@@ -1,6 +1,7 @@
 // Writing by a handle, on a checked volume: the refusals in order, then the stores of `write_store`.
 // A refusal hands back the very handle that was given.
 #![tactic(auto)]
+
 ghost use Rattle.std.specs.Prelude.{◌≡◌, true, false, ◌+◌, ◌-◌, ◌≤◌, ◌<◌};
 ghost use Rattle.super_block.specs.Super.{geo_of, Fit, Ready};
 ghost use Rattle.write.specs.Writing.{too_long, unreached, no_room, held_at, target_of, grown_handle};
@@ -23,7 +24,7 @@ pub enum Targeted {
 }
 
 // Whether the file would pass its limit with len bytes at the position. A length that passes it alone is told before the sum.
-fn too_long_lem(h: Handle, len: usize) -> bool
+fn too_long(h: Handle, len: usize) -> bool
     ensures { result ≡ too_long h len }
 {
     if END_LIMIT < len {
@@ -43,7 +44,7 @@ fn unreached(h: Handle, img: &[u8], s: SuperBlock) -> bool
 }
 
 // Whether fewer indexes are clear than blocks are to be added for len bytes at the position.
-fn no_room_lem(h: Handle, img: &[u8], s: SuperBlock, len: u32) -> bool
+fn no_room(h: Handle, img: &[u8], s: SuperBlock, len: u32) -> bool
     requires fit { Fit s img.now }
     requires len_bound { h.position + len ≤ 2147483647 }
     ensures { result ≡ no_room (geo_of s) img.now h len }
@@ -61,10 +62,10 @@ fn fits(h: Handle, img: &[u8], s: SuperBlock, len: usize, e: DirEntry, p: Place)
     requires { Fit s img.now }
     ensures { targeted_says result ≡ fits_at (geo_of s) img.now h len e p }
 {
-    if too_long_lem(h, len) {
+    if too_long(h, len) {
         return Targeted::Refused(Refusal::TooLarge);
     }
-    if no_room_lem(h, img, s, len as u32) {
+    if no_room(h, img, s, len as u32) {
         return Targeted::Refused(Refusal::NoRoom);
     }
     Targeted::At(e, p)

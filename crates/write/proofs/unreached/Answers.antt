@@ -1,0 +1,5 @@
+use Rattle.write.proofs.Aims.{reach-told}
+use Rattle.write.proofs.unreached.Goals as goal
+
+pub returns : goal.returns
+returns c = search reach-told
