@@ -1,6 +1,7 @@
 // Patching by a handle, on a checked volume: the refusals in order, then the stores of `patch_store`.
 // A refusal hands back the very handle that was given.
 #![tactic(auto)]
+
 ghost use Rattle.std.specs.Prelude.{◌≡◌, ◌+◌, ◌≤◌};
 ghost use Rattle.super_block.specs.Super.{geo_of, Fit, Ready};
 ghost use Rattle.handle.specs.Handles.{moved};
