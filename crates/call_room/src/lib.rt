@@ -1,5 +1,6 @@
 // Whether so many blocks are free, and how many bytes of the bitmap that takes to tell: the search of `bitmap_room`, of an image.
 #![tactic(auto)]
+
 ghost use Rattle.model.specs.Geometry.{mount};
 ghost use Rattle.call_room.specs.Room.{Asks};
 
