@@ -1,6 +1,7 @@
 // The public calls on a volume as a whole: format, usage and the check; and the check that a changing call runs first.
 // Their answers for a caller are those of `mfs`, which passes them on.
 #![tactic(auto)]
+
 ghost use Rattle.std.specs.Prelude.{◌≡◌, ◌-◌, take};
 ghost use Rattle.model.specs.Geometry.{mount, block_size};
 ghost use Rattle.super_block.specs.Super.{geo_of, Fit, OpenedIs};
