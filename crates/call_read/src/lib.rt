@@ -1,5 +1,6 @@
 // The public calls that read: open, info, list, read and seek. Their answers for a caller are those of `mfs`.
 #![tactic(auto)]
+
 ghost use Rattle.std.specs.Prelude.{◌≡◌, ◌-◌, ◌≤◌, length, take};
 ghost use Rattle.model.specs.Geometry.{mount};
 ghost use Rattle.super_block.specs.Super.{area_in, Fit};
