@@ -1,6 +1,7 @@
 // The public calls that change a volume: create, delete and write, each after the whole check. Their answers for a caller are
 // those of `mfs`, which passes them on.
 #![tactic(auto)]
+
 ghost use Rattle.std.specs.Prelude.{◌≡◌, ◌≤◌, length, take};
 ghost use Rattle.model.specs.Geometry.{mount};
 ghost use Rattle.super_block.specs.Super.{geo_of, Ready};
