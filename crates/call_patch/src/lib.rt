@@ -1,6 +1,7 @@
 // The public call that puts bytes over bytes of a file and keeps the rest of it, after the whole check. Its answers for a caller
 // are those of `mfs`, which passes it on.
 #![tactic(auto)]
+
 ghost use Rattle.model.specs.Geometry.{mount};
 ghost use Rattle.call_patch.specs.Patches.{Patches};
 
