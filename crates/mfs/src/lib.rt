@@ -4,6 +4,7 @@
 // Each call is one of call_volume, call_room, call_read, call_change or call_patch under the name that callers know, with the
 // same contract.
 #![tactic(auto)]
+
 ghost use Rattle.model.specs.Geometry.{mount};
 ghost use Rattle.call_read.specs.Reading.{Opens, Informs, Lists, Reads};
 ghost use Rattle.call_room.specs.Room.{Asks};
