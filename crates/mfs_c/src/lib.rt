@@ -2,6 +2,7 @@
 // its refusal; a refusal leaves every out parameter as it was. A size code that is not known is refused by 2, before the refusals
 // that stand with each call. include/mfs_c.h declares them.
 #![tactic(auto)]
+
 ghost use Rattle.std.specs.Prelude.{◌≡◌};
 ghost use Rattle.wire.specs.Pick.{pick};
 ghost use Rattle.model.specs.Geometry.{mount};

@@ -1,0 +1,8 @@
+use Rattle.mfs_c.proofs.Told.{count-refused, count-given}
+use Rattle.mfs_c.proofs.give_count.Goals as goal
+
+pub returns-in-Refused : goal.returns-in-Refused
+returns-in-Refused c = search count-refused
+
+pub returns-in-Bytes : goal.returns-in-Bytes
+returns-in-Bytes c = search count-given

@@ -1,0 +1,5 @@
+use Rattle.mfs_c.proofs.Told.{patches-c}
+use Rattle.mfs_c.proofs.mfs_c_patch.Goals as goal
+
+pub returns : goal.returns
+returns c = search patches-c
