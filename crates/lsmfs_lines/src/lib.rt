@@ -1,6 +1,7 @@
 // The lines that the listing program prints, made in a lent buffer: one for a directory entry, one for a refusal.
 // A line is a few words, each with the byte that ends it; every word is stored where the one before it ended.
 #![tactic(auto)]
+
 ghost use Rattle.std.specs.Prelude.{◌≡◌, ◌+◌, ◌*◌, ◌≤◌, ◌<◌, leb, length, get_or};
 ghost use Rattle.wire.specs.Be.{splice};
 ghost use Rattle.lsmfs_lines.specs.Line.{digits, letter as Line·letter, decimal, ended, line_of, refused_line};

@@ -1,0 +1,12 @@
+use native.Mathlib.Omega.{arith}
+use lib.ListN.{length}
+use Rattle.lsmfs_lines.proofs.Texts.{whole-short, whole_room}
+use Rattle.lsmfs_lines.proofs.is_whole.Goals as goal
+
+pub returns-then-left-lt-RECORD : goal.returns-then-left-lt-RECORD
+returns-then-left-lt-RECORD c = whole-short c.args.records.now c.args.at (omega arith)
+
+pub returns : goal.returns
+returns c =
+    let a = c.args in
+    rw c.wide.ensures.0 (whole_room a.at _ (length a.records.now) (omega arith))
