@@ -1,5 +1,6 @@
 // What the recorded list of the original's answers says in short: the digest of bytes, and the bytes of a write.
 #![tactic(auto)]
+
 ghost use Rattle.std.specs.Prelude.{◌≡◌, ◌<◌, length};
 ghost use Rattle.recorded.specs.Texts.{digest_of, Sown};
 
