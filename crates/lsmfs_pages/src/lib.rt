@@ -1,6 +1,7 @@
 // What the listing program writes, made in a lent buffer: a page of the root's lines at a time, or why an image is refused. The
 // program itself reads the image and writes these bytes, which no contract can say.
 #![tactic(auto)]
+
 ghost use Rattle.std.specs.Prelude.{◌*◌, ◌≤◌, length};
 ghost use Rattle.model.specs.Geometry.{mount};
 ghost use Rattle.limits.specs.Refusals.{refusal_number};
