@@ -1,6 +1,5 @@
 use borrow.Author.Rules.{rules}
 use Rattle.text.proofs.Along.{has_found, has_again, has_none}
-use Prim.Native.Nat.{◌-◌}
 use Rattle.text.proofs.has.Goals as goal
 
 pub returns-then-s-i : goal.returns-then-s-i

@@ -1,6 +1,5 @@
 use borrow.Author.Rules.{rules}
 use Rattle.text.proofs.Along.{passed_none, passed_on}
-use Prim.Native.Nat.{◌-◌}
 use Rattle.text.proofs.plain.Goals as goal
 
 pub loop-i-init : goal.loop-i-init

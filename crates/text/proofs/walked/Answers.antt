@@ -1,6 +1,5 @@
 use borrow.Author.Rules.{rules}
 use Rattle.text.proofs.Along.{walk_start, walk-again, walk-done}
-use Prim.Native.Nat.{◌-◌}
 use Rattle.text.proofs.walked.Goals as goal
 
 pub loop-i-init : goal.loop-i-init

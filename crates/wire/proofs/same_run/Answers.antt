@@ -1,4 +1,3 @@
-use Prim.Native.Nat.{◌-◌}
 use borrow.Author.Rules.{rules}
 use Rattle.wire.proofs.Picks.{sofar_start, sofar_more, sofar_done}
 use Rattle.wire.proofs.same_run.Goals as goal

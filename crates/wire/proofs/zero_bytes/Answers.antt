@@ -1,4 +1,3 @@
-use Prim.Native.Nat.{◌-◌}
 use borrow.Author.Rules.{rules}
 use Rattle.wire.proofs.Zeros.{left-start, left-more, left-none}
 use Rattle.wire.proofs.zero_bytes.Goals as goal
