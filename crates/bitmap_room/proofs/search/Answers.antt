@@ -1,4 +1,3 @@
-use Prim.Native.Nat.{◌-◌}
 use borrow.Author.Rules.{rules}
 use Rattle.bitmap_room.proofs.Clear.{none_asked, clear_none, found, missed}
 use Rattle.bitmap_room.proofs.search.Goals as goal

@@ -1,4 +1,3 @@
-use Prim.Native.Nat.{◌-◌}
 use borrow.Author.Rules.{rules}
 use Rattle.super_block.proofs.Fits.{fit-inside}
 use Rattle.read_dir.proofs.Passes.{pass_none, pass_at, len-ends, len-fits, head-fits, len-less, others-again}
