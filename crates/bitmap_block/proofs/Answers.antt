@@ -10,15 +10,15 @@ use Rattle.bits.specs.Find.{Lowest}
 use Rattle.bits.specs.declared.Found.{Found}
 use Rattle.bits.specs.declared.Found.TheVariants.{At, Nothing}
 use Rattle.block.specs.Block.{zeroed}
-use Rattle.block.proofs.Blocks.{zeroed-kept}
+use Rattle.block.proofs.Blocks.{zeroed_kept}
 use Rattle.model.specs.Geometry.{Geo, block_size, map_at, data_at, reach, bit_end, used_count}
 use Rattle.model.specs.Calls.{clear_from}
-use Rattle.model.proofs.Free.{LowestClear, lowest-clear, clear-lowest}
+use Rattle.model.proofs.Free.{LowestClear, lowest_clear, clear_lowest}
 use Rattle.super_block.specs.declared.SuperBlock.{SuperBlock}
 use Rattle.super_block.specs.Super.{geo_of, Fit, counted}
-use Rattle.super_block.proofs.Fits.{placed, from_is, fit-long, fit-inside}
+use Rattle.super_block.proofs.Fits.{placed, from_is, fit_long, fit_inside}
 use Rattle.bitmap_block.specs.Bitmap.{mark, marked, clears, more, fewer}
-use Rattle.bitmap_block.proofs.Stores.{length_half, used_half, clears-first, first_in}
+use Rattle.bitmap_block.proofs.Stores.{length_half, used_half, clears_first, first_in}
 
 -- the reach is small
 pub reach_few : {s : SuperBlock} {I : List ℕ} → Fit s I → s.reach ≤ 16777216
@@ -26,12 +26,12 @@ reach_few f = let p = placed f in omega arith
 
 module _ {s : SuperBlock} {I : List ℕ} {at : ℕ} (f : Fit s I) (e : at ≡ s.size * s.bitmap.0) where
   -- the byte of an index that has a bit
-  pub bit-place : (x : ℕ) → s.area.0 + x < bit_end (geo_of s) → at + x / 8 < length I
-  bit-place x h = let p = placed f in omega (arith, f.area, f.bits)
+  pub bit_place : (x : ℕ) → s.area.0 + x < bit_end (geo_of s) → at + x / 8 < length I
+  bit_place x h = let p = placed f in omega (arith, f.area, f.bits)
 
   -- all bytes of the reach
-  pub reach-place : at + (s.reach + 7) / 8 ≤ length I
-  reach-place = let p = placed f in omega arith
+  pub reach_place : at + (s.reach + 7) / 8 ≤ length I
+  reach_place = let p = placed f in omega arith
 
   -- the hint, said of the place that code computes
   pub hint : {y : ℕ} → AllSet I (block_size (geo_of s) * map_at (geo_of s)) 0 y → AllSet I at 0 y
@@ -42,9 +42,9 @@ module _ {s : SuperBlock} {I : List ℕ} {at : ℕ} (f : Fit s I) (e : at ≡ s.
   bit_is x = ap (λ (z : ℕ). bit I z x) (sym (from_is f e))
 
   -- what a search finds is the first of the clear ones
-  pub first-at : {x : ℕ} {r : Found} → Lowest I at s.reach r → r ≡ At x → data_at (geo_of s) + x ≡ get_or (clears (geo_of s) I) 0 0
+  pub first_at_lem : {x : ℕ} {r : Found} → Lowest I at s.reach r → r ≡ At x → data_at (geo_of s) + x ≡ get_or (clears (geo_of s) I) 0 0
   unfolding clears
-  first-at {x} {r} l q =
+  first_at_lem {x} {r} l q =
       let m : Lowest I at s.reach (At x) = subst (Lowest I at s.reach) q l in
       let d : ℕ = data_at (geo_of s) in
       let w : (y : ℕ) → d + y - d ≡ y = λ y. omega arith in
@@ -56,28 +56,28 @@ module _ {s : SuperBlock} {I : List ℕ} {at : ℕ} (f : Fit s I) (e : at ≡ s.
         lowest = λ y p o z. omega (arith, m.2 (y - d) (omega arith), bit_is (y - d));
         above = refl;
       } in
-      sym (ap (λ (c : List ℕ). get_or c 0 0) (lowest-clear (λ b. mark (geo_of s) I (b - d)) d (reach (geo_of s)) (d + x) _ b))
+      sym (ap (λ (c : List ℕ). get_or c 0 0) (lowest_clear (λ b. mark (geo_of s) I (b - d)) d (reach (geo_of s)) (d + x) _ b))
 
   -- where there is a clear one, one in reach is
-  some-clear : 1 ≤ length (clears (geo_of s) I) → (P : Type 0) → ((y : ℕ) → y < s.reach → bit I at y ≡ 0 → P) → P
+  some_clear : 1 ≤ length (clears (geo_of s) I) → (P : Type 0) → ((y : ℕ) → y < s.reach → bit I at y ≡ 0 → P) → P
   unfolding clears
-  some-clear h P k = go (clears (geo_of s) I) refl h
+  some_clear h P k = go (clears (geo_of s) I) refl h
     where
       go : (c : List ℕ) → clear_from (λ b. mark (geo_of s) I (b - data_at (geo_of s))) (data_at (geo_of s)) (reach (geo_of s)) ≡ c → 1 ≤ length c → P
       go [] e j = absurd (omega arith)
       go (a ∷ c) e j =
-          let o = clear-lowest (λ b. mark (geo_of s) I (b - data_at (geo_of s))) (data_at (geo_of s)) (reach (geo_of s)) a c e in
+          let o = clear_lowest (λ b. mark (geo_of s) I (b - data_at (geo_of s))) (data_at (geo_of s)) (reach (geo_of s)) a c e in
           k (a - data_at (geo_of s)) (omega (arith, o.from, o.below, f.reach)) (sym (bit_is (a - data_at (geo_of s))) ∙ o.clear)
 
   -- so it is found,
-  pub first-none : (x : ℕ) {r : Found} → 1 ≤ length (clears (geo_of s) I) → Lowest I at s.reach r → r ≡ Nothing → data_at (geo_of s) + x ≡ get_or (clears (geo_of s) I) 0 0
-  first-none x {r} h l q =
+  pub first_none : (x : ℕ) {r : Found} → 1 ≤ length (clears (geo_of s) I) → Lowest I at s.reach r → r ≡ Nothing → data_at (geo_of s) + x ≡ get_or (clears (geo_of s) I) 0 0
+  first_none x {r} h l q =
       let all : (y : ℕ) → y < s.reach → bit I at y ≡ 1 = subst (Lowest I at s.reach) q l in
-      some-clear h (data_at (geo_of s) + x ≡ get_or (clears (geo_of s) I) 0 0) (λ y p z. absurd (omega (arith, all y p)))
+      some_clear h (data_at (geo_of s) + x ≡ get_or (clears (geo_of s) I) 0 0) (λ y p z. absurd (omega (arith, all y p)))
 
   -- and a hint that holds is in reach
-  pub hint-reach : (y : ℕ) → 1 ≤ length (clears (geo_of s) I) → AllSet I (block_size (geo_of s) * map_at (geo_of s)) 0 y → y ≤ s.reach
-  hint-reach y h a = some-clear h (y ≤ s.reach) (λ x p z. go x p z (dec_lt x y))
+  pub hint_reach : (y : ℕ) → 1 ≤ length (clears (geo_of s) I) → AllSet I (block_size (geo_of s) * map_at (geo_of s)) 0 y → y ≤ s.reach
+  hint_reach y h a = some_clear h (y ≤ s.reach) (λ x p z. go x p z (dec_lt x y))
     where
       go : (x : ℕ) → x < s.reach → bit I at x ≡ 0 → Dec (x < y) → y ≤ s.reach
       go x p z (yes l) = absurd (omega (arith, hint a x (omega arith) l))
@@ -94,44 +94,44 @@ module _ {s : SuperBlock} {I : List ℕ} (x : ℕ) (f : Fit s I) (h : s.area.0 +
   half_is v p q r = r ∙ ap (λ (z : List ℕ). marked (geo_of s) z x v) (q ∙ ap (λ (z : ℕ). zeroed s.size I z 1) (p ∙ ap (λ (z : ℕ). z + x) f.area) ∙ ap (λ (z : ℕ). zeroed z I (data_at (geo_of s) + x) 1) f.size)
 
   half_fit : (v : ℕ) {a : ℕ} {J L : List ℕ} → a ≡ s.area.0 + x → J ≡ zeroed s.size I a 1 → L ≡ marked (geo_of s) J x v → Fit s L
-  half_fit v p q r = fit-long (ap length (half_is v p q r) ∙ length_half (geo_of s) I f.sound x in_data v) f
+  half_fit v p q r = fit_long (ap length (half_is v p q r) ∙ length_half (geo_of s) I f.sound x in_data v) f
 
   half_used : (v : ℕ) {a : ℕ} {J L : List ℕ} → a ≡ s.area.0 + x → J ≡ zeroed s.size I a 1 → L ≡ marked (geo_of s) J x v → used_count (geo_of s) L ≡ used_count (geo_of s) I
   half_used v p q r = ap (used_count (geo_of s)) (half_is v p q r) ∙ used_half (geo_of s) I f.sound x in_data v
 
   -- set,
-  pub set-fit : {a : ℕ} {J L : List ℕ} → a ≡ s.area.0 + x → J ≡ zeroed s.size I a 1 → L ≡ marked (geo_of s) J x 1 → Fit s L
-  set-fit p q r = half_fit 1 p q r
+  pub set_fit : {a : ℕ} {J L : List ℕ} → a ≡ s.area.0 + x → J ≡ zeroed s.size I a 1 → L ≡ marked (geo_of s) J x 1 → Fit s L
+  set_fit p q r = half_fit 1 p q r
 
-  pub set-used : {a : ℕ} {J L : List ℕ} → a ≡ s.area.0 + x → J ≡ zeroed s.size I a 1 → L ≡ marked (geo_of s) J x 1 → used_count (geo_of s) I < s.blocks → used_count (geo_of s) L < s.blocks
-  set-used p q r u = omega (arith, half_used 1 p q r)
+  pub set_used : {a : ℕ} {J L : List ℕ} → a ≡ s.area.0 + x → J ≡ zeroed s.size I a 1 → L ≡ marked (geo_of s) J x 1 → used_count (geo_of s) I < s.blocks → used_count (geo_of s) L < s.blocks
+  set_used p q r u = omega (arith, half_used 1 p q r)
 
   -- or clear
-  pub clear-fit : {a : ℕ} {J L : List ℕ} → a ≡ s.area.0 + x → J ≡ zeroed s.size I a 1 → L ≡ marked (geo_of s) J x 0 → Fit s L
-  clear-fit p q r = half_fit 0 p q r
+  pub clear_fit : {a : ℕ} {J L : List ℕ} → a ≡ s.area.0 + x → J ≡ zeroed s.size I a 1 → L ≡ marked (geo_of s) J x 0 → Fit s L
+  clear_fit p q r = half_fit 0 p q r
 
-  pub clear-used : {a : ℕ} {J L : List ℕ} → a ≡ s.area.0 + x → J ≡ zeroed s.size I a 1 → L ≡ marked (geo_of s) J x 0 → 0 < used_count (geo_of s) I → 0 < used_count (geo_of s) L
-  clear-used p q r u = omega (arith, half_used 0 p q r)
+  pub clear_used : {a : ℕ} {J L : List ℕ} → a ≡ s.area.0 + x → J ≡ zeroed s.size I a 1 → L ≡ marked (geo_of s) J x 0 → 0 < used_count (geo_of s) I → 0 < used_count (geo_of s) L
+  clear_used p q r u = omega (arith, half_used 0 p q r)
 
   -- before that, only zeroed
   pub zero_inside : {a : ℕ} → a ≡ s.area.0 + x → s.size * a + s.size * 1 ≤ length I
-  zero_inside p = omega (arith, fit-inside s I I _ (s.area.0 + x) f refl p (omega arith))
+  zero_inside p = omega (arith, fit_inside s I I _ (s.area.0 + x) f refl p (omega arith))
 
   pub zero_fit : {a : ℕ} {J : List ℕ} → a ≡ s.area.0 + x → J ≡ zeroed s.size I a 1 → Fit s J
-  zero_fit p q = fit-long (ap length q ∙ (zeroed-kept s.size I _ 1 (zero_inside p)).size) f
+  zero_fit p q = fit_long (ap length q ∙ (zeroed_kept s.size I _ 1 (zero_inside p)).size) f
 
 -- what was found is in the data, and has a bit
 pub found_in : {s : SuperBlock} {I : List ℕ} (x : ℕ) → Fit s I → 1 ≤ length (clears (geo_of s) I) → data_at (geo_of s) + x ≡ get_or (clears (geo_of s) I) 0 0 → s.area.0 + x < bit_end (geo_of s)
 found_in {s} {I} x f h e =
-    omega (arith, f.area, first_in (geo_of s) I f.sound x (drop 1 (clears (geo_of s) I)) (clears-first (geo_of s) I x h e))
+    omega (arith, f.area, first_in (geo_of s) I f.sound x (drop 1 (clears (geo_of s) I)) (clears_first (geo_of s) I x h e))
 
 -- ---- the used count, as code stores it
 
 module _ (g : Geo) (I J : List ℕ) (u : ℕ) (e : u ≡ used_count g I) where
-  pub more-is : J ≡ counted g I (u + 1) → J ≡ more g I
+  pub more_is : J ≡ counted g I (u + 1) → J ≡ more g I
   unfolding more
-  more-is h = h ∙ ap (λ (v : ℕ). counted g I (v + 1)) e
+  more_is h = h ∙ ap (λ (v : ℕ). counted g I (v + 1)) e
 
-  pub fewer-is : J ≡ counted g I (u - 1) → J ≡ fewer g I
+  pub fewer_is : J ≡ counted g I (u - 1) → J ≡ fewer g I
   unfolding fewer
-  fewer-is h = h ∙ ap (λ (v : ℕ). counted g I (v - 1)) e
+  fewer_is h = h ∙ ap (λ (v : ℕ). counted g I (v - 1)) e

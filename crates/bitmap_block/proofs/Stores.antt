@@ -9,22 +9,22 @@ use native.Mathlib.Decide.{dec_lt}
 use native.Mathlib.Omega.{arith}
 use lib.ListN.{length, get_or, drop, length-append}
 use Rattle.wire.specs.Be.{bytes, splice, zeros}
-use Rattle.wire.proofs.Numbers.{length-bytes, be-put-same, splice-after}
+use Rattle.wire.proofs.Numbers.{length_bytes, be_put_same, splice-after}
 use Rattle.bits.specs.Bit.{digit, bit, AllSet}
-use Rattle.bits.proofs.Bits.{bit_ext, bit-lt, length-with, byte-with-other, bit-with-same, bit-with-other}
+use Rattle.bits.proofs.Bits.{bit_ext, bit-lt, length_with, byte_with_other, bit_with_same, bit_with_other}
 use Rattle.block.specs.Block.{cell, zeroed, Off, Kept}
-use Rattle.block.proofs.Blocks.{block-below, kept_trans, kept_less, be-kept, splice-kept, zeroed-kept, cell-zeroed}
+use Rattle.block.proofs.Blocks.{block_below, kept_trans, kept_less, be_kept, splice_kept, zeroed_kept, cell-zeroed}
 use Rattle.model.specs.Tree.{Tree}
 use Rattle.model.specs.Render.{blocks, count, padded, Shows, Wiped}
 use Rattle.model.specs.Geometry.{Geo, block_size, map_size, map_at, data_at, reach, map_bits, bit_end, signature, super_bytes, used_count, Sound}
 use Rattle.model.specs.Volume.{Volume}
 use Rattle.model.specs.Calls.{free_blocks}
 use Rattle.model.proofs.Areas.{area, few, size_large, block_inside}
-use Rattle.model.proofs.Counts.{count-append}
-use Rattle.model.proofs.Free.{LowestClear, clear_ext, clear-lowest, clear_next, free-image, free-found, free-once}
-use Rattle.model.proofs.Commit.{shows-both, shows-two, shows-stored, shows-before, shows-after}
+use Rattle.model.proofs.Counts.{count_append}
+use Rattle.model.proofs.Free.{LowestClear, clear_ext, clear_lowest, clear_next, free_image, free_found, free_once}
+use Rattle.model.proofs.Commit.{shows_both, shows_two, shows_stored, shows_before, shows_after}
 use Rattle.model.proofs.Demand.{whole_super}
-use Rattle.model.proofs.OneVolume.{top-reads, used-is}
+use Rattle.model.proofs.OneVolume.{top_reads, used_is}
 use Rattle.model.proofs.Owns.{shows_kept}
 use Rattle.model.proofs.Sums.{row}
 use Rattle.super_block.specs.Super.{counted}
@@ -33,9 +33,9 @@ use Rattle.bitmap_block.specs.Bitmap.{mark, marked, clears, more, fewer, taken, 
 -- ---- places
 
 -- F5, as the rule has it: first the bitmap block of index x, then the byte in that block, then the place in that byte.
-pub mark-place : (g : Geo) (I : List ℕ) (x : ℕ) → mark g I x ≡ bit I (block_size g * (map_at g + x / map_size g)) (x % map_size g)
+pub mark_place : (g : Geo) (I : List ℕ) (x : ℕ) → mark g I x ≡ bit I (block_size g * (map_at g + x / map_size g)) (x % map_size g)
 unfolding mark bit
-mark-place g I x =
+mark_place g I x =
     let B : ℕ = block_size g in
     let q : ℕ = x / (8 * B) in
     let r : ℕ = x % (8 * B) in
@@ -45,19 +45,19 @@ mark-place g I x =
     λ i. digit (get_or I (e i) 0) (f i)
 
 -- The bit that W5 speaks of.
-pub mark-is : (g : Geo) (I : List ℕ) (x : ℕ) → mark g I x ≡ bit I (block_size g * map_at g) x
+pub mark_is : (g : Geo) (I : List ℕ) (x : ℕ) → mark g I x ≡ bit I (block_size g * map_at g) x
 unfolding mark
-mark-is g I x = refl
+mark_is g I x = refl
 
 -- a bit of the k blocks from a on has its byte in them
 byte_in : (B a k x : ℕ) → x < 8 * (B * k) → B * a + x / 8 < B * (a + k)
 byte_in B a k x h = omega (arith, mul-add B a k)
 
 -- a byte of the k blocks from a on is that of one of them
-byte-kept : (B : ℕ) (P : ℕ → ℕ → Type 0) (I J : List ℕ) → Kept B P I J → (a k : ℕ) → 0 < B → ((b o : ℕ) → a ≤ b → b < a + k → P b o)
+byte_kept : (B : ℕ) (P : ℕ → ℕ → Type 0) (I J : List ℕ) → Kept B P I J → (a k : ℕ) → 0 < B → ((b o : ℕ) → a ≤ b → b < a + k → P b o)
     → (j : ℕ) → j < B * k → get_or J (B * a + j) 0 ≡ get_or I (B * a + j) 0
 unfolding cell
-byte-kept B P I J c a k z f j q =
+byte_kept B P I J c a k z f j q =
     let l : j / B < k = (div-lt_iff_lt-mul z).1 (omega (arith, mul_comm B k)) in
     let e : B * a + j ≡ B * (a + j / B) + j % B = omega (arith, mul-add B a (j / B), div-add-mod j B) in
     rw e (c.at (a + j / B) (j % B) (f (a + j / B) (j % B) (omega arith) (omega arith)) (mod-lt j z))
@@ -92,26 +92,26 @@ module _ (g : Geo) (len : ℕ) (s : Sound g len) where
 -- ---- any store: where it keeps what a reader looks at
 
 module _ (g : Geo) (I : List ℕ) (s : Sound g (length I)) (P : ℕ → ℕ → Type 0) (J : List ℕ) (c : Kept (block_size g) P I J) where
-  pub sound-kept : Sound g (length J)
-  sound-kept = subst (Sound g) (sym c.size) s
+  pub sound_kept : Sound g (length J)
+  sound_kept = subst (Sound g) (sym c.size) s
 
-  pub used-kept : ((o : ℕ) → 14 ≤ o → o < 18 → P g.K o) → used_count g J ≡ used_count g I
+  pub used_kept : ((o : ℕ) → 14 ≤ o → o < 18 → P g.K o) → used_count g J ≡ used_count g I
   unfolding used_count
-  used-kept f = be-kept (block_size g) P I J c 4 g.K 14 (omega (arith, size_large g)) f
+  used_kept f = be_kept (block_size g) P I J c 4 g.K 14 (omega (arith, size_large g)) f
 
-  pub mark-kept : ((b o : ℕ) → map_at g ≤ b → b < data_at g → P b o) → (x : ℕ) → x < map_bits g → mark g J x ≡ mark g I x
+  pub mark_kept : ((b o : ℕ) → map_at g ≤ b → b < data_at g → P b o) → (x : ℕ) → x < map_bits g → mark g J x ≡ mark g I x
   unfolding mark
-  mark-kept f x h =
+  mark_kept f x h =
       bit_ext J I (block_size g * map_at g) (block_size g * map_at g) x
-      (byte-kept (block_size g) P I J c (map_at g) (data_at g - map_at g) (omega (arith, size_large g))
+      (byte_kept (block_size g) P I J c (map_at g) (data_at g - map_at g) (omega (arith, size_large g))
       (λ b o p q. f b o p (omega (arith, map_in g (length I) s))) (x / 8) (omega arith))
 
-  pub clears-kept : ((b o : ℕ) → map_at g ≤ b → b < data_at g → P b o) → clears g J ≡ clears g I
+  pub clears_kept : ((b o : ℕ) → map_at g ≤ b → b < data_at g → P b o) → clears g J ≡ clears g I
   unfolding clears
-  clears-kept f =
+  clears_kept f =
       clear_ext (λ b. mark g J (b - data_at g)) (λ b. mark g I (b - data_at g)) (data_at g) (reach g) (λ b p q.
       let e : mark g J (b - data_at g) ≡ mark g I (b - data_at g)
-      = mark-kept f (b - data_at g) (index_in g (length I) s (b - data_at g) (reach_in g (length I) s (b - data_at g) (omega arith))) in
+      = mark_kept f (b - data_at g) (index_in g (length I) s (b - data_at g) (reach_in g (length I) s (b - data_at g) (omega arith))) in
       (λ z. sym e ∙ z, λ z. e ∙ z))
 
 -- ---- a bit put in
@@ -121,70 +121,70 @@ module _ (g : Geo) (I : List ℕ) (s : Sound g (length I)) (x : ℕ) (h : data_a
   byte : block_size g * map_at g + x / 8 < length I
   byte = bit_in g (length I) s x (index_in g (length I) s x h)
 
-  marked-kept : Kept (block_size g) (λ b o. (b < map_at g) ⊎ (data_at g ≤ b)) I (marked g I x v)
+  marked_kept : Kept (block_size g) (λ b o. (b < map_at g) ⊎ (data_at g ≤ b)) I (marked g I x v)
   unfolding marked cell
-  marked-kept = record { size = length-with I (block_size g * map_at g) x v; at = λ b o p q. byte-with-other I (block_size g * map_at g) x v (block_size g * b + o) (go b o p q) }
+  marked_kept = record { size = length_with I (block_size g * map_at g) x v; at = λ b o p q. byte_with_other I (block_size g * map_at g) x v (block_size g * b + o) (go b o p q) }
     where
       go : (b o : ℕ) → (b < map_at g) ⊎ (data_at g ≤ b) → o < block_size g → block_size g * b + o ≢ block_size g * map_at g + x / 8
-      go b o (inl l) q = omega (arith, block-below (block_size g) b (map_at g) o l q)
+      go b o (inl l) q = omega (arith, block_below (block_size g) b (map_at g) o l q)
       go b o (inr l) q = omega (arith, mul-le-mul_left (block_size g) l, bit_below g (length I) s x (index_in g (length I) s x h))
 
-  used-marked : used_count g (marked g I x v) ≡ used_count g I
-  used-marked = used-kept g I s _ (marked g I x v) marked-kept (λ o _ _. inl (omega arith))
+  used_marked : used_count g (marked g I x v) ≡ used_count g I
+  used_marked = used_kept g I s _ (marked g I x v) marked_kept (λ o _ _. inl (omega arith))
 
   mark-marked : v < 2 → mark g (marked g I x v) x ≡ v
   unfolding mark marked
-  mark-marked p = bit-with-same I (block_size g * map_at g) x v byte p
+  mark-marked p = bit_with_same I (block_size g * map_at g) x v byte p
 
-  mark-marked-other : v < 2 → (y : ℕ) → y ≢ x → mark g (marked g I x v) y ≡ mark g I y
+  mark-marked_other : v < 2 → (y : ℕ) → y ≢ x → mark g (marked g I x v) y ≡ mark g I y
   unfolding mark marked
-  mark-marked-other p y d = bit-with-other I (block_size g * map_at g) x v y byte p d
+  mark-marked_other p y d = bit_with_other I (block_size g * map_at g) x v y byte p d
 
 -- ---- the used count stored
 
 module _ (g : Geo) (I : List ℕ) (s : Sound g (length I)) (v : ℕ) where
-  counted-kept : Kept (block_size g) (Off g.K 14 4) I (counted g I v)
+  counted_kept : Kept (block_size g) (Off g.K 14 4) I (counted g I v)
   unfolding counted
-  counted-kept =
-      rw (length-bytes 4 v) at (splice-kept (block_size g) I g.K 14 (bytes 4 v) (omega (arith, length-bytes 4 v, size_large g)) (super_in g (length I) s))
+  counted_kept =
+      rw (length_bytes 4 v) at (splice_kept (block_size g) I g.K 14 (bytes 4 v) (omega (arith, length_bytes 4 v, size_large g)) (super_in g (length I) s))
 
-  used-counted : v < 2 ^ 32 → used_count g (counted g I v) ≡ v
+  used_counted : v < 2 ^ 32 → used_count g (counted g I v) ≡ v
   unfolding used_count counted
-  used-counted p = be-put-same I (block_size g * g.K + 14) 4 v (omega (arith, size_large g, super_in g (length I) s)) p
+  used_counted p = be_put_same I (block_size g * g.K + 14) 4 v (omega (arith, size_large g, super_in g (length I) s)) p
 
   -- the bitmap is past it
   mark-counted : (x : ℕ) → mark g (counted g I v) x ≡ mark g I x
   unfolding mark counted
   mark-counted x =
       bit_ext (splice I (block_size g * g.K + 14) (bytes 4 v)) I (block_size g * map_at g) (block_size g * map_at g) x
-      (splice-after I (block_size g * g.K + 14) (bytes 4 v) (omega (arith, length-bytes 4 v, size_large g, super_in g (length I) s)) (block_size g * map_at g + x / 8)
-      (omega (arith, length-bytes 4 v, size_large g, mul-add (block_size g) g.K 2)))
+      (splice-after I (block_size g * g.K + 14) (bytes 4 v) (omega (arith, length_bytes 4 v, size_large g, super_in g (length I) s)) (block_size g * map_at g + x / 8)
+      (omega (arith, length_bytes 4 v, size_large g, mul-add (block_size g) g.K 2)))
 
   -- W1's superblock, with that count
-  top-counted : (u : ℕ) → Shows I (block_size g * g.K) (super_bytes g u) → Shows (counted g I v) (block_size g * g.K) (super_bytes g v)
+  top_counted : (u : ℕ) → Shows I (block_size g * g.K) (super_bytes g u) → Shows (counted g I v) (block_size g * g.K) (super_bytes g v)
   unfolding super_bytes padded counted
-  top-counted u t =
+  top_counted u t =
       let k : ℕ = block_size g * g.K in
       let m : List ℕ = signature ++ (g.version ∷ (g.code ∷ [])) in
       let n : List ℕ = bytes 4 g.n in
       let w : List ℕ = bytes 4 u in
       let w' : List ℕ = bytes 4 v in
       let J : List ℕ = splice I (k + 14) w' in
-      let ln : length n ≡ 4 = length-bytes 4 g.n in
-      let lu : length (m ++ (n ++ w)) ≡ 18 = omega (arith, length-append n w, length-bytes 4 u) in
-      let lv : length (m ++ (n ++ w')) ≡ 18 = omega (arith, length-append n w', length-bytes 4 v) in
-      let fits : k + 14 + length w' ≤ length I = omega (arith, length-bytes 4 v, size_large g, super_in g (length I) s) in
-      let r = top-reads I k g u (unfold super_bytes padded in t) in
-      let z : Shows I (k + length (m ++ (n ++ w))) (zeros (block_size g - length (m ++ (n ++ w)))) = shows-two I k (m ++ (n ++ w)) (zeros (block_size g - length (m ++ (n ++ w)))) t in
+      let ln : length n ≡ 4 = length_bytes 4 g.n in
+      let lu : length (m ++ (n ++ w)) ≡ 18 = omega (arith, length-append n w, length_bytes 4 u) in
+      let lv : length (m ++ (n ++ w')) ≡ 18 = omega (arith, length-append n w', length_bytes 4 v) in
+      let fits : k + 14 + length w' ≤ length I = omega (arith, length_bytes 4 v, size_large g, super_in g (length I) s) in
+      let r = top_reads I k g u (unfold super_bytes padded in t) in
+      let z : Shows I (k + length (m ++ (n ++ w))) (zeros (block_size g - length (m ++ (n ++ w)))) = shows_two I k (m ++ (n ++ w)) (zeros (block_size g - length (m ++ (n ++ w)))) t in
       let z' : Shows J (k + length (m ++ (n ++ w))) (zeros (block_size g - length (m ++ (n ++ w))))
-      = shows-after I (k + 14) w' fits (k + length (m ++ (n ++ w))) (zeros (block_size g - length (m ++ (n ++ w)))) (omega (arith, length-bytes 4 v)) z in
+      = shows_after I (k + 14) w' fits (k + length (m ++ (n ++ w))) (zeros (block_size g - length (m ++ (n ++ w)))) (omega (arith, length_bytes 4 v)) z in
       let e : length (m ++ (n ++ w)) ≡ length (m ++ (n ++ w')) = lu ∙ sym lv in
-      let a : Shows J k m = shows-before I (k + 14) w' fits k m (omega arith) r.mark in
-      let b : Shows J (k + 10) n = shows-before I (k + 14) w' fits (k + 10) n (omega arith) r.count in
-      let c : Shows J (k + 14) w' = shows-stored I (k + 14) w' fits in
+      let a : Shows J k m = shows_before I (k + 14) w' fits k m (omega arith) r.mark in
+      let b : Shows J (k + 10) n = shows_before I (k + 14) w' fits (k + 10) n (omega arith) r.count in
+      let c : Shows J (k + 14) w' = shows_stored I (k + 14) w' fits in
       let d : k + 10 + length n ≡ k + 14 = omega arith in
-      shows-both J k (m ++ (n ++ w')) (zeros (block_size g - length (m ++ (n ++ w'))))
-      (shows-both J k m (n ++ w') a (shows-both J (k + 10) n w' b (subst (λ (j : ℕ). Shows J j w') (sym d) c)))
+      shows_both J k (m ++ (n ++ w')) (zeros (block_size g - length (m ++ (n ++ w'))))
+      (shows_both J k m (n ++ w') a (shows_both J (k + 10) n w' b (subst (λ (j : ℕ). Shows J j w') (sym d) c)))
       (subst (λ (j : ℕ). Shows J (k + j) (zeros (block_size g - j))) e z')
 
 -- ---- what taking and freeing leave
@@ -206,8 +206,8 @@ pub aside_data : (g : Geo) (len : ℕ) → Sound g len → (b o : ℕ) → data_
 aside_data g len s b o h = aside_other g b o (λ e. omega (arith, (area g len s).maps)) (λ p q. omega arith)
 
 -- as a bit that is put in says it
-off-map : (g : Geo) (b : ℕ) → (map_at g ≤ b → b < data_at g → ⊥) → (b < map_at g) ⊎ (data_at g ≤ b)
-off-map g b f = go (dec_lt b (map_at g)) (dec_lt b (data_at g))
+off_map : (g : Geo) (b : ℕ) → (map_at g ≤ b → b < data_at g → ⊥) → (b < map_at g) ⊎ (data_at g ≤ b)
+off_map g b f = go (dec_lt b (map_at g)) (dec_lt b (data_at g))
   where
     go : Dec (b < map_at g) → Dec (b < data_at g) → (b < map_at g) ⊎ (data_at g ≤ b)
     go (yes l) q = inl l
@@ -222,83 +222,83 @@ module _ (g : Geo) (I : List ℕ) (s : Sound g (length I)) (x : ℕ) (h : data_a
 
   zero_kept : Kept (block_size g) (λ b o. (b < data_at g + x) ⊎ (data_at g + x + 1 ≤ b)) I zero_of
   unfolding zero_of
-  zero_kept = zeroed-kept (block_size g) I (data_at g + x) 1 (rw mul-one (data_in g (length I) s x h))
+  zero_kept = zeroed_kept (block_size g) I (data_at g + x) 1 (rw mul-one (data_in g (length I) s x h))
 
   zero_sound : Sound g (length zero_of)
-  zero_sound = sound-kept g I s _ zero_of zero_kept
+  zero_sound = sound_kept g I s _ zero_of zero_kept
 
   -- with v as its bit
   module _ (v : ℕ) where
     set_of : List ℕ
     set_of = marked g zero_of x v
 
-    set-kept : Kept (block_size g) (λ b o. (b < map_at g) ⊎ (data_at g ≤ b)) zero_of set_of
+    set_kept : Kept (block_size g) (λ b o. (b < map_at g) ⊎ (data_at g ≤ b)) zero_of set_of
     unfolding set_of
-    set-kept = marked-kept g zero_of zero_sound x h v
+    set_kept = marked_kept g zero_of zero_sound x h v
 
-    set-sound : Sound g (length set_of)
-    set-sound = sound-kept g zero_of zero_sound _ set_of set-kept
+    set_sound : Sound g (length set_of)
+    set_sound = sound_kept g zero_of zero_sound _ set_of set_kept
 
-    set-used : used_count g set_of ≡ used_count g I
+    set_used : used_count g set_of ≡ used_count g I
     unfolding set_of
-    set-used = used-marked g zero_of zero_sound x h v ∙ used-kept g I s _ zero_of zero_kept (λ o _ _. inl (omega (arith, (area g (length I) s).maps)))
+    set_used = used_marked g zero_of zero_sound x h v ∙ used_kept g I s _ zero_of zero_kept (λ o _ _. inl (omega (arith, (area g (length I) s).maps)))
 
     -- (the same on the way, in the definition's own words)
     pub length_half : length (marked g (zeroed (block_size g) I (data_at g + x) 1) x v) ≡ length I
     unfolding set_of zero_of
-    length_half = set-kept.size ∙ zero_kept.size
+    length_half = set_kept.size ∙ zero_kept.size
 
     pub used_half : used_count g (marked g (zeroed (block_size g) I (data_at g + x) 1) x v) ≡ used_count g I
     unfolding set_of zero_of
-    used_half = set-used
+    used_half = set_used
 
     -- and u as the used count
     module _ (u : ℕ) where
       put_of : List ℕ
       put_of = counted g set_of u
 
-      last-kept : Kept (block_size g) (Off g.K 14 4) set_of put_of
+      last_kept : Kept (block_size g) (Off g.K 14 4) set_of put_of
       unfolding put_of
-      last-kept = counted-kept g set_of set-sound u
+      last_kept = counted_kept g set_of set_sound u
 
       -- every other byte is as it was
-      put-kept : Kept (block_size g) (λ b o. Aside g b o × (b ≡ data_at g + x → ⊥)) I put_of
-      put-kept =
+      put_kept : Kept (block_size g) (λ b o. Aside g b o × (b ≡ data_at g + x → ⊥)) I put_of
+      put_kept =
           kept_trans (kept_less (λ b o p. other b p.1 (dec_lt b (data_at g + x))) zero_kept)
-          (kept_trans (kept_less (λ b o p. off-map g b p.0.not_map) set-kept) (kept_less (λ b o p. p.0.not_count) last-kept))
+          (kept_trans (kept_less (λ b o p. off_map g b p.0.not_map) set_kept) (kept_less (λ b o p. p.0.not_count) last_kept))
         where
           other : (b : ℕ) → (b ≡ data_at g + x → ⊥) → Dec (b < data_at g + x) → (b < data_at g + x) ⊎ (data_at g + x + 1 ≤ b)
           other b d (yes l) = inl l
           other b d (no l) = inr (omega arith)
 
-      put-used : u < 2 ^ 32 → used_count g put_of ≡ u
+      put_used : u < 2 ^ 32 → used_count g put_of ≡ u
       unfolding put_of
-      put-used p = used-counted g set_of set-sound u p
+      put_used p = used_counted g set_of set_sound u p
 
-      put-top : (w : ℕ) → Shows I (block_size g * g.K) (super_bytes g w) → Shows put_of (block_size g * g.K) (super_bytes g u)
+      put_top : (w : ℕ) → Shows I (block_size g * g.K) (super_bytes g w) → Shows put_of (block_size g * g.K) (super_bytes g u)
       unfolding put_of
-      put-top w t =
+      put_top w t =
           let l : length (super_bytes g w) ≤ block_size g = omega (arith, whole_super g w) in
           let a = shows_kept (block_size g) _ I zero_of g.K (super_bytes g w) zero_kept (λ o _. inl (omega (arith, (area g (length I) s).maps))) l t in
-          let b = shows_kept (block_size g) _ zero_of set_of g.K (super_bytes g w) set-kept (λ o _. inl (omega arith)) l a in
-          top-counted g set_of set-sound u w b
+          let b = shows_kept (block_size g) _ zero_of set_of g.K (super_bytes g w) set_kept (λ o _. inl (omega arith)) l a in
+          top_counted g set_of set_sound u w b
 
       -- the marks
-      put-mark : v < 2 → mark g put_of x ≡ v
+      put_mark : v < 2 → mark g put_of x ≡ v
       unfolding put_of set_of
-      put-mark p = mark-counted g (unfold set_of in set_of) (unfold set_of in set-sound) u x ∙ mark-marked g zero_of zero_sound x h v p
+      put_mark p = mark-counted g (unfold set_of in set_of) (unfold set_of in set_sound) u x ∙ mark-marked g zero_of zero_sound x h v p
 
-      put-mark-other : v < 2 → (y : ℕ) → y < map_bits g → y ≢ x → mark g put_of y ≡ mark g I y
+      put_mark_other : v < 2 → (y : ℕ) → y < map_bits g → y ≢ x → mark g put_of y ≡ mark g I y
       unfolding put_of set_of
-      put-mark-other p y q d =
-          mark-counted g (unfold set_of in set_of) (unfold set_of in set-sound) u y
-          ∙ mark-marked-other g zero_of zero_sound x h v p y d ∙ mark-kept g I s _ zero_of zero_kept (λ b o _ l. inl (omega arith)) y q
+      put_mark_other p y q d =
+          mark-counted g (unfold set_of in set_of) (unfold set_of in set_sound) u y
+          ∙ mark-marked_other g zero_of zero_sound x h v p y d ∙ mark_kept g I s _ zero_of zero_kept (λ b o _ l. inl (omega arith)) y q
 
       -- the block's bytes are zero
-      put-cell : (o : ℕ) → o < block_size g → cell (block_size g) put_of (data_at g + x) o ≡ 0
+      put_cell : (o : ℕ) → o < block_size g → cell (block_size g) put_of (data_at g + x) o ≡ 0
       unfolding zero_of
-      put-cell o q =
-          last-kept.at (data_at g + x) o (aside_data g (length I) s (data_at g + x) o (omega arith)).not_count q ∙ set-kept.at (data_at g + x) o (inr (omega arith)) q
+      put_cell o q =
+          last_kept.at (data_at g + x) o (aside_data g (length I) s (data_at g + x) o (omega arith)).not_count q ∙ set_kept.at (data_at g + x) o (inr (omega arith)) q
           ∙ cell-zeroed (block_size g) I (data_at g + x) 1 (rw mul-one (data_in g (length I) s x h)) (data_at g + x) o (omega arith) (omega arith) q
 
 -- ---- a block taken
@@ -309,53 +309,53 @@ module _ (g : Geo) (I : List ℕ) (s : Sound g (length I)) (x : ℕ) (h : data_a
   taken_is = ap (λ (u : ℕ). counted g (marked g (zeroed (block_size g) I (data_at g + x) 1) x 1) (u + 1)) (used_half g I s x h 1)
 
   -- every other byte is as it was
-  pub taken-kept : Kept (block_size g) (λ b o. Aside g b o × (b ≡ data_at g + x → ⊥)) I (taken g I x)
-  taken-kept = subst (Kept (block_size g) (λ b o. Aside g b o × (b ≡ data_at g + x → ⊥)) I) (sym taken_is) (put-kept g I s x h 1 (used_count g I + 1))
+  pub taken_kept : Kept (block_size g) (λ b o. Aside g b o × (b ≡ data_at g + x → ⊥)) I (taken g I x)
+  taken_kept = subst (Kept (block_size g) (λ b o. Aside g b o × (b ≡ data_at g + x → ⊥)) I) (sym taken_is) (put_kept g I s x h 1 (used_count g I + 1))
 
-  pub sound-taken : Sound g (length (taken g I x))
-  sound-taken = sound-kept g I s _ (taken g I x) taken-kept
+  pub sound_taken : Sound g (length (taken g I x))
+  sound_taken = sound_kept g I s _ (taken g I x) taken_kept
 
   -- the used count that is stored is one more than it was
-  pub used-taken : used_count g I + 1 < 2 ^ 32 → used_count g (taken g I x) ≡ used_count g I + 1
-  used-taken p = ap (used_count g) taken_is ∙ put-used g I s x h 1 (used_count g I + 1) p
+  pub used_taken : used_count g I + 1 < 2 ^ 32 → used_count g (taken g I x) ≡ used_count g I + 1
+  used_taken p = ap (used_count g) taken_is ∙ put_used g I s x h 1 (used_count g I + 1) p
 
   pub top_taken : (u : ℕ) → Shows I (block_size g * g.K) (super_bytes g u) → Shows (taken g I x) (block_size g * g.K) (super_bytes g (used_count g I + 1))
   top_taken u t =
-      subst (λ (J : List ℕ). Shows J (block_size g * g.K) (super_bytes g (used_count g I + 1))) (sym taken_is) (put-top g I s x h 1 (used_count g I + 1) u t)
+      subst (λ (J : List ℕ). Shows J (block_size g * g.K) (super_bytes g (used_count g I + 1))) (sym taken_is) (put_top g I s x h 1 (used_count g I + 1) u t)
 
   -- the marks
   pub mark-taken : mark g (taken g I x) x ≡ 1
-  mark-taken = ap (λ (J : List ℕ). mark g J x) taken_is ∙ put-mark g I s x h 1 (used_count g I + 1) (omega arith)
+  mark-taken = ap (λ (J : List ℕ). mark g J x) taken_is ∙ put_mark g I s x h 1 (used_count g I + 1) (omega arith)
 
-  pub mark-taken-other : (y : ℕ) → y < map_bits g → y ≢ x → mark g (taken g I x) y ≡ mark g I y
-  mark-taken-other y q d = ap (λ (J : List ℕ). mark g J y) taken_is ∙ put-mark-other g I s x h 1 (used_count g I + 1) (omega arith) y q d
+  pub mark-taken_other : (y : ℕ) → y < map_bits g → y ≢ x → mark g (taken g I x) y ≡ mark g I y
+  mark-taken_other y q d = ap (λ (J : List ℕ). mark g J y) taken_is ∙ put_mark_other g I s x h 1 (used_count g I + 1) (omega arith) y q d
 
   -- its bytes are zero, so its chain ends with it
   pub cell-taken : (o : ℕ) → o < block_size g → cell (block_size g) (taken g I x) (data_at g + x) o ≡ 0
-  cell-taken o q = ap (λ (J : List ℕ). cell (block_size g) J (data_at g + x) o) taken_is ∙ put-cell g I s x h 1 (used_count g I + 1) o q
+  cell-taken o q = ap (λ (J : List ℕ). cell (block_size g) J (data_at g + x) o) taken_is ∙ put_cell g I s x h 1 (used_count g I + 1) o q
 
 -- ---- the lowest clear index, and what is left where that one is taken
 
 module _ (g : Geo) (I : List ℕ) (s : Sound g (length I)) (x : ℕ) (others : List ℕ) (e : clears g I ≡ (data_at g + x) ∷ others) where
-  lowest-is : LowestClear (λ b. mark g I (b - data_at g)) (data_at g) (reach g) (data_at g + x) others
+  lowest_is : LowestClear (λ b. mark g I (b - data_at g)) (data_at g) (reach g) (data_at g + x) others
   unfolding clears
-  lowest-is = clear-lowest (λ b. mark g I (b - data_at g)) (data_at g) (reach g) (data_at g + x) others e
+  lowest_is = clear_lowest (λ b. mark g I (b - data_at g)) (data_at g) (reach g) (data_at g + x) others e
 
   -- the place of an index, of its address
   index_of : (y : ℕ) → data_at g + y - data_at g ≡ y
   index_of y = omega arith
 
   pub first_in : data_at g + x < bit_end g
-  first_in = reach_in g (length I) s x (omega (arith, lowest-is.below))
+  first_in = reach_in g (length I) s x (omega (arith, lowest_is.below))
 
   -- and clear, and all below it are set
-  pub first-clear : mark g I x ≡ 0
-  first-clear = ap (mark g I) (sym (index_of x)) ∙ lowest-is.clear
+  pub first_clear : mark g I x ≡ 0
+  first_clear = ap (mark g I) (sym (index_of x)) ∙ lowest_is.clear
 
-  first-lowest : (y : ℕ) → y < x → mark g I y ≡ 1
+  first_lowest : (y : ℕ) → y < x → mark g I y ≡ 1
   unfolding mark
-  first-lowest y q =
-      let n : mark g I y ≡ 0 → ⊥ = λ z. lowest-is.lowest (data_at g + y) (omega arith) (omega arith) (ap (mark g I) (index_of y) ∙ z) in
+  first_lowest y q =
+      let n : mark g I y ≡ 0 → ⊥ = λ z. lowest_is.lowest (data_at g + y) (omega arith) (omega arith) (ap (mark g I) (index_of y) ∙ z) in
       one (bit-lt I (block_size g * map_at g) y) n
     where
       one : {m : ℕ} → m < 2 → (m ≡ 0 → ⊥) → m ≡ 1
@@ -369,7 +369,7 @@ module _ (g : Geo) (I : List ℕ) (s : Sound g (length I)) (x : ℕ) (others : L
       (λ z. let m : mark g (taken g I x) x ≡ 0 = ap (mark g (taken g I x)) (sym (index_of x)) ∙ z in omega (arith, mark-taken g I s x first_in))
       (λ c p q d.
       let f : mark g (taken g I x) (c - data_at g) ≡ mark g I (c - data_at g)
-      = mark-taken-other g I s x first_in (c - data_at g) (index_in g (length I) s (c - data_at g) (reach_in g (length I) s (c - data_at g) (omega arith))) (omega arith) in
+      = mark-taken_other g I s x first_in (c - data_at g) (index_in g (length I) s (c - data_at g) (reach_in g (length I) s (c - data_at g) (omega arith))) (omega arith) in
       (λ z. sym f ∙ z, λ z. f ∙ z))
 
   -- all up to it are set, so the next search may begin above it
@@ -379,19 +379,19 @@ module _ (g : Geo) (I : List ℕ) (s : Sound g (length I)) (x : ℕ) (others : L
     where
       go : Dec (y < x) → bit (taken g I x) (block_size g * map_at g) y ≡ 1
       go (yes l) =
-          (unfold mark in mark-taken-other g I s x first_in y (index_in g (length I) s y (omega (arith, first_in))) (omega arith)) ∙ (unfold mark in first-lowest y l)
+          (unfold mark in mark-taken_other g I s x first_in y (index_in g (length I) s y (omega (arith, first_in))) (omega arith)) ∙ (unfold mark in first_lowest y l)
       go (no l) = let d : y ≡ x = omega arith in rw d (unfold mark in mark-taken g I s x first_in)
 
   -- room for one more is room for the others
-  pub room-taken : (k : ℕ) → Room g I (k + 1) → Room g (taken g I x) k
-  room-taken k r = record {
+  pub room_taken : (k : ℕ) → Room g I (k + 1) → Room g (taken g I x) k
+  room_taken k r = record {
     clear = omega (arith, r.clear, ap length e, ap length clears-taken);
-    count = omega (arith, r.count, used-taken g I s x first_in (omega (arith, r.count, few g (length I) s)));
+    count = omega (arith, r.count, used_taken g I s x first_in (omega (arith, r.count, few g (length I) s)));
   }
 
 -- Where there is one, the first is the lowest.
-pub clears-first : (g : Geo) (I : List ℕ) (x : ℕ) → 1 ≤ length (clears g I) → data_at g + x ≡ get_or (clears g I) 0 0 → clears g I ≡ (data_at g + x) ∷ drop 1 (clears g I)
-clears-first g I x h e = go (clears g I) h e
+pub clears_first : (g : Geo) (I : List ℕ) (x : ℕ) → 1 ≤ length (clears g I) → data_at g + x ≡ get_or (clears g I) 0 0 → clears g I ≡ (data_at g + x) ∷ drop 1 (clears g I)
+clears_first g I x h e = go (clears g I) h e
   where
     go : (l : List ℕ) → 1 ≤ length l → data_at g + x ≡ get_or l 0 0 → l ≡ (data_at g + x) ∷ drop 1 l
     go [] h e = absurd (omega arith)
@@ -399,80 +399,80 @@ clears-first g I x h e = go (clears g I) h e
 
 -- What stands first among the clear ones is a block of the data,
 module _ (g : Geo) (I : List ℕ) (h : 1 ≤ length (clears g I)) where
-  pub fresh-low : data_at g ≤ fresh g I
+  pub fresh_low : data_at g ≤ fresh g I
   unfolding clears fresh
-  fresh-low = go (clears g I) refl h
+  fresh_low = go (clears g I) refl h
     where
       go : (c : List ℕ) → clears g I ≡ c → 1 ≤ length c → data_at g ≤ get_or c 0 0
       go [] e k = absurd (omega arith)
-      go (a ∷ c) e k = (clear-lowest (λ b. mark g I (b - data_at g)) _ _ a c e).from
+      go (a ∷ c) e k = (clear_lowest (λ b. mark g I (b - data_at g)) _ _ a c e).from
 
-  pub fresh-index : data_at g + (fresh g I - data_at g) ≡ fresh g I
-  fresh-index = omega (arith, fresh-low)
+  pub fresh_index : data_at g + (fresh g I - data_at g) ≡ fresh g I
+  fresh_index = omega (arith, fresh_low)
 
-  pub fresh-first : clears g I ≡ (data_at g + (fresh g I - data_at g)) ∷ drop 1 (clears g I)
+  pub fresh_first : clears g I ≡ (data_at g + (fresh g I - data_at g)) ∷ drop 1 (clears g I)
   unfolding fresh
-  fresh-first = clears-first g I (fresh g I - data_at g) h (unfold fresh in fresh-index)
+  fresh_first = clears_first g I (fresh g I - data_at g) h (unfold fresh in fresh_index)
 
-  pub fresh-head : clears g I ≡ fresh g I ∷ drop 1 (clears g I)
-  fresh-head = fresh-first ∙ ap (λ (b : ℕ). b ∷ drop 1 (clears g I)) fresh-index
+  pub fresh_head : clears g I ≡ fresh g I ∷ drop 1 (clears g I)
+  fresh_head = fresh_first ∙ ap (λ (b : ℕ). b ∷ drop 1 (clears g I)) fresh_index
 
   -- and clear
   module _ (s : Sound g (length I)) where
     pub fresh_data : data_at g + (fresh g I - data_at g) < bit_end g
-    fresh_data = first_in g I s (fresh g I - data_at g) (drop 1 (clears g I)) fresh-first
+    fresh_data = first_in g I s (fresh g I - data_at g) (drop 1 (clears g I)) fresh_first
 
-    pub fresh-end : fresh g I < bit_end g
-    fresh-end = omega (arith, fresh_data, fresh-index)
+    pub fresh_end : fresh g I < bit_end g
+    fresh_end = omega (arith, fresh_data, fresh_index)
 
-    pub fresh-high : fresh g I < g.n
-    fresh-high = omega (arith, fresh-end)
+    pub fresh_high : fresh g I < g.n
+    fresh_high = omega (arith, fresh_end)
 
-    pub fresh-clear : mark g I (fresh g I - data_at g) ≡ 0
-    fresh-clear = first-clear g I s (fresh g I - data_at g) (drop 1 (clears g I)) fresh-first
+    pub fresh_clear : mark g I (fresh g I - data_at g) ≡ 0
+    fresh_clear = first_clear g I s (fresh g I - data_at g) (drop 1 (clears g I)) fresh_first
 
 -- ---- a block given back
 
 module _ (g : Geo) (I : List ℕ) (s : Sound g (length I)) (x : ℕ) (h : data_at g + x < bit_end g) where
-  freed-is : freed g I x ≡ put_of g I s x h 0 (used_count g I - 1)
+  freed_is : freed g I x ≡ put_of g I s x h 0 (used_count g I - 1)
   unfolding freed fewer put_of set_of zero_of
-  freed-is = ap (λ (u : ℕ). counted g (marked g (zeroed (block_size g) I (data_at g + x) 1) x 0) (u - 1)) (used_half g I s x h 0)
+  freed_is = ap (λ (u : ℕ). counted g (marked g (zeroed (block_size g) I (data_at g + x) 1) x 0) (u - 1)) (used_half g I s x h 0)
 
   -- every other byte is as it was
-  pub freed-kept : Kept (block_size g) (λ b o. Aside g b o × (b ≡ data_at g + x → ⊥)) I (freed g I x)
-  freed-kept = subst (Kept (block_size g) (λ b o. Aside g b o × (b ≡ data_at g + x → ⊥)) I) (sym freed-is) (put-kept g I s x h 0 (used_count g I - 1))
+  pub freed_kept : Kept (block_size g) (λ b o. Aside g b o × (b ≡ data_at g + x → ⊥)) I (freed g I x)
+  freed_kept = subst (Kept (block_size g) (λ b o. Aside g b o × (b ≡ data_at g + x → ⊥)) I) (sym freed_is) (put_kept g I s x h 0 (used_count g I - 1))
 
   -- the used count that is stored is one fewer than it was
-  pub used-freed : used_count g I < 2 ^ 32 → used_count g (freed g I x) ≡ used_count g I - 1
-  used-freed p = ap (used_count g) freed-is ∙ put-used g I s x h 0 (used_count g I - 1) (omega arith)
+  pub used_freed : used_count g I < 2 ^ 32 → used_count g (freed g I x) ≡ used_count g I - 1
+  used_freed p = ap (used_count g) freed_is ∙ put_used g I s x h 0 (used_count g I - 1) (omega arith)
 
-  pub top-freed : (u : ℕ) → Shows I (block_size g * g.K) (super_bytes g u) → Shows (freed g I x) (block_size g * g.K) (super_bytes g (used_count g I - 1))
-  top-freed u t =
-      subst (λ (J : List ℕ). Shows J (block_size g * g.K) (super_bytes g (used_count g I - 1))) (sym freed-is) (put-top g I s x h 0 (used_count g I - 1) u t)
+  pub top_freed : (u : ℕ) → Shows I (block_size g * g.K) (super_bytes g u) → Shows (freed g I x) (block_size g * g.K) (super_bytes g (used_count g I - 1))
+  top_freed u t =
+      subst (λ (J : List ℕ). Shows J (block_size g * g.K) (super_bytes g (used_count g I - 1))) (sym freed_is) (put_top g I s x h 0 (used_count g I - 1) u t)
 
   -- the marks
   pub mark-freed : mark g (freed g I x) x ≡ 0
-  mark-freed = ap (λ (J : List ℕ). mark g J x) freed-is ∙ put-mark g I s x h 0 (used_count g I - 1) (omega arith)
+  mark-freed = ap (λ (J : List ℕ). mark g J x) freed_is ∙ put_mark g I s x h 0 (used_count g I - 1) (omega arith)
 
-  pub mark-freed-other : (y : ℕ) → y < map_bits g → y ≢ x → mark g (freed g I x) y ≡ mark g I y
-  mark-freed-other y q d = ap (λ (J : List ℕ). mark g J y) freed-is ∙ put-mark-other g I s x h 0 (used_count g I - 1) (omega arith) y q d
+  pub mark-freed_other : (y : ℕ) → y < map_bits g → y ≢ x → mark g (freed g I x) y ≡ mark g I y
+  mark-freed_other y q d = ap (λ (J : List ℕ). mark g J y) freed_is ∙ put_mark_other g I s x h 0 (used_count g I - 1) (omega arith) y q d
 
   -- its bytes are zero: nothing of what it held is left
-  pub freed-wiped : Wiped (block_size g) (freed g I x) (data_at g + x)
+  pub freed_wiped : Wiped (block_size g) (freed g I x) (data_at g + x)
   unfolding cell
-  freed-wiped o q = ap (λ (J : List ℕ). get_or J (block_size g * (data_at g + x) + o) 0) freed-is ∙ put-cell g I s x h 0 (used_count g I - 1) o q
+  freed_wiped o q = ap (λ (J : List ℕ). get_or J (block_size g * (data_at g + x) + o) 0) freed_is ∙ put_cell g I s x h 0 (used_count g I - 1) o q
 
 -- ---- on a volume
 
 module _ (g : Geo) (I : List ℕ) (d : ℕ) (t : Tree d) (v : Volume g I d t) where
   -- the clear indexes are the free blocks
-  pub volume-clears : clears g I ≡ free_blocks g d t
+  pub volume_clears : clears g I ≡ free_blocks g d t
   unfolding clears mark
-  volume-clears = sym (free-image g I d t v)
+  volume_clears = sym (free_image g I d t v)
 
   -- what is reached and what is free are blocks of the data, none twice
-  all-few : length (blocks (block_size g) d t) + length (free_blocks g d t) ≤ g.n - data_at g
-  all-few =
+  all_few : length (blocks (block_size g) d t) + length (free_blocks g d t) ≤ g.n - data_at g
+  all_few =
       omega (
         arith,
         length-append (blocks (block_size g) d t) (free_blocks g d t),
@@ -481,17 +481,17 @@ module _ (g : Geo) (I : List ℕ) (d : ℕ) (t : Tree d) (v : Volume g I d t) wh
     where
       once : (i : ℕ) → Dec (0 < count i (free_blocks g d t)) → count i (blocks (block_size g) d t ++ free_blocks g d t) ≤ 1
       once i (yes l) =
-          omega (arith, count-append i (blocks (block_size g) d t) (free_blocks g d t), (free-found g d t (length I) v.laid.sound i l).2, free-once g d t i)
-      once i (no l) = omega (arith, count-append i (blocks (block_size g) d t) (free_blocks g d t), v.laid.once i)
+          omega (arith, count_append i (blocks (block_size g) d t) (free_blocks g d t), (free_found g d t (length I) v.laid.sound i l).2, free_once g d t i)
+      once i (no l) = omega (arith, count_append i (blocks (block_size g) d t) (free_blocks g d t), v.laid.once i)
 
       range : (i : ℕ) → 1 ≤ count i (blocks (block_size g) d t ++ free_blocks g d t) → Dec (0 < count i (free_blocks g d t)) → (data_at g ≤ i) × (i < data_at g + (g.n - data_at g))
-      range i q (yes l) = let r = free-found g d t (length I) v.laid.sound i l in (r.0, omega (arith, r.0, r.1))
+      range i q (yes l) = let r = free_found g d t (length I) v.laid.sound i l in (r.0, omega (arith, r.0, r.1))
       range i q (no l) =
-          let r = v.laid.range i (omega (arith, count-append i (blocks (block_size g) d t) (free_blocks g d t))) in (r.0, omega (arith, r.0, r.1))
+          let r = v.laid.range i (omega (arith, count_append i (blocks (block_size g) d t) (free_blocks g d t))) in (r.0, omega (arith, r.0, r.1))
 
   -- so there is room for as many as are free
-  pub volume-room : (k : ℕ) → k ≤ length (free_blocks g d t) → Room g I k
-  volume-room k h = record {
-    clear = rw volume-clears h;
-    count = omega (arith, used-is g I d t v, all-few, (area g (length I) v.laid.sound).some_data);
+  pub volume_room : (k : ℕ) → k ≤ length (free_blocks g d t) → Room g I k
+  volume_room k h = record {
+    clear = rw volume_clears h;
+    count = omega (arith, used_is g I d t v, all_few, (area g (length I) v.laid.sound).some_data);
   }

@@ -7,7 +7,7 @@ use Rattle.model.specs.Calls.{clear_from}
 use Rattle.super_block.specs.Super.{counted}
 
 -- F5: the bit of index x. The rule gives its bitmap block, the byte there and the place in that; but the bitmap blocks stand side
--- by side, so that is bit x of the bytes from block a on (`mark-place` in proofs/).
+-- by side, so that is bit x of the bytes from block a on (`mark_place` in proofs/).
 unfoldable pub mark : Geo → List ℕ → ℕ → ℕ
 mark g I x = bit I (block_size g * map_at g) x
 

@@ -12,9 +12,9 @@ use borrow.Author.Tests.{lt-ltb, le-ltb, le-leb, lt-leb}
 use Rattle.wire.proofs.Picks.{pick_true, pick_false}
 use Rattle.bits.specs.Bit.{ones}
 use Rattle.bits.proofs.Bits.{ones-le, ones-more, bit-lt}
-use Rattle.bits.proofs.Words.{byte-ones, ones-byte, ones_cut}
+use Rattle.bits.proofs.Words.{byte_ones, ones_byte, ones_cut}
 use Rattle.model.specs.Geometry.{Geo, block_size, map_at, data_at, reach}
-use Rattle.model.proofs.Free.{clear-count}
+use Rattle.model.proofs.Free.{clear_count}
 use Rattle.super_block.specs.declared.SuperBlock.{SuperBlock}
 use Rattle.super_block.specs.Super.{geo_of, Fit}
 use Rattle.bitmap_block.specs.Bitmap.{mark, clears}
@@ -25,15 +25,15 @@ use Rattle.bitmap_room.specs.declared.Told.{Told}
 -- ---- full bytes
 
 -- one more
-pub full-more : (l : List ℕ) → ((i : ℕ) → get_or l i 0 < 256) → (at i : ℕ) → ones l at (8 * i) ≡ 8 * i → get_or l (at + i) 0 ≡ 255
+pub full_more : (l : List ℕ) → ((i : ℕ) → get_or l i 0 < 256) → (at i : ℕ) → ones l at (8 * i) ≡ 8 * i → get_or l (at + i) 0 ≡ 255
     → ones l at (8 * (i + 1)) ≡ 8 * (i + 1)
 unfolding word.ones
-full-more l bytes at i h e =
+full_more l bytes at i h e =
     let c : word.ones 255 ≡ 8 = refl in
-    omega (arith, h, byte-ones l bytes (at + i), ap word.ones e, ones-byte l at i)
+    omega (arith, h, byte_ones l bytes (at + i), ap word.ones e, ones_byte l at i)
 
-pub full-all : (l : List ℕ) (at i : ℕ) → ones l at (8 * i) ≡ 8 * i → i ≤ 8 → 8 ≤ i → ones l at 64 ≡ 64
-full-all l at i h p q = let e : 8 * i ≡ 64 = omega arith in omega (arith, h, ap (ones l at) e)
+pub full_all : (l : List ℕ) (at i : ℕ) → ones l at (8 * i) ≡ 8 * i → i ≤ 8 → 8 ≤ i → ones l at 64 ≡ 64
+full_all l at i h p q = let e : 8 * i ≡ 64 = omega arith in omega (arith, h, ap (ones l at) e)
 
 -- an answer of no says nothing
 pub not_full : {P : Type 0} → false ≡ true → P
@@ -67,27 +67,27 @@ module _ (l : List ℕ) (from : ℕ) where
     clear_none k = let e : min (8 * 0) limit ≡ 0 = omega arith in rw e (omega arith)
 
     -- all of them
-    clear-all : (m : ℕ) → limit ≤ 8 * m → clear_in l from limit m + ones l from limit ≡ limit
+    clear_all : (m : ℕ) → limit ≤ 8 * m → clear_in l from limit m + ones l from limit ≡ limit
     unfolding clear_in
-    clear-all m h = let e : min (8 * m) limit ≡ limit = omega arith in rw e (omega (arith, ones-le l from limit))
+    clear_all m h = let e : min (8 * m) limit ≡ limit = omega arith in rw e (omega (arith, ones-le l from limit))
 
     -- n bits more, from byte i on to the end of byte m or to the limit
-    clear-cut : (i n m c : ℕ) → 8 * i ≤ limit → min (8 * m) limit ≡ 8 * i + n → c ≡ ones l (from + i) n
+    clear_cut : (i n m c : ℕ) → 8 * i ≤ limit → min (8 * m) limit ≡ 8 * i + n → c ≡ ones l (from + i) n
         → clear_in l from limit i + (n - c) ≡ clear_in l from limit m
     unfolding clear_in
-    clear-cut i n m c h e q =
+    clear_cut i n m c h e q =
         let u : min (8 * i) limit ≡ 8 * i = omega arith in
         rw (e, u)
         (omega (arith, ones_cut l from i n, ones-le l from (8 * i), ones-le l (from + i) n))
 
     -- a last part of a byte, and a whole one
-    pub clear-part : (i rest c : ℕ) → 8 * i < limit → rest ≡ limit - 8 * i → rest < 8 → c ≡ ones l (from + i) rest
+    pub clear_part : (i rest c : ℕ) → 8 * i < limit → rest ≡ limit - 8 * i → rest < 8 → c ≡ ones l (from + i) rest
         → clear_in l from limit i + (rest - c) ≡ clear_in l from limit (i + 1)
-    clear-part i rest c h e p q = clear-cut i rest (i + 1) c (omega arith) (omega arith) q
+    clear_part i rest c h e p q = clear_cut i rest (i + 1) c (omega arith) (omega arith) q
 
-    pub clear-byte : (i rest c : ℕ) → 8 * i < limit → rest ≡ limit - 8 * i → 8 ≤ rest → c ≡ ones l (from + i) 8
+    pub clear_byte : (i rest c : ℕ) → 8 * i < limit → rest ≡ limit - 8 * i → 8 ≤ rest → c ≡ ones l (from + i) 8
         → clear_in l from limit i + (8 - c) ≡ clear_in l from limit (i + 1)
-    clear-byte i rest c h e p q = clear-cut i 8 (i + 1) c (omega arith) (omega arith) q
+    clear_byte i rest c h e p q = clear_cut i 8 (i + 1) c (omega arith) (omega arith) q
 
     -- what is looked at together
     module _ (i left : ℕ) (h : 8 * i < limit) where
@@ -97,22 +97,22 @@ module _ (l : List ℕ) (from : ℕ) where
       module _ (p : 64 ≤ limit - 8 * i) where
         pub eight_bytes : (c : ℕ) → 64 < left → c ≡ ones l (from + i) 64 → Together l from limit i left 8 (64 - c)
         eight_bytes c o q =
-            (omega arith, omega arith, clear-cut i 64 (i + 8) c (omega arith) (omega arith) q, λ z. absurd (omega arith))
+            (omega arith, omega arith, clear_cut i 64 (i + 8) c (omega arith) (omega arith) q, λ z. absurd (omega arith))
 
         pub eight_full : (b : Bool) → 0 < left → (b ≡ true → ones l (from + i) 64 ≡ 64) → b ≡ true → Together l from limit i left 8 0
         eight_full b o f t = (
           omega arith,
           omega arith,
-          clear-cut i 64 (i + 8) 64 (omega arith) (omega arith) (sym (f t)),
+          clear_cut i 64 (i + 8) 64 (omega arith) (omega arith) (sym (f t)),
           λ z. absurd (omega arith),
         )
 
     -- ---- the bytes read
 
     module _ (k : ℕ) where
-      pub byte-read : (m : ℕ) → clear_in l from limit m < k → bytes_read l from limit k (suc m) ≡ suc (bytes_read l from limit k m)
+      pub byte_read : (m : ℕ) → clear_in l from limit m < k → bytes_read l from limit k (suc m) ≡ suc (bytes_read l from limit k m)
       unfolding bytes_read
-      byte-read m h =
+      byte_read m h =
           ap (λ (x : ℕ). bytes_read l from limit k m + x) (pick_true 1 0 (lt-ltb (clear_in l from limit m) k h)) ∙ omega arith
 
       pub byte_not : (m : ℕ) → k ≤ clear_in l from limit m → bytes_read l from limit k (suc m) ≡ bytes_read l from limit k m
@@ -121,18 +121,18 @@ module _ (l : List ℕ) (from : ℕ) where
           ap (λ (x : ℕ). bytes_read l from limit k m + x) (pick_false 1 0 (le-ltb (clear_in l from limit m) k h)) ∙ omega arith
 
       -- all of the first m, where each but the last leaves something to find
-      pub read-to : (m : ℕ) → ((j : ℕ) → j < m → clear_in l from limit j < k) → bytes_read l from limit k m ≡ m
+      pub read_to : (m : ℕ) → ((j : ℕ) → j < m → clear_in l from limit j < k) → bytes_read l from limit k m ≡ m
       unfolding bytes_read
-      read-to zero h = refl
-      read-to (suc m) h = byte-read m (h m (omega arith)) ∙ ap suc (read-to m (λ j p. h j (omega arith)))
+      read_to zero h = refl
+      read_to (suc m) h = byte_read m (h m (omega arith)) ∙ ap suc (read_to m (λ j p. h j (omega arith)))
 
       -- none after these, where they leave nothing
-      read-no-more : (m n : ℕ) → k ≤ clear_in l from limit m → bytes_read l from limit k (m + n) ≡ bytes_read l from limit k m
-      read-no-more m zero h = let e : m + 0 ≡ m = omega arith in ap (bytes_read l from limit k) e
-      read-no-more m (suc n) h =
+      read_no_more : (m n : ℕ) → k ≤ clear_in l from limit m → bytes_read l from limit k (m + n) ≡ bytes_read l from limit k m
+      read_no_more m zero h = let e : m + 0 ≡ m = omega arith in ap (bytes_read l from limit k) e
+      read_no_more m (suc n) h =
           let e : m + suc n ≡ suc (m + n) = omega arith in
           ap (bytes_read l from limit k) e ∙ byte_not (m + n) (omega (arith, clear_mono m (m + n) (omega arith)))
-          ∙ read-no-more m n h
+          ∙ read_no_more m n h
 
       -- the two answers
       told_yes : (m : ℕ) → m < bytes_for limit → clear_in l from limit m < k → k ≤ clear_in l from limit (m + 1)
@@ -142,18 +142,18 @@ module _ (l : List ℕ) (from : ℕ) where
           let all : ℕ = bytes_for limit in
           let e : m + 1 + (all - (m + 1)) ≡ all = omega arith in
           let b : bytes_read l from limit k all ≡ m + 1 =
-          ap (bytes_read l from limit k) (sym e) ∙ read-no-more (m + 1) (all - (m + 1)) q
-          ∙ read-to (m + 1) (λ j o. omega (arith, clear_mono j m (omega arith))) in
+          ap (bytes_read l from limit k) (sym e) ∙ read_no_more (m + 1) (all - (m + 1)) q
+          ∙ read_to (m + 1) (λ j o. omega (arith, clear_mono j m (omega arith))) in
           let y : leb k (clear_in l from limit all) ≡ true =
           le-leb k (clear_in l from limit all) (omega (arith, clear_mono (m + 1) all (omega arith))) in
           λ i. record { enough = sym y i; bytes = sym b i }
 
-      told-no : clear_in l from limit (bytes_for limit) < k
+      told_no : clear_in l from limit (bytes_for limit) < k
           → ◌≡◌ {A = Told} (record { enough = false; bytes = bytes_for limit }) (told_of l from limit k)
       unfolding told_of
-      told-no h =
+      told_no h =
           let all : ℕ = bytes_for limit in
-          let b : bytes_read l from limit k all ≡ all = read-to all (λ j o. omega (arith, clear_mono j all (omega arith))) in
+          let b : bytes_read l from limit k all ≡ all = read_to all (λ j o. omega (arith, clear_mono j all (omega arith))) in
           let y : leb k (clear_in l from limit all) ≡ false = lt-leb k (clear_in l from limit all) h in
           λ i. record { enough = sym y i; bytes = sym b i }
 
@@ -164,7 +164,7 @@ module _ (l : List ℕ) (from : ℕ) where
         let all : ℕ = bytes_for limit in
         let e : 0 + all ≡ all = omega arith in
         let b : bytes_read l from limit 0 all ≡ 0 =
-        ap (bytes_read l from limit 0) (sym e) ∙ read-no-more 0 0 all (omega arith) ∙ read-to 0 0 (λ j o. absurd (omega arith)) in
+        ap (bytes_read l from limit 0) (sym e) ∙ read_no_more 0 0 all (omega arith) ∙ read_to 0 0 (λ j o. absurd (omega arith)) in
         let y : leb 0 (clear_in l from limit all) ≡ true = le-leb 0 (clear_in l from limit all) (omega arith) in
         λ i. record { enough = sym y i; bytes = sym b i }
 
@@ -183,11 +183,11 @@ module _ (l : List ℕ) (from limit k i left : ℕ) (e : clear_in l from limit i
   missed h q =
       let z : bytes_for limit ≡ i = omega arith in
       let y : clear_in l from limit (bytes_for limit) ≡ clear_in l from limit i = ap (clear_in l from limit) z in
-      told-no l from limit k (omega arith)
+      told_no l from limit k (omega arith)
 
 -- the ones of a few bits
-pub ones-few : (l : List ℕ) (at n c : ℕ) → c ≡ ones l at n → c ≤ n
-ones-few l at n c e = omega (arith, ones-le l at n)
+pub ones_few : (l : List ℕ) (at n c : ℕ) → c ≡ ones l at n → c ≤ n
+ones_few l at n c e = omega (arith, ones-le l at n)
 
 module _ (l : List ℕ) (from limit k : ℕ) where
   pub none_asked : k ≡ 0 → ◌≡◌ {A = Told} (record { enough = true; bytes = 0 }) (told_of l from limit k)
@@ -196,11 +196,11 @@ module _ (l : List ℕ) (from limit k : ℕ) where
 -- ---- an opened volume
 
 -- all bytes have all the clear indexes in reach
-pub clear-reach : (g : Geo) (I : List ℕ) → clear_in I (block_size g * map_at g) (reach g) (bytes_for (reach g)) ≡ length (clears g I)
+pub clear_reach : (g : Geo) (I : List ℕ) → clear_in I (block_size g * map_at g) (reach g) (bytes_for (reach g)) ≡ length (clears g I)
 unfolding clears mark
-clear-reach g I =
+clear_reach g I =
     let from : ℕ = block_size g * map_at g in
-    omega (arith, clear-all I from (reach g) (bytes_for (reach g)) (omega arith), clear-count I from (data_at g) (reach g))
+    omega (arith, clear_all I from (reach g) (bytes_for (reach g)) (omega arith), clear_count I from (data_at g) (reach g))
 
 module _ (s : SuperBlock) (I : List ℕ) (k : ℕ) where
   pub room_of : (at : ℕ) (r : Told) → Fit s I → at ≡ s.size * s.bitmap.0 → r ≡ told_of I at s.reach k → r ≡ room_in (geo_of s) I k
@@ -208,7 +208,7 @@ module _ (s : SuperBlock) (I : List ℕ) (k : ℕ) where
   room_of at r f e q =
       let g = geo_of s in
       q ∙ (λ i. told_of I (from_is f e i) (f.reach i) k)
-      ∙ (λ i. record { enough = leb k (clear-reach g I i); bytes = bytes_read I (block_size g * map_at g) (reach g) k (bytes_for (reach g)) })
+      ∙ (λ i. record { enough = leb k (clear_reach g I i); bytes = bytes_read I (block_size g * map_at g) (reach g) k (bytes_for (reach g)) })
 
   pub lacks_of : (t : Told) → t ≡ room_in (geo_of s) I k → not t.enough ≡ ltb (length (clears (geo_of s) I)) k
   unfolding room_in

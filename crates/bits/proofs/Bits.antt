@@ -10,7 +10,7 @@ use lib.Bits.{bit_and, bit_or}
 use lib.ListN.{length, get_or, set, length-set}
 use lib.Seq.{get_or-set_same, get_or-set_other}
 use Rattle.bits.specs.Bit.{bit, with_bit, ones, AllSet}
-use Rattle.bits.proofs.Digits.{mask, or_bit, and_not_bit, digit_lt, digit-with-same, digit-with-other, digit_of_zero, ones_of_255}
+use Rattle.bits.proofs.Digits.{mask, or_bit, and_not_bit, digit_lt, digit_with_same, digit_with_other, digit_of_zero, ones_of_255}
 
 -- ---- bit
 
@@ -40,24 +40,24 @@ pub bit_cleared : (l : List ℕ) (from x : ℕ) → get_or l (from + x / 8) 0 < 
 unfolding with_bit
 bit_cleared l from x h = rw (mask (x % 8) (omega arith), and_not_bit (get_or l (from + x / 8) 0) (x % 8) h (omega arith))
 
-pub length-with : (l : List ℕ) (from x v : ℕ) → length (with_bit l from x v) ≡ length l
+pub length_with : (l : List ℕ) (from x v : ℕ) → length (with_bit l from x v) ≡ length l
 unfolding with_bit
-length-with l from x v = simp length-set
+length_with l from x v = simp length-set
 
-pub byte-with-other : (l : List ℕ) (from x v j : ℕ) → j ≢ from + x / 8 → get_or (with_bit l from x v) j 0 ≡ get_or l j 0
+pub byte_with_other : (l : List ℕ) (from x v j : ℕ) → j ≢ from + x / 8 → get_or (with_bit l from x v) j 0 ≡ get_or l j 0
 unfolding with_bit
-byte-with-other l from x v j d = get_or-set_other l (from + x / 8) j _ 0 d
+byte_with_other l from x v j d = get_or-set_other l (from + x / 8) j _ 0 d
 
-pub bit-with-same : (l : List ℕ) (from x v : ℕ) → from + x / 8 < length l → v < 2 → bit (with_bit l from x v) from x ≡ v
+pub bit_with_same : (l : List ℕ) (from x v : ℕ) → from + x / 8 < length l → v < 2 → bit (with_bit l from x v) from x ≡ v
 unfolding bit with_bit
-bit-with-same l from x v h p = rw (get_or-set_same l (from + x / 8) _ 0 h) (digit-with-same (get_or l (from + x / 8) 0) (x % 8) v p)
+bit_with_same l from x v h p = rw (get_or-set_same l (from + x / 8) _ 0 h) (digit_with_same (get_or l (from + x / 8) 0) (x % 8) v p)
 
-pub bit-with-other : (l : List ℕ) (from x v y : ℕ) → from + x / 8 < length l → v < 2 → y ≢ x → bit (with_bit l from x v) from y ≡ bit l from y
+pub bit_with_other : (l : List ℕ) (from x v y : ℕ) → from + x / 8 < length l → v < 2 → y ≢ x → bit (with_bit l from x v) from y ≡ bit l from y
 unfolding bit with_bit
-bit-with-other l from x v y h p d = go (ℕ_discrete (y / 8) (x / 8))
+bit_with_other l from x v y h p d = go (ℕ_discrete (y / 8) (x / 8))
   where
     go : Dec (y / 8 ≡ x / 8) → bit (with_bit l from x v) from y ≡ bit l from y
-    go (yes e) = rw (e, get_or-set_same l (from + x / 8) _ 0 h) (digit-with-other (get_or l (from + x / 8) 0) (x % 8) (y % 8) v p (omega arith))
+    go (yes e) = rw (e, get_or-set_same l (from + x / 8) _ 0 h) (digit_with_other (get_or l (from + x / 8) 0) (x % 8) (y % 8) v p (omega arith))
     go (no n) = rw (get_or-set_other l (from + x / 8) (from + y / 8) _ 0 (omega arith))
 
 -- ---- the count
@@ -83,13 +83,13 @@ ones_ext l m from to (suc n) h = omega (arith, ones_ext l m from to n (λ x p. h
 
 -- a bit put in past the first n changes no count, and one among them changes it by the difference
 module _ (l : List ℕ) (from x v : ℕ) (h : from + x / 8 < length l) (p : v < 2) where
-  ones-with-out : (n : ℕ) → n ≤ x → ones (with_bit l from x v) from n ≡ ones l from n
-  ones-with-out n q = ones_ext (with_bit l from x v) l from from n (λ y r. bit-with-other l from x v y h p (omega arith))
+  ones_with_out : (n : ℕ) → n ≤ x → ones (with_bit l from x v) from n ≡ ones l from n
+  ones_with_out n q = ones_ext (with_bit l from x v) l from from n (λ y r. bit_with_other l from x v y h p (omega arith))
 
 -- a byte of eight ones
-pub full-byte : (l : List ℕ) (from x : ℕ) → x % 8 ≡ 0 → get_or l (from + x / 8) 0 ≡ 255 → AllSet l from x (x + 8)
+pub full_byte : (l : List ℕ) (from x : ℕ) → x % 8 ≡ 0 → get_or l (from + x / 8) 0 ≡ 255 → AllSet l from x (x + 8)
 unfolding bit
-full-byte l from x z e k g h =
+full_byte l from x z e k g h =
     let d : k / 8 ≡ x / 8 = omega arith in
     let m : k % 8 ≡ k - x = omega arith in
     rw (d, m, e) (ones_of_255 (k - x) (omega arith))
@@ -99,8 +99,8 @@ pub one_set : (l : List ℕ) (from x : ℕ) → bit l from x ≡ 1 → AllSet l 
 one_set l from x e k g h = let d : k ≡ x = omega arith in rw d e
 
 -- two runs side by side
-pub all-set-more : (l : List ℕ) (from x y z : ℕ) → AllSet l from x y → AllSet l from y z → AllSet l from x z
-all-set-more l from x y z a b k g h = go (dec_lt k y)
+pub all_set-more : (l : List ℕ) (from x y z : ℕ) → AllSet l from x y → AllSet l from y z → AllSet l from x z
+all_set-more l from x y z a b k g h = go (dec_lt k y)
   where
     go : Dec (k < y) → bit l from k ≡ 1
     go (yes p) = a k g p
@@ -109,8 +109,8 @@ all-set-more l from x y z a b k g h = go (dec_lt k y)
 -- ---- the lowest clear bit is one
 
 module _ (l : List ℕ) (from n : ℕ) where
-  lowest-le : (i j : ℕ) → bit l from i ≡ 0 → ((k : ℕ) → k < j → bit l from k ≡ 1) → j ≤ i
-  lowest-le i j z o = go (dec_lt i j)
+  lowest_le : (i j : ℕ) → bit l from i ≡ 0 → ((k : ℕ) → k < j → bit l from k ≡ 1) → j ≤ i
+  lowest_le i j z o = go (dec_lt i j)
     where
       go : Dec (i < j) → j ≤ i
       go (yes q) = absurd (omega (arith, o i q))

@@ -8,33 +8,33 @@ use native.Mathlib.Decide.{dec_lt}
 use native.Mathlib.Omega.{arith}
 use lib.ListN.{length, get_or, length-replicate, get_or-replicate}
 use Rattle.wire.specs.Be.{be, bytes, splice, zeros}
-use Rattle.wire.proofs.Numbers.{be_ext, length-bytes, length-splice, splice-before, splice_in, splice-after}
+use Rattle.wire.proofs.Numbers.{be_ext, length_bytes, length-splice, splice_before, splice_in, splice-after}
 use Rattle.block.specs.Block.{BlockSize, cell, next, linked, zeroed, Off, Kept}
 
 -- ---- places: a block's bytes end where the next block's begin
 
-pub block-below : (B a b o : ℕ) → a < b → o < B → B * a + o < B * b
-block-below B a b o h k = omega (arith, mul-le-mul_left B h, mul-suc B a)
+pub block_below : (B a b o : ℕ) → a < b → o < B → B * a + o < B * b
+block_below B a b o h k = omega (arith, mul-le-mul_left B h, mul-suc B a)
 
 -- an address of 32 bits is that of a byte of 64 bits
-pub offset-fits : {B : ℕ} (a : ℕ) → BlockSize B → a < 2 ^ 32 → B * a < 2 ^ 64
-offset-fits a s h = omega (arith, mul-le-mul_right a s.most)
+pub offset_fits : {B : ℕ} (a : ℕ) → BlockSize B → a < 2 ^ 32 → B * a < 2 ^ 64
+offset_fits a s h = omega (arith, mul-le-mul_right a s.most)
 
 -- and so is one behind it in the block
 pub link_fits : {B r : ℕ} (a : ℕ) → BlockSize B → a < 2 ^ 32 → r ≡ B * a → r + 4 < 2 ^ 64
 link_fits a s h e = omega (arith, mul-le-mul_right a s.most)
 
-pub behind-fits : {B r : ℕ} (a o : ℕ) → BlockSize B → a < 2 ^ 32 → r ≡ B * a → o ≤ B → r + 4 + o < 2 ^ 64
-behind-fits a o s h e l = omega (arith, mul-le-mul_right a s.most, s.most)
+pub behind_fits : {B r : ℕ} (a o : ℕ) → BlockSize B → a < 2 ^ 32 → r ≡ B * a → o ≤ B → r + 4 + o < 2 ^ 64
+behind_fits a o s h e l = omega (arith, mul-le-mul_right a s.most, s.most)
 
 -- the linked block of an address lies where the block does
-pub linked-inside : {B z m n : ℕ} (a : ℕ) → z ≡ B → m ≡ a → B * a + B ≤ n → z * m + z ≤ n
-linked-inside a e f h = rw (e, f) h
+pub linked_inside : {B z m n : ℕ} (a : ℕ) → z ≡ B → m ≡ a → B * a + B ≤ n → z * m + z ≤ n
+linked_inside a e f h = rw (e, f) h
 
 -- what code stores is the link
-pub linked-is : (B : ℕ) (I J : List ℕ) (a r to : ℕ) → r ≡ B * a → J ≡ splice I r (bytes 4 to) → J ≡ linked B I a to
+pub linked_is : (B : ℕ) (I J : List ℕ) (a r to : ℕ) → r ≡ B * a → J ≡ splice I r (bytes 4 to) → J ≡ linked B I a to
 unfolding linked
-linked-is B I J a r to e h = h ∙ ap (λ (k : ℕ). splice I k (bytes 4 to)) e
+linked_is B I J a r to e h = h ∙ ap (λ (k : ℕ). splice I k (bytes 4 to)) e
 
 -- ---- Kept: the frame
 
@@ -49,14 +49,14 @@ kept_less f p = record { size = p.size; at = λ b o h k. p.at b o (f b o h) k }
 
 -- a number past a store that keeps its bytes; so the next address
 module _ (B : ℕ) (P : ℕ → ℕ → Type 0) (I J : List ℕ) (k : Kept B P I J) where
-  pub be-kept : (n a o : ℕ) → o + n ≤ B → ((p : ℕ) → o ≤ p → p < o + n → P a p) → be n J (B * a + o) ≡ be n I (B * a + o)
+  pub be_kept : (n a o : ℕ) → o + n ≤ B → ((p : ℕ) → o ≤ p → p < o + n → P a p) → be n J (B * a + o) ≡ be n I (B * a + o)
   unfolding cell
-  be-kept n a o h f =
+  be_kept n a o h f =
       be_ext n J I (B * a + o) (B * a + o) (λ i q. rw add_assoc (k.at a (o + i) (f (o + i) (omega arith) (omega arith)) (omega arith)))
 
-  pub next-kept : (a : ℕ) → 4 ≤ B → ((p : ℕ) → p < 4 → P a p) → next B J a ≡ next B I a
+  pub next_kept : (a : ℕ) → 4 ≤ B → ((p : ℕ) → p < 4 → P a p) → next B J a ≡ next B I a
   unfolding next
-  next-kept a h f = rw add-zero at (be-kept 4 a 0 h (λ p _ q. f p q))
+  next_kept a h f = rw add-zero at (be_kept 4 a 0 h (λ p _ q. f p q))
 
 -- ---- each store
 
@@ -65,14 +65,14 @@ module _ (B : ℕ) (I : List ℕ) (a o : ℕ) (vs : List ℕ) (h : o + length vs
   fits : B * a + o + length vs ≤ length I
   fits = omega arith
 
-  pub splice-kept : Kept B (Off a o (length vs)) I (splice I (B * a + o) vs)
+  pub splice_kept : Kept B (Off a o (length vs)) I (splice I (B * a + o) vs)
   unfolding cell
-  splice-kept = record { size = length-splice I (B * a + o) vs fits; at = λ b p f q. go b p f q (dec_lt b a) (dec_lt a b) (dec_lt p o) }
+  splice_kept = record { size = length-splice I (B * a + o) vs fits; at = λ b p f q. go b p f q (dec_lt b a) (dec_lt a b) (dec_lt p o) }
     where
       go : (b p : ℕ) → Off a o (length vs) b p → p < B → Dec (b < a) → Dec (a < b) → Dec (p < o) → get_or (splice I (B * a + o) vs) (B * b + p) 0 ≡ get_or I (B * b + p) 0
-      go b p f q (yes l) m n = splice-before I (B * a + o) vs fits (B * b + p) (omega (arith, block-below B b a p l q))
+      go b p f q (yes l) m n = splice_before I (B * a + o) vs fits (B * b + p) (omega (arith, block_below B b a p l q))
       go b p f q (no l) (yes m) n = splice-after I (B * a + o) vs fits (B * b + p) (omega (arith, mul-le-mul_left B m, mul-suc B a))
-      go b p f q (no l) (no m) (yes n) = let e : b ≡ a = omega arith in rw e (splice-before I (B * a + o) vs fits (B * a + p) (omega arith))
+      go b p f q (no l) (no m) (yes n) = let e : b ≡ a = omega arith in rw e (splice_before I (B * a + o) vs fits (B * a + p) (omega arith))
       go b p f q (no l) (no m) (no n) =
           let e : b ≡ a = omega arith in
           rw e (splice-after I (B * a + o) vs fits (B * a + p) (past b p e f (dec_lt p (o + length vs)) (omega arith)))
@@ -82,28 +82,28 @@ module _ (B : ℕ) (I : List ℕ) (a o : ℕ) (vs : List ℕ) (h : o + length vs
           past b p e f (no x) y = omega arith
 
 module _ (B : ℕ) (I : List ℕ) (a : ℕ) (h : 4 ≤ B) (k : B * a + B ≤ length I) where
-  pub linked-kept : (v : ℕ) → Kept B (Off a 0 4) I (linked B I a v)
+  pub linked_kept : (v : ℕ) → Kept B (Off a 0 4) I (linked B I a v)
   unfolding linked
-  linked-kept v = rw (add-zero, length-bytes 4 v) at (splice-kept B I a 0 (bytes 4 v) (omega (arith, length-bytes 4 v)) k)
+  linked_kept v = rw (add-zero, length_bytes 4 v) at (splice_kept B I a 0 (bytes 4 v) (omega (arith, length_bytes 4 v)) k)
 
 -- a run of blocks zeroed
 module _ (B : ℕ) (I : List ℕ) (a n : ℕ) (k : B * a + B * n ≤ length I) where
   room : B * a + length (zeros (B * n)) ≤ length I
   room = omega (arith, length-replicate {A = ℕ} (B * n) 0)
 
-  pub zeroed-kept : Kept B (λ b o. (b < a) ⊎ (a + n ≤ b)) I (zeroed B I a n)
+  pub zeroed_kept : Kept B (λ b o. (b < a) ⊎ (a + n ≤ b)) I (zeroed B I a n)
   unfolding zeroed cell
-  zeroed-kept = record { size = length-splice I (B * a) (zeros (B * n)) room; at = λ b o p q. go b o p q }
+  zeroed_kept = record { size = length-splice I (B * a) (zeros (B * n)) room; at = λ b o p q. go b o p q }
     where
       go : (b o : ℕ) → (b < a) ⊎ (a + n ≤ b) → o < B → get_or (splice I (B * a) (zeros (B * n))) (B * b + o) 0 ≡ get_or I (B * b + o) 0
-      go b o (inl l) q = splice-before I (B * a) (zeros (B * n)) room (B * b + o) (block-below B b a o l q)
+      go b o (inl l) q = splice_before I (B * a) (zeros (B * n)) room (B * b + o) (block_below B b a o l q)
       go b o (inr l) q =
           splice-after I (B * a) (zeros (B * n)) room (B * b + o)
           (omega (arith, mul-le-mul_left B l, mul-add B a n, length-replicate {A = ℕ} (B * n) 0))
 
-  pub byte-zeroed : (j : ℕ) → j < B * n → get_or (zeroed B I a n) (B * a + j) 0 ≡ 0
+  pub byte_zeroed : (j : ℕ) → j < B * n → get_or (zeroed B I a n) (B * a + j) 0 ≡ 0
   unfolding zeroed
-  byte-zeroed j h =
+  byte_zeroed j h =
       splice_in I (B * a) (zeros (B * n)) room j (omega (arith, length-replicate {A = ℕ} (B * n) 0)) ∙ get_or-replicate {A = ℕ} (B * n) j 0 0 h
 
   pub cell-zeroed : (b o : ℕ) → a ≤ b → b < a + n → o < B → cell B (zeroed B I a n) b o ≡ 0
@@ -111,6 +111,6 @@ module _ (B : ℕ) (I : List ℕ) (a n : ℕ) (k : B * a + B * n ≤ length I) w
   cell-zeroed b o l m q =
       let c : ℕ = b - a in
       let e : b ≡ a + c = omega arith in
-      let f : B * c + o < B * n = block-below B c n o (omega arith) q in
+      let f : B * c + o < B * n = block_below B c n o (omega arith) q in
       let z : B * b + o ≡ B * a + (B * c + o) = ap (λ (x : ℕ). B * x + o) e ∙ omega (arith, mul-add B a c) in
-      rw z (byte-zeroed (B * c + o) f)
+      rw z (byte_zeroed (B * c + o) f)

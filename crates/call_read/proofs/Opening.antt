@@ -34,8 +34,8 @@ pub open_as : {r q : Reply Handle} {o : OpenOut} → OpenIs r o → r ≡ q → 
 open_as {r} {q} {o} i e = record { answer = i.answer ∙ e; empty = i.empty }
 
 -- y is the name x, as code has it
-pub last-short : (x y : List ℕ) → y ≡ x → length x ≤ 255 → length y ≤ 255
-last-short x y i s = subst (λ (z : List ℕ). length z ≤ 255) (sym i) s
+pub last_short : (x y : List ℕ) → y ≡ x → length x ≤ 255 → length y ≤ 255
+last_short x y i s = subst (λ (z : List ℕ). length z ≤ 255) (sym i) s
 
 -- the handle that is made
 pub handled : (d a : Addr) (size : ℕ) (x y : List ℕ) (h : Handle) → y ≡ x → h ≡ new_handle d y a size
@@ -43,21 +43,21 @@ pub handled : (d a : Addr) (size : ℕ) (x y : List ℕ) (h : Handle) → y ≡ 
 handled d a size x y h i q = record { answer = ap accepted (q ∙ ap (λ (z : List ℕ). new_handle d z a size) i); empty = tt }
 
 module _ (x : List ℕ) (a : ℕ) (e : DirEntry) where
-  pub entry-dir : e.kind ≡ Dir → refused 6 ≡ open_entry x (held a e)
+  pub entry_dir : e.kind ≡ Dir → refused 6 ≡ open_entry x (held a e)
   unfolding open_entry
-  entry-dir k = sym (pick_false _ _ (ap is_file k))
+  entry_dir k = sym (pick_false _ _ (ap is_file k))
 
-  pub entry-device : e.kind ≡ Device → refused 6 ≡ open_entry x (held a e)
+  pub entry_device : e.kind ≡ Device → refused 6 ≡ open_entry x (held a e)
   unfolding open_entry
-  entry-device k = sym (pick_false _ _ (ap is_file k))
+  entry_device k = sym (pick_false _ _ (ap is_file k))
 
   pub entry_large : e.kind ≡ File → file_limit < e.size → refused 10 ≡ open_entry x (held a e)
   unfolding open_entry
   entry_large k h = sym (pick_true _ _ (ap is_file k) ∙ pick_true _ _ (lt-ltb file_limit e.size h))
 
-  pub entry-file : e.kind ≡ File → e.size ≤ file_limit → accepted (handle_for a e x) ≡ open_entry x (held a e)
+  pub entry_file : e.kind ≡ File → e.size ≤ file_limit → accepted (handle_for a e x) ≡ open_entry x (held a e)
   unfolding open_entry
-  entry-file k h = sym (pick_true _ _ (ap is_file k) ∙ pick_false _ _ (le-ltb file_limit e.size h))
+  entry_file k h = sym (pick_true _ _ (ap is_file k) ∙ pick_false _ _ (le-ltb file_limit e.size h))
 
 -- ---- info
 
@@ -75,13 +75,13 @@ abouted e x y name i q =
     }
 
 -- and of the root
-pub root-damaged : (r f : Summed) → r ≡ f → r ≡ summed.Damaged → refused 17 ≡ about_root f
-root-damaged r f e d = ap about_root (sym d ∙ e)
+pub root_damaged : (r f : Summed) → r ≡ f → r ≡ summed.Damaged → refused 17 ≡ about_root f
+root_damaged r f e d = ap about_root (sym d ∙ e)
 
-pub root-total : (r f : Summed) (s : ℕ) → r ≡ f → r ≡ summed.Total s
+pub root_total : (r f : Summed) (s : ℕ) → r ≡ f → r ≡ summed.Total s
     → InfoIs (about_root f) (record { answer = Success; kind = Dir; size = s; time = 0; name = zeros 255; len = 0 })
 unfolding padded
-root-total r f s e d = record { answer = ap about_root (sym d ∙ e); empty = tt }
+root_total r f s e d = record { answer = ap about_root (sym d ∙ e); empty = tt }
 
 -- ---- list
 

@@ -14,8 +14,8 @@ use Rattle.limits.specs.Refusals.{refusal_number}
 use Rattle.limits.specs.declared.Refusal.{Refusal}
 use Rattle.model.specs.Geometry.{Mount, geo_at, open_refusal}
 use Rattle.model.proofs.Opens.{when_true, when_false, first_of_head, first_of_tail, first_of_one}
-use Rattle.model.proofs.Replies.{given-none as Given-nothing, given-some as given-refusal}
-use Rattle.limits.proofs.Numbers.{number-some}
+use Rattle.model.proofs.Replies.{given_none as Given-nothing, given_some as given-refusal}
+use Rattle.limits.proofs.Numbers.{number_some}
 use Rattle.super_block.specs.declared.SuperBlock.{SuperBlock}
 use Rattle.super_block.specs.declared.Opened.{Opened}
 use Rattle.super_block.specs.declared.Opened.TheVariants.{At, Refused}
@@ -28,11 +28,10 @@ use Rattle.path.specs.declared.Real.{Real}
 use Rattle.path.specs.declared.Real.TheVariants as real
 use Rattle.path.specs.Path.{real_path, bad_path, path_refusal, slash, last_name}
 use Rattle.path.specs.Post.{RealIs, Stores, Leaves}
-use Rattle.path.proofs.FullPaths.{stores-take, stores-length}
+use Rattle.path.proofs.FullPaths.{stores_take, stores_length}
 use Rattle.dir_entry.specs.declared.DirEntry.{DirEntry}
-use Rattle.dir.proofs.Answers.{entry-short}
+use Rattle.dir.proofs.Answers.{entry_short}
 use Rattle.dir.specs.Resolve.{Held, held, entry_of, open_dir}
-use Rattle.dir.specs.declared.Opened.{Opened as DirOpened}
 use Rattle.dir.specs.declared.Opened.TheVariants as dir
 use Rattle.dir.specs.declared.Located.{Located}
 use Rattle.dir.specs.declared.Located.TheVariants as located
@@ -44,35 +43,35 @@ use Rattle.call_read.specs.Reading.{area_at, path_call, open_reply, info_reply, 
 -- ---- an earlier refusal
 
 -- (said from the answer's side, as contracts have it)
-pub given-none : {A : Type 0} (k : ℕ) (r : Reply A) → k ≡ 0 → r ≡ given k r
-given-none k r e = sym (Given-nothing r e)
+pub given_none : {A : Type 0} (k : ℕ) (r : Reply A) → k ≡ 0 → r ≡ given k r
+given_none k r e = sym (Given-nothing r e)
 
-pub given-some : {A : Type 0} (k m : ℕ) (r : Reply A) → 1 ≤ m → k ≡ m → refused m ≡ given k r
-given-some k m r h e = sym (given-refusal m r h e)
+pub given_some : {A : Type 0} (k m : ℕ) (r : Reply A) → 1 ≤ m → k ≡ m → refused m ≡ given k r
+given_some k m r h e = sym (given-refusal m r h e)
 
 -- ---- the volume
 
 module _ (M : Mount) (I : List ℕ) (r : Opened) (o : OpenedIs M I r) where
-  call-refused : {A : Type 0} (cwd p : List ℕ) (q : Reply A) (x : Refusal) → r ≡ Refused x → refused (refusal_number x) ≡ given (path_call M I cwd p) q
+  call_refused : {A : Type 0} (cwd p : List ℕ) (q : Reply A) (x : Refusal) → r ≡ Refused x → refused (refusal_number x) ≡ given (path_call M I cwd p) q
   unfolding path_call
-  call-refused cwd p q x e =
+  call_refused cwd p q x e =
       let f : open_refusal M I ≡ refusal_number x = subst (OpenedIs M I) e o in
-      given-some _ _ q (number-some x) (first_of_head _ _ (omega (arith, f, number-some x)) ∙ f)
+      given_some _ _ q (number_some x) (first_of_head _ _ (omega (arith, f, number_some x)) ∙ f)
 
   module _ (s : SuperBlock) (e : r ≡ At s) where
     opens : (open_refusal M I ≡ 0) × (s ≡ super_block (geo_at M I))
     opens = subst (OpenedIs M I) e o
 
     -- The data area is the struct's; so what goes by it goes by the struct.
-    pub area-at : area_in s ≡ area_at M I
-    area-at = ap area_in opens.1
+    pub area_at_lem : area_in s ≡ area_at M I
+    area_at_lem = ap area_in opens.1
 
     call_at : {T : Type 0} (cwd p : List ℕ) (f : Area → Reply T)
         → given (path_refusal cwd p) (f (area_in s)) ≡ given (path_call M I cwd p) (f (area_at M I))
     unfolding path_call
     call_at cwd p f =
         let c : path_refusal cwd p ≡ first_of (open_refusal M I ∷ (path_refusal cwd p ∷ [])) = sym (first_of_tail _ _ opens.0 ∙ first_of_one (path_refusal cwd p)) in
-        ap (λ (k : ℕ). given k (f (area_in s))) c ∙ ap (λ (A : Area). given (first_of (open_refusal M I ∷ (path_refusal cwd p ∷ []))) (f A)) area-at
+        ap (λ (k : ℕ). given k (f (area_in s))) c ∙ ap (λ (A : Area). given (first_of (open_refusal M I ∷ (path_refusal cwd p ∷ []))) (f A)) area_at_lem
 
 -- ---- the path
 
@@ -81,26 +80,26 @@ pub array_long : length (zeros 1024) ≡ 1024
 array_long = length-replicate {A = ℕ} 1024 0
 
 module _ (cwd p l m : List ℕ) (r : Real) (o : RealIs cwd p l m r) where
-  pub path-refused : {A : Type 0} (q : Reply A) → r ≡ real.Refused → refused 4 ≡ given (path_refusal cwd p) q
-  path-refused q e =
+  pub path_refused : {A : Type 0} (q : Reply A) → r ≡ real.Refused → refused 4 ≡ given (path_refusal cwd p) q
+  path_refused q e =
       let f : Leaves (bad_path cwd p) l m = subst (RealIs cwd p l m) e o in
-      given-some _ 4 q (omega arith) (when_true 4 f.refused)
+      given_some _ 4 q (omega arith) (when_true 4 f.refused)
 
   module _ (n : ℕ) (e : r ≡ real.Len n) where
     stored : Stores (bad_path cwd p) (real_path cwd p) l m n
     stored = subst (RealIs cwd p l m) e o
 
-    pub path-taken : length l ≡ 1024 → take n m ≡ real_path cwd p
-    path-taken h = stores-take (bad_path cwd p) (real_path cwd p) l m n stored h
+    pub path_taken : length l ≡ 1024 → take n m ≡ real_path cwd p
+    path_taken h = stores_take (bad_path cwd p) (real_path cwd p) l m n stored h
 
-    pub path-fits : length l ≡ 1024 → n ≤ length m
-    path-fits h = let e = stores-length (bad_path cwd p) (real_path cwd p) l m n stored h in let f = stored.fits in omega arith
+    pub path_fits : length l ≡ 1024 → n ≤ length m
+    path_fits h = let e = stores_length (bad_path cwd p) (real_path cwd p) l m n stored h in let f = stored.fits in omega arith
 
-    pub path-short : length l ≡ 1024 → length m ≤ 1024
-    path-short h = omega (arith, stores-length (bad_path cwd p) (real_path cwd p) l m n stored h)
+    pub path_short : length l ≡ 1024 → length m ≤ 1024
+    path_short h = omega (arith, stores_length (bad_path cwd p) (real_path cwd p) l m n stored h)
 
-    pub path-at : {A : Type 0} (f : List ℕ → Reply A) → length l ≡ 1024 → f (take n m) ≡ given (path_refusal cwd p) (f (real_path cwd p))
-    path-at f h = ap f (path-taken h) ∙ given-none _ _ (when_false 4 stored.good)
+    pub path_at : {A : Type 0} (f : List ℕ → Reply A) → length l ≡ 1024 → f (take n m) ≡ given (path_refusal cwd p) (f (real_path cwd p))
+    path_at f h = ap f (path_taken h) ∙ given_none _ _ (when_false 4 stored.good)
 
 -- ---- the entry
 
@@ -116,7 +115,7 @@ module _ (A : Area) (I l : List ℕ) (r : Located) (o : located_says r ≡ entry
 
   -- a name that was found has at most 255 bytes
   pub located_short : ((i : ℕ) → get_or I i 0 < 256) → (d : Addr) (e : DirEntry) → r ≡ located.At d e → length (last_name l) ≤ 255
-  located_short bytes d e q = entry-short A I bytes l (held d.0 e) (sym o ∙ ap located_says q)
+  located_short bytes d e q = entry_short A I bytes l (held d.0 e) (sym o ∙ ap located_says q)
 
   pub open_lost : (x : Refusal) → r ≡ located.Refused x → refused (refusal_number x) ≡ open_on A I l
   unfolding open_on
@@ -135,13 +134,13 @@ module _ (A : Area) (I l : List ℕ) (r : Located) (o : located_says r ≡ entry
 -- ---- the root's own info
 
 module _ (A : Area) (I l p : List ℕ) (b : Bool) (o : b ≡ same p (slash ∷ [])) where
-  info_is-root : b ≡ true → about_root (sum_from 0 (walk A I A.first)) ≡ info_on A I l p
+  info_is_root : b ≡ true → about_root (sum_from 0 (walk A I A.first)) ≡ info_on A I l p
   unfolding info_on
-  info_is-root e = sym (pick_true _ _ (sym o ∙ e))
+  info_is_root e = sym (pick_true _ _ (sym o ∙ e))
 
-  info_is-other : b ≡ false → and_then (entry_of A I l) (about_entry (last_name l)) ≡ info_on A I l p
+  info_is_other : b ≡ false → and_then (entry_of A I l) (about_entry (last_name l)) ≡ info_on A I l p
   unfolding info_on
-  info_is-other e = sym (pick_false _ _ (sym o ∙ e))
+  info_is_other e = sym (pick_false _ _ (sym o ∙ e))
 
 -- ---- a listing
 
@@ -162,29 +161,29 @@ module _ (A : Area) (I l : List ℕ) (i cap : ℕ) (r : DirOpened) (o : opened_s
   unfolding list_on and_then
   list_found a e = ap (λ (q : Reply ℕ). and_then q (λ a. counts_of (list_from cap 0 i (skip i (walk A I a))))) (sym (ap opened_says e) ∙ o)
 
-  pub records-found : (a : Addr) → r ≡ dir.At a → records_from cap 0 (skip i (walk A I a.0)) ≡ records_on A I l i cap
+  pub records_found : (a : Addr) → r ≡ dir.At a → records_from cap 0 (skip i (walk A I a.0)) ≡ records_on A I l i cap
   unfolding records_on
-  records-found a e = ap (records_at A I i cap) (sym (ap opened_says e) ∙ o)
+  records_found a e = ap (records_at A I i cap) (sym (ap opened_says e) ∙ o)
 
 -- ---- the same, for each call
 
 module _ (cwd p l m : List ℕ) (r : Real) (o : RealIs cwd p l m r) (k : ℕ) (e : r ≡ real.Len k) (long : length l ≡ 1024) (A : Area) (I : List ℕ) where
-  pub open_path-at : open_on A I (take k m) ≡ given (path_refusal cwd p) (open_on A I (real_path cwd p))
-  open_path-at = path-at cwd p l m r o k e (open_on A I) long
+  pub open_path_at : open_on A I (take k m) ≡ given (path_refusal cwd p) (open_on A I (real_path cwd p))
+  open_path_at = path_at cwd p l m r o k e (open_on A I) long
 
   -- (the code tests all of the path's bytes)
-  pub info_root-at : (b : Bool) → b ≡ same (take (length p) p) (slash ∷ []) → b ≡ true → about_root (sum_from 0 (walk A I A.first)) ≡ given (path_refusal cwd p) (info_on A I (real_path cwd p) p)
-  info_root-at b q t = info_is-root A I (take k m) p b (q ∙ ap (λ (x : List ℕ). same x (slash ∷ [])) (take_all (length p) p (omega arith))) t ∙ path-at cwd p l m r o k e (λ x. info_on A I x p) long
+  pub info_root_at : (b : Bool) → b ≡ same (take (length p) p) (slash ∷ []) → b ≡ true → about_root (sum_from 0 (walk A I A.first)) ≡ given (path_refusal cwd p) (info_on A I (real_path cwd p) p)
+  info_root_at b q t = info_is_root A I (take k m) p b (q ∙ ap (λ (x : List ℕ). same x (slash ∷ [])) (take_all (length p) p (omega arith))) t ∙ path_at cwd p l m r o k e (λ x. info_on A I x p) long
 
-  pub info_path-at : (b : Bool) → b ≡ same (take (length p) p) (slash ∷ []) → b ≡ false
+  pub info_path_at : (b : Bool) → b ≡ same (take (length p) p) (slash ∷ []) → b ≡ false
       → and_then (entry_of A I (take k m)) (about_entry (last_name (take k m))) ≡ given (path_refusal cwd p) (info_on A I (real_path cwd p) p)
-  info_path-at b q t = info_is-other A I (take k m) p b (q ∙ ap (λ (x : List ℕ). same x (slash ∷ [])) (take_all (length p) p (omega arith))) t ∙ path-at cwd p l m r o k e (λ x. info_on A I x p) long
+  info_path_at b q t = info_is_other A I (take k m) p b (q ∙ ap (λ (x : List ℕ). same x (slash ∷ [])) (take_all (length p) p (omega arith))) t ∙ path_at cwd p l m r o k e (λ x. info_on A I x p) long
 
-  pub list_path-at : (i cap : ℕ) → list_on A I (take k m) i cap ≡ given (path_refusal cwd p) (list_on A I (real_path cwd p) i cap)
-  list_path-at i cap = path-at cwd p l m r o k e (λ x. list_on A I x i cap) long
+  pub list_path_at : (i cap : ℕ) → list_on A I (take k m) i cap ≡ given (path_refusal cwd p) (list_on A I (real_path cwd p) i cap)
+  list_path_at i cap = path_at cwd p l m r o k e (λ x. list_on A I x i cap) long
 
-  pub records-path-at : (i cap : ℕ) → records_on A I (take k m) i cap ≡ records_on A I (real_path cwd p) i cap
-  records-path-at i cap = ap (λ (x : List ℕ). records_on A I x i cap) (path-taken cwd p l m r o k e long)
+  pub records_path_at : (i cap : ℕ) → records_on A I (take k m) i cap ≡ records_on A I (real_path cwd p) i cap
+  records_path_at i cap = ap (λ (x : List ℕ). records_on A I x i cap) (path_taken cwd p l m r o k e long)
 
 module _ (M : Mount) (I : List ℕ) (r : Opened) (o : OpenedIs M I r) (cwd p : List ℕ) (s : SuperBlock) (e : r ≡ At s) where
   pub open_call : given (path_refusal cwd p) (open_on (area_in s) I (real_path cwd p)) ≡ open_reply M I cwd p
@@ -199,18 +198,18 @@ module _ (M : Mount) (I : List ℕ) (r : Opened) (o : OpenedIs M I r) (cwd p : L
   unfolding list_reply
   list_call i cap = call_at M I r o s e cwd p (λ A. list_on A I (real_path cwd p) i cap)
 
-  pub records-call : (i cap : ℕ) → records_on (area_in s) I (real_path cwd p) i cap ≡ records_on (area_at M I) I (real_path cwd p) i cap
-  records-call i cap = ap (λ (A : Area). records_on A I (real_path cwd p) i cap) (area-at M I r o s e)
+  pub records_call : (i cap : ℕ) → records_on (area_in s) I (real_path cwd p) i cap ≡ records_on (area_at M I) I (real_path cwd p) i cap
+  records_call i cap = ap (λ (A : Area). records_on A I (real_path cwd p) i cap) (area_at_lem M I r o s e)
 
 module _ (M : Mount) (I : List ℕ) (r : Opened) (o : OpenedIs M I r) (cwd p : List ℕ) (x : Refusal) (e : r ≡ Refused x) where
   pub open_no : refused (refusal_number x) ≡ open_reply M I cwd p
   unfolding open_reply
-  open_no = call-refused M I r o cwd p _ x e
+  open_no = call_refused M I r o cwd p _ x e
 
   pub info_no : refused (refusal_number x) ≡ info_reply M I cwd p
   unfolding info_reply
-  info_no = call-refused M I r o cwd p _ x e
+  info_no = call_refused M I r o cwd p _ x e
 
   pub list_no : (i cap : ℕ) → refused (refusal_number x) ≡ list_reply M I cwd p i cap
   unfolding list_reply
-  list_no i cap = call-refused M I r o cwd p _ x e
+  list_no i cap = call_refused M I r o cwd p _ x e

@@ -13,15 +13,15 @@ use Rattle.super_block.specs.declared.Opened.{Opened}
 use Rattle.super_block.specs.declared.Opened.TheVariants.{At}
 use Rattle.super_block.specs.declared.Opened.TheVariants as opened
 use Rattle.super_block.specs.Super.{geo_of, Fit, OpenedIs}
-use Rattle.super_block.proofs.Fits.{opened-fit, opened-geo}
+use Rattle.super_block.proofs.Fits.{opened_fit, opened-geo}
 use Rattle.bitmap_room.specs.declared.Told.{Told}
 use Rattle.bitmap_room.specs.Search.{room_in}
 use Rattle.call_room.specs.Room.{Asks}
 use Rattle.call_room.specs.declared.RoomOut.TheVariants.{Known, Refused}
 
 module _ (M : Mount) (I : List ℕ) (k : ℕ) (r : Opened) (o : OpenedIs M I r) where
-  pub room-opened : (s : SuperBlock) → r ≡ At s → Fit s I
-  room-opened s e = let u : OpenedIs M I (At s) = subst (OpenedIs M I) e o in opened-fit M I s u.0 u.1
+  pub room_opened : (s : SuperBlock) → r ≡ At s → Fit s I
+  room_opened s e = let u : OpenedIs M I (At s) = subst (OpenedIs M I) e o in opened_fit M I s u.0 u.1
 
   pub room-known : (s : SuperBlock) (t : Told) → r ≡ At s → t ≡ room_in (geo_of s) I k → Asks M I k (Known t)
   room-known s t e q =
@@ -29,5 +29,5 @@ module _ (M : Mount) (I : List ℕ) (k : ℕ) (r : Opened) (o : OpenedIs M I r) 
       let g : geo_of s ≡ geo_at M I = opened-geo M I s u.1 in
       ap accepted (q ∙ ap (λ (x : Geo). room_in x I k) g) ∙ sym (reply-none _ u.0)
 
-  pub room-refused : (x : Refusal) → r ≡ opened.Refused x → Asks M I k (Refused x)
-  room-refused x e = let u : open_refusal M I ≡ refusal_number x = subst (OpenedIs M I) e o in sym (reply-refused _ x u)
+  pub room_refused : (x : Refusal) → r ≡ opened.Refused x → Asks M I k (Refused x)
+  room_refused x e = let u : open_refusal M I ≡ refusal_number x = subst (OpenedIs M I) e o in sym (reply-refused _ x u)

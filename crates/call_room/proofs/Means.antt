@@ -12,25 +12,25 @@ use borrow.Author.Tests.{leb-true, leb-false, le-leb}
 use Rattle.model.specs.Geometry.{Mount, geo_at, block_size, map_at, reach, open_refusal}
 use Rattle.model.proofs.Replies.{accepted-one, reply-none, reply_zero}
 use Rattle.limits.specs.Refusals.{refusal_number}
-use Rattle.limits.proofs.Numbers.{number-one}
+use Rattle.limits.proofs.Numbers.{number_one}
 use Rattle.bitmap_block.specs.Bitmap.{clears}
 use Rattle.bitmap_room.specs.declared.Told.{Told}
 use Rattle.call_room.specs.declared.RoomOut.{RoomOut}
 use Rattle.call_room.specs.declared.RoomOut.TheVariants.{Known, Refused}
 use Rattle.bitmap_room.specs.Search.{clear_in, bytes_read, bytes_for, room_in}
 use Rattle.call_room.specs.Room.{room_says, Asks}
-use Rattle.bitmap_room.proofs.Clear.{clear_mono, byte-read, byte_not, read-to, clear-reach}
+use Rattle.bitmap_room.proofs.Clear.{clear_mono, byte_read, byte_not, read_to, clear_reach}
 
 -- ---- the bytes read
 
 module _ (l : List ℕ) (from limit k : ℕ) where
-  reads-le : (n : ℕ) → bytes_read l from limit k n ≤ n
+  reads_le : (n : ℕ) → bytes_read l from limit k n ≤ n
   unfolding bytes_read
-  reads-le zero = omega arith
-  reads-le (suc n) = go (reads-le n) (dec_lt (clear_in l from limit n) k)
+  reads_le zero = omega arith
+  reads_le (suc n) = go (reads_le n) (dec_lt (clear_in l from limit n) k)
     where
       go : bytes_read l from limit k n ≤ n → Dec (clear_in l from limit n < k) → bytes_read l from limit k (suc n) ≤ suc n
-      go r (yes p) = omega (arith, byte-read l from limit k n p)
+      go r (yes p) = omega (arith, byte_read l from limit k n p)
       go r (no p) = omega (arith, byte_not l from limit k n (omega arith))
 
   -- fewer bytes have fewer clear bits than k,
@@ -41,73 +41,73 @@ module _ (l : List ℕ) (from limit k : ℕ) where
     where
       go : (m < bytes_read l from limit k n → clear_in l from limit m < k) → Dec (clear_in l from limit n < k)
           → clear_in l from limit m < k
-      go r (yes p) = omega (arith, clear_mono l from limit m n (omega (arith, byte-read l from limit k n p, reads-le n)))
+      go r (yes p) = omega (arith, clear_mono l from limit m n (omega (arith, byte_read l from limit k n p, reads_le n)))
       go r (no p) = r (omega (arith, byte_not l from limit k n (omega arith)))
 
   -- and these have k, if all have
-  reads-hold : (n : ℕ) → k ≤ clear_in l from limit n → k ≤ clear_in l from limit (bytes_read l from limit k n)
+  reads_hold : (n : ℕ) → k ≤ clear_in l from limit n → k ≤ clear_in l from limit (bytes_read l from limit k n)
   unfolding bytes_read
-  reads-hold zero h = h
-  reads-hold (suc n) h = go (reads-hold n) (dec_lt (clear_in l from limit n) k)
+  reads_hold zero h = h
+  reads_hold (suc n) h = go (reads_hold n) (dec_lt (clear_in l from limit n) k)
     where
       go : (k ≤ clear_in l from limit n → k ≤ clear_in l from limit (bytes_read l from limit k n))
           → Dec (clear_in l from limit n < k) → k ≤ clear_in l from limit (bytes_read l from limit k (suc n))
       go r (yes p) =
-          let e : bytes_read l from limit k (suc n) ≡ suc n = byte-read l from limit k n p
-          ∙ ap suc (read-to l from limit k n (λ j q. omega (arith, clear_mono l from limit j n (omega arith)))) in
+          let e : bytes_read l from limit k (suc n) ≡ suc n = byte_read l from limit k n p
+          ∙ ap suc (read_to l from limit k n (λ j q. omega (arith, clear_mono l from limit j n (omega arith)))) in
           omega (arith, ap (clear_in l from limit) e)
       go r (no p) = omega (arith, ap (clear_in l from limit) (byte_not l from limit k n (omega arith)), r (omega arith))
 
   -- all are read where they have fewer
   reads_all : (n : ℕ) → clear_in l from limit n < k → bytes_read l from limit k n ≡ n
-  reads_all n h = read-to l from limit k n (λ j q. omega (arith, clear_mono l from limit j n (omega arith)))
+  reads_all n h = read_to l from limit k n (λ j q. omega (arith, clear_mono l from limit j n (omega arith)))
 
 -- ---- the answer
 
 module _ (M : Mount) (I : List ℕ) (k : ℕ) (t : Told) (a : Asks M I k (Known t)) where
   -- it is that of the bitmap
-  room-is : t ≡ room_in (geo_at M I) I k
-  room-is =
+  room_is : t ≡ room_in (geo_at M I) I k
+  room_is =
       let told : Told = room_in (geo_at M I) I k in
       accepted-one t told (a ∙ reply-none _ (reply_zero (open_refusal M I) told t (sym a)))
 
-  enough-is : t.enough ≡ leb k (length (clears (geo_at M I) I))
+  enough_is : t.enough ≡ leb k (length (clears (geo_at M I) I))
   unfolding room_in
-  enough-is = ap (λ (u : Told). u.enough) room-is
+  enough_is = ap (λ (u : Told). u.enough) room_is
 
-  bytes-is : t.bytes
+  bytes_is : t.bytes
       ≡ bytes_read I (block_size (geo_at M I) * map_at (geo_at M I)) (reach (geo_at M I)) k (bytes_for (reach (geo_at M I)))
   unfolding room_in
-  bytes-is = ap (λ (u : Told). u.bytes) room-is
+  bytes_is = ap (λ (u : Told). u.bytes) room_is
 
   -- yes is: at least k
-  pub room-enough : (t.enough ≡ true) ↔ (k ≤ length (clears (geo_at M I) I))
-  room-enough = (λ e. leb-true k _ (sym enough-is ∙ e), λ h. enough-is ∙ le-leb k _ h)
+  pub room_enough : (t.enough ≡ true) ↔ (k ≤ length (clears (geo_at M I) I))
+  room_enough = (λ e. leb-true k _ (sym enough_is ∙ e), λ h. enough_is ∙ le-leb k _ h)
 
   -- then the bytes are the fewest leading ones that have k,
-  pub room-fewest : t.enough ≡ true → (k ≤ clear_in I (block_size (geo_at M I) * map_at (geo_at M I)) (reach (geo_at M I)) t.bytes)
+  pub room_fewest : t.enough ≡ true → (k ≤ clear_in I (block_size (geo_at M I) * map_at (geo_at M I)) (reach (geo_at M I)) t.bytes)
       × ((m : ℕ) → m < t.bytes → clear_in I (block_size (geo_at M I) * map_at (geo_at M I)) (reach (geo_at M I)) m < k)
-  room-fewest e =
+  room_fewest e =
       let g = geo_at M I in
       let from : ℕ = block_size g * map_at g in
-      let h : k ≤ clear_in I from (reach g) (bytes_for (reach g)) = omega (arith, room-enough.0 e, clear-reach g I) in (
-        omega (arith, reads-hold I from (reach g) k (bytes_for (reach g)) h, ap (clear_in I from (reach g)) bytes-is),
-        λ m o. reads_short I from (reach g) k (bytes_for (reach g)) m (omega (arith, bytes-is)),
+      let h : k ≤ clear_in I from (reach g) (bytes_for (reach g)) = omega (arith, room_enough.0 e, clear_reach g I) in (
+        omega (arith, reads_hold I from (reach g) k (bytes_for (reach g)) h, ap (clear_in I from (reach g)) bytes_is),
+        λ m o. reads_short I from (reach g) k (bytes_for (reach g)) m (omega (arith, bytes_is)),
       )
 
   -- and otherwise all
-  pub room-all : t.enough ≡ false → t.bytes ≡ bytes_for (reach (geo_at M I))
-  room-all e =
+  pub room_all : t.enough ≡ false → t.bytes ≡ bytes_for (reach (geo_at M I))
+  room_all e =
       let g = geo_at M I in
-      let h : length (clears g I) < k = leb-false k _ (sym enough-is ∙ e) in
-      bytes-is ∙ reads_all I (block_size g * map_at g) (reach g) k (bytes_for (reach g)) (omega (arith, clear-reach g I))
+      let h : length (clears g I) < k = leb-false k _ (sym enough_is ∙ e) in
+      bytes_is ∙ reads_all I (block_size g * map_at g) (reach g) k (bytes_for (reach g)) (omega (arith, clear_reach g I))
 
 -- any two are equal
-pub room-one : (M : Mount) (I : List ℕ) (k : ℕ) (r q : RoomOut) → Asks M I k r → Asks M I k q → r ≡ q
-room-one M I k r q a b = go r q (a ∙ sym b)
+pub room_one : (M : Mount) (I : List ℕ) (k : ℕ) (r q : RoomOut) → Asks M I k r → Asks M I k q → r ≡ q
+room_one M I k r q a b = go r q (a ∙ sym b)
   where
     go : (r q : RoomOut) → room_says r ≡ room_says q → r ≡ q
     go (Known t) (Known u) e = ap Known (accepted-one t u e)
     go (Known t) (Refused y) e = let z : ◌≡◌ {A = ℕ} 0 1 = cc in absurd (omega arith)
     go (Refused x) (Known u) e = let z : ◌≡◌ {A = ℕ} 0 1 = cc in absurd (omega arith)
-    go (Refused x) (Refused y) e = let n : refusal_number x ≡ refusal_number y = cc in ap Refused (number-one x y n)
+    go (Refused x) (Refused y) e = let n : refusal_number x ≡ refusal_number y = cc in ap Refused (number_one x y n)

@@ -9,13 +9,13 @@ use lib.ListN.{length}
 use borrow.Author.Tests.{lt-ltb, le-ltb}
 use Rattle.wire.proofs.Numbers.{length-splice}
 use Rattle.block.specs.Block.{BlockSize, zeroed, Kept}
-use Rattle.block.proofs.Blocks.{zeroed-kept}
+use Rattle.block.proofs.Blocks.{zeroed_kept}
 use Rattle.model.specs.Render.{Shows}
 use Rattle.model.proofs.Areas.{block_inside}
-use Rattle.model.proofs.Commit.{shows-stored}
+use Rattle.model.proofs.Commit.{shows_stored}
 use Rattle.model.proofs.Demand.{whole_super}
-use Rattle.model.proofs.Entries.{be-shown}
-use Rattle.model.proofs.OneVolume.{top-reads}
+use Rattle.model.proofs.Entries.{be_shown}
+use Rattle.model.proofs.OneVolume.{top_reads}
 use Rattle.model.proofs.Owns.{shows_kept}
 use Rattle.model.specs.Answers.{accepted, refused, first_of, reply}
 use Rattle.limits.specs.Refusals.{refusal_number}
@@ -24,12 +24,12 @@ use Rattle.limits.specs.declared.Refusal.TheVariants.{Damaged}
 use Rattle.model.specs.Geometry.{Mount, Geo, super_bytes, block_size, map_at, data_at, bit_end, geo_at, format_geo, used_count, open_refusal, format_refusal}
 use Rattle.model.proofs.Opens.{when_true, when_false, first_of_head, first_of_tail, first_of_one}
 use Rattle.model.proofs.Replies.{reply-none, settle-none}
-use Rattle.limits.proofs.Numbers.{reply-refused, settle-refused, number-some}
+use Rattle.limits.proofs.Numbers.{reply-refused, settle-refused, number_some}
 use Rattle.super_block.specs.declared.SuperBlock.{SuperBlock}
 use Rattle.super_block.specs.declared.Opened.{Opened}
 use Rattle.super_block.specs.declared.Opened.TheVariants.{At, Refused}
 use Rattle.super_block.specs.Super.{geo_of, super_block, Fit, OpenedIs, MadeIs, super_written}
-use Rattle.super_block.proofs.Fits.{placed, opened-fit, opened-geo, made-fit, made-geo, fit-long}
+use Rattle.super_block.proofs.Fits.{placed, opened_fit, opened-geo, made_fit, made_geo, fit_long}
 use Rattle.bitmap_block.specs.Bitmap.{taken}
 use Rattle.limits.specs.declared.Answer.TheVariants as answer
 use Rattle.call_volume.specs.declared.Space.{Space}
@@ -44,11 +44,11 @@ module _ (M : Mount) (I : List ℕ) (r : Opened) (o : OpenedIs M I r) where
     opens : (open_refusal M I ≡ 0) × (s ≡ super_block (geo_at M I))
     opens = subst (OpenedIs M I) e o
 
-    pub opened-at : Fit s I
-    opened-at = opened-fit M I s opens.0 opens.1
+    pub opened_at : Fit s I
+    opened_at = opened_fit M I s opens.0 opens.1
 
-    pub opened-size : s.size ≡ block_size (geo_of s)
-    opened-size = opened-at.size
+    pub opened_size : s.size ≡ block_size (geo_of s)
+    opened_size = opened_at.size
 
     -- usage, from the answer that the numbers and the count give
     pub usage_sized : (u : ℕ) (q : Space) → u ≡ used_count (geo_of s) I → space_says q ≡ reply (overused (geo_of s) u) (sizes_of (geo_of s) u) → Uses M I q
@@ -67,14 +67,14 @@ module _ (M : Mount) (I : List ℕ) (r : Opened) (o : OpenedIs M I r) where
   usage_refused x e =
       let f : open_refusal M I ≡ refusal_number x = subst (OpenedIs M I) e o in
       let h : first_of (open_refusal M I ∷ (overused (geo_at M I) (used_count (geo_at M I) I) ∷ [])) ≡ refusal_number x
-      = first_of_head _ _ (omega (arith, f, number-some x)) ∙ f in
+      = first_of_head _ _ (omega (arith, f, number_some x)) ∙ f in
       sym (reply-refused _ x h)
 
 -- ---- usage, by the count
 
-pub sizes-over : (g : Geo) (u : ℕ) → g.n < u → refused 17 ≡ reply (overused g u) (sizes_of g u)
+pub sizes_over : (g : Geo) (u : ℕ) → g.n < u → refused 17 ≡ reply (overused g u) (sizes_of g u)
 unfolding overused
-sizes-over g u h = sym (reply-refused (sizes_of g u) Damaged (when_true 17 (lt-ltb g.n u h)))
+sizes_over g u h = sym (reply-refused (sizes_of g u) Damaged (when_true 17 (lt-ltb g.n u h)))
 
 pub sizes_in : (s : SuperBlock) (u a t : ℕ) → s.size ≡ block_size (geo_of s) → u ≤ s.blocks → a ≡ s.blocks * s.size → t ≡ u * s.size
     → accepted (record { size = a; used = t; free = a - t }) ≡ reply (overused (geo_of s) u) (sizes_of (geo_of s) u)
@@ -91,8 +91,8 @@ product_le n u b m v h p q = let k : v ≤ m = omega arith in mul-le-mul_right b
 -- ---- format
 
 module _ (M : Mount) (I : List ℕ) (r : Opened) (o : MadeIs M (length I) r) where
-  pub format-refused : (x : Refusal) → r ≡ Refused x → Formats M I (answer.Refused x) I
-  format-refused x e =
+  pub format_refused : (x : Refusal) → r ≡ Refused x → Formats M I (answer.Refused x) I
+  format_refused x e =
       let f : format_refusal M (length I) ≡ refusal_number x = subst (MadeIs M (length I)) e o in
       record { answer = sym (reply-refused tt x f); image = sym (settle-refused _ I x f) }
 
@@ -101,20 +101,20 @@ module _ (M : Mount) (I : List ℕ) (r : Opened) (o : MadeIs M (length I) r) whe
     makes = subst (MadeIs M (length I)) e o
 
     pub made_at : Fit s I
-    made_at = made-fit M I s makes.0 makes.1
+    made_at = made_fit M I s makes.0 makes.1
 
-    pub format-made : (J : List ℕ) → J ≡ formatted (geo_of s) I → Formats M I answer.Success J
-    format-made J h =
+    pub format_made : (J : List ℕ) → J ≡ formatted (geo_of s) I → Formats M I answer.Success J
+    format_made J h =
         record {
           answer = sym (reply-none tt makes.0);
-          image = h ∙ ap (λ (g : Geo). formatted g I) (made-geo M (length I) s makes.1) ∙ sym (settle-none _ I makes.0);
+          image = h ∙ ap (λ (g : Geo). formatted g I) (made_geo M (length I) s makes.1) ∙ sym (settle-none _ I makes.0);
         }
 
 -- ---- the stores of a format: the superblock, then the bitmap, then block D taken
 
 module _ (s : SuperBlock) (I : List ℕ) (f : Fit s I) where
-  pub maps-le : s.bitmap.0 ≤ s.area.0
-  maps-le = let p = placed f in omega arith
+  pub maps_le : s.bitmap.0 ≤ s.area.0
+  maps_le = let p = placed f in omega arith
 
   pub size_in : BlockSize s.size
   size_in = f.known
@@ -128,26 +128,26 @@ module _ (s : SuperBlock) (I : List ℕ) (f : Fit s I) where
   top_in : block_size (geo_of s) * s.addr.0 + block_size (geo_of s) ≤ length I
   top_in = let p = placed f in block_inside (geo_of s) (length I) f.sound s.addr.0 (omega arith)
 
-  written-long : length (super_written (geo_of s) I s.area.0) ≡ length I
+  written_long : length (super_written (geo_of s) I s.area.0) ≡ length I
   unfolding super_written
-  written-long = length-splice I _ _ (omega (arith, top_in, whole_super (geo_of s) s.area.0))
+  written_long = length-splice I _ _ (omega (arith, top_in, whole_super (geo_of s) s.area.0))
 
   module _ (J L : List ℕ) (p : J ≡ super_written (geo_of s) I s.area.0) (q : L ≡ zeroed s.size J s.bitmap.0 (s.area.0 - s.bitmap.0)) where
     pub long-J : length J ≡ length I
-    long-J = ap length p ∙ written-long
+    long-J = ap length p ∙ written_long
 
     kept-L : Kept (block_size (geo_of s)) (λ b o. (b < s.bitmap.0) ⊎ (s.bitmap.0 + (s.area.0 - s.bitmap.0) ≤ b)) J L
     kept-L =
         subst (λ (B : ℕ). Kept B (λ b o. (b < s.bitmap.0) ⊎ (s.bitmap.0 + (s.area.0 - s.bitmap.0) ≤ b)) J L) f.size
-        (subst (Kept s.size _ J) (sym q) (zeroed-kept s.size J s.bitmap.0 (s.area.0 - s.bitmap.0) (bitmap_in J long-J)))
+        (subst (Kept s.size _ J) (sym q) (zeroed_kept s.size J s.bitmap.0 (s.area.0 - s.bitmap.0) (bitmap_in J long-J)))
 
-    pub laid-fit : Fit s L
-    laid-fit = fit-long (kept-L.size ∙ long-J) f
+    pub laid_fit : Fit s L
+    laid_fit = fit_long (kept-L.size ∙ long-J) f
 
     -- the superblock stands in both
     top-J : Shows J (block_size (geo_of s) * s.addr.0) (super_bytes (geo_of s) s.area.0)
     unfolding super_written
-    top-J = rw p (shows-stored I _ _ (omega (arith, top_in, whole_super (geo_of s) s.area.0)))
+    top-J = rw p (shows_stored I _ _ (omega (arith, top_in, whole_super (geo_of s) s.area.0)))
 
     pub top-L : Shows L (block_size (geo_of s) * s.addr.0) (super_bytes (geo_of s) s.area.0)
     top-L =
@@ -157,14 +157,14 @@ module _ (s : SuperBlock) (I : List ℕ) (f : Fit s I) where
 
     pub used-L : used_count (geo_of s) L ≡ s.area.0
     unfolding used_count
-    used-L = let h = placed f in be-shown L _ 4 s.area.0 (omega arith) (top-reads L _ (geo_of s) s.area.0 top-L).used
+    used-L = let h = placed f in be_shown L _ 4 s.area.0 (omega arith) (top_reads L _ (geo_of s) s.area.0 top-L).used
 
-    pub laid-used : used_count (geo_of s) L < s.blocks
-    laid-used = let h = placed f in omega (arith, used-L)
+    pub laid_used : used_count (geo_of s) L < s.blocks
+    laid_used = let h = placed f in omega (arith, used-L)
 
-    pub laid-is : (R : List ℕ) → R ≡ taken (geo_of s) L 0 → R ≡ formatted (geo_of s) I
+    pub laid_is : (R : List ℕ) → R ≡ taken (geo_of s) L 0 → R ≡ formatted (geo_of s) I
     unfolding formatted
-    laid-is R e =
+    laid_is R e =
         let x : J ≡ super_written (geo_of s) I (data_at (geo_of s)) = p ∙ ap (super_written (geo_of s) I) f.area in
         let y : L ≡ zeroed (block_size (geo_of s)) (super_written (geo_of s) I (data_at (geo_of s))) (map_at (geo_of s)) (data_at (geo_of s) - map_at (geo_of s))
         = q ∙ ap (λ (x : List ℕ). zeroed s.size x s.bitmap.0 (s.area.0 - s.bitmap.0)) x ∙ rw (f.size, f.area, f.bitmap) in

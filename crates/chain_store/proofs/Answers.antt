@@ -10,18 +10,18 @@ use Rattle.block.specs.Block.{next}
 use Rattle.model.specs.Geometry.{Geo, data_at, bit_end, used_count}
 use Rattle.super_block.specs.declared.SuperBlock.{SuperBlock}
 use Rattle.super_block.specs.Super.{geo_of, Fit}
-use Rattle.super_block.proofs.Fits.{placed, fit-long}
+use Rattle.super_block.proofs.Fits.{placed, fit_long}
 use Rattle.bitmap_block.specs.Bitmap.{freed}
 use Rattle.chain_store.specs.Chain.{released, chain_freed}
 
-pub still-fit : (s : SuperBlock) (I J : List ℕ) → Fit s I → length J ≡ length I → Fit s J
-still-fit s I J f e = fit-long e f
+pub still_fit : (s : SuperBlock) (I J : List ℕ) → Fit s I → length J ≡ length I → Fit s J
+still_fit s I J f e = fit_long e f
 
 -- ---- one block given back
 
 -- a block whose index is one of the bits lies below the end of those that have a bit
-index-end : (s : SuperBlock) (I : List ℕ) (a x : ℕ) → Fit s I → x ≡ a - s.area.0 → s.area.0 ≤ a → a < s.blocks → x < s.bits → a < bit_end (geo_of s)
-index-end s I a x f e h k m = omega (arith, f.bits, f.area)
+index_end : (s : SuperBlock) (I : List ℕ) (a x : ℕ) → Fit s I → x ≡ a - s.area.0 → s.area.0 ≤ a → a < s.blocks → x < s.bits → a < bit_end (geo_of s)
+index_end s I a x f e h k m = omega (arith, f.bits, f.area)
 
 pub release_none : (g : Geo) (I : List ℕ) (a r : ℕ) → r ≡ used_count g I → r ≡ 0 → I ≡ released g I a
 unfolding released
@@ -38,35 +38,35 @@ pub release_some : (s : SuperBlock) (I J : List ℕ) (a r x : ℕ) → Fit s I �
 unfolding released
 release_some s I J a r x f e z q l m k h =
     h ∙ ap (freed (geo_of s) I) (q ∙ ap (λ (d : ℕ). a - d) f.area)
-    ∙ sym (pick_false _ _ (rw (ne_eqb (used_count (geo_of s) I) 0 (λ w. z (e ∙ w)), lt-leb (bit_end (geo_of s)) a (index-end s I a x f q l m k))))
+    ∙ sym (pick_false _ _ (rw (ne_eqb (used_count (geo_of s) I) 0 (λ w. z (e ∙ w)), lt-leb (bit_end (geo_of s)) a (index_end s I a x f q l m k))))
 
-pub some-used : (g : Geo) (I : List ℕ) (r : ℕ) → r ≡ used_count g I → (r ≡ 0 → ⊥) → 0 < used_count g I
-some-used g I r e z = go (used_count g I) (λ w. z (e ∙ w))
+pub some_used : (g : Geo) (I : List ℕ) (r : ℕ) → r ≡ used_count g I → (r ≡ 0 → ⊥) → 0 < used_count g I
+some_used g I r e z = go (used_count g I) (λ w. z (e ∙ w))
   where
     go : (n : ℕ) → (n ≡ 0 → ⊥) → 0 < n
     go n h = omega arith
 
-pub index-inside : (s : SuperBlock) (I : List ℕ) (a x : ℕ) → Fit s I → x ≡ a - s.area.0 → s.area.0 ≤ a → a < s.blocks → x < s.bits
+pub index_inside : (s : SuperBlock) (I : List ℕ) (a x : ℕ) → Fit s I → x ≡ a - s.area.0 → s.area.0 ≤ a → a < s.blocks → x < s.bits
     → s.area.0 + x < bit_end (geo_of s)
-index-inside s I a x f e h k m = omega (arith, index-end s I a x f e h k m)
+index_inside s I a x f e h k m = omega (arith, index_end s I a x f e h k m)
 
 -- ---- a chain freed: what is left to free is what was to be freed
 
 module _ (s : SuperBlock) (I J R : List ℕ) (left b : ℕ) (f : Fit s I) (v : chain_freed (geo_of s) J left b ≡ R) where
-  pub chain-end : left ≤ 0 → J ≡ R
+  pub chain_end : left ≤ 0 → J ≡ R
   unfolding chain_freed
-  chain-end h = let e : left ≡ 0 = omega arith in sym (ap (λ (k : ℕ). chain_freed (geo_of s) J k b) e) ∙ v
+  chain_end h = let e : left ≡ 0 = omega arith in sym (ap (λ (k : ℕ). chain_freed (geo_of s) J k b) e) ∙ v
 
   step : 0 < left → chain_freed (geo_of s) J left b ≡ chain_freed (geo_of s) J (suc (left - 1)) b
   step h = let e : left ≡ suc (left - 1) = omega arith in ap (λ (k : ℕ). chain_freed (geo_of s) J k b) e
 
-  pub chain-low : (d : ℕ) → d ≡ s.area.0 → 0 < left → b < d → J ≡ R
+  pub chain_low : (d : ℕ) → d ≡ s.area.0 → 0 < left → b < d → J ≡ R
   unfolding chain_freed
-  chain-low d q h l = sym (step h ∙ pick_false _ _ (rw (lt-leb (data_at (geo_of s)) b (omega (arith, f.area))))) ∙ v
+  chain_low d q h l = sym (step h ∙ pick_false _ _ (rw (lt-leb (data_at (geo_of s)) b (omega (arith, f.area))))) ∙ v
 
-  pub chain-high : 0 < left → s.blocks ≤ b → J ≡ R
+  pub chain_high : 0 < left → s.blocks ≤ b → J ≡ R
   unfolding chain_freed
-  chain-high h l =
+  chain_high h l =
       sym (step h ∙ pick_false _ _ (rw (le-leb (data_at (geo_of s)) b (omega (arith, f.area, (placed f).some_data)), le-ltb b s.blocks l))) ∙ v
 
   pub chain_more : (d : ℕ) → d ≡ s.area.0 → 0 < left → d ≤ b → b < s.blocks → (L : List ℕ) (B a to : ℕ)

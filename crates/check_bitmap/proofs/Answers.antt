@@ -15,7 +15,7 @@ use Rattle.bits.proofs.Bits.{ones-le}
 use Rattle.model.specs.Geometry.{block_size, map_at, data_at, set_bits, used_count}
 use Rattle.super_block.specs.declared.SuperBlock.{SuperBlock}
 use Rattle.super_block.specs.Super.{area_in, geo_of, Fit}
-use Rattle.super_block.proofs.Fits.{placed, from_is, area-is, area-inside, few-blocks}
+use Rattle.super_block.proofs.Fits.{placed, from_is, area_is, area_inside, few_blocks}
 use Rattle.check_bitmap.specs.Tally.{mark_bytes, map_from, map_long, mark_long, both_long, agreed}
 
 -- ---- the rest of the superblock
@@ -27,28 +27,28 @@ module _ {s : SuperBlock} {I : List ℕ} (f : Fit s I) where
   pub rest_in : {at : ℕ} → at ≡ s.size * s.addr.0 → at + 18 + (s.size - 18) ≤ length I
   rest_in e = omega (arith, f.top, head_in)
 
-pub rest-tested : (I : List ℕ) (B k at : ℕ) (r : Bool) → at ≡ B * k → r ≡ zero_from I (at + 18) (B - 18)
+pub rest_tested : (I : List ℕ) (B k at : ℕ) (r : Bool) → at ≡ B * k → r ≡ zero_from I (at + 18) (B - 18)
     → r ≡ zero_from I (B * k + 18) (B - 18)
-rest-tested I B k at r e f = f ∙ ap (λ (x : ℕ). zero_from I (x + 18) (B - 18)) e
+rest_tested I B k at r e f = f ∙ ap (λ (x : ℕ). zero_from I (x + 18) (B - 18)) e
 
 -- ---- the areas
 
 -- the bitmap is as long as the definitions have it
-long-is : {s : SuperBlock} {I : List ℕ} → Fit s I → s.size * (s.area.0 - s.bitmap.0) ≡ map_long (geo_of s)
-long-is f = λ i. f.size i * (f.area i - f.bitmap i)
+long_is : {s : SuperBlock} {I : List ℕ} → Fit s I → s.size * (s.area.0 - s.bitmap.0) ≡ map_long (geo_of s)
+long_is f = λ i. f.size i * (f.area i - f.bitmap i)
 
 -- what is left of it past k bytes
-past-long : {at from end l k m n : ℕ} → at ≡ from → end ≡ from + l → l ≡ k → m ≡ n → end - (at + m) ≡ k - n
-past-long a b c d = omega arith
+past_long : {at from end l k m n : ℕ} → at ≡ from → end ≡ from + l → l ≡ k → m ≡ n → end - (at + m) ≡ k - n
+past_long a b c d = omega arith
 
 module _ {s : SuperBlock} {I : List ℕ} (f : Fit s I) where
-  map-before : s.bitmap.0 ≤ s.area.0
-  map-before = let p = placed f in omega arith
+  map_before : s.bitmap.0 ≤ s.area.0
+  map_before = let p = placed f in omega arith
 
   -- the bitmap ends where the data begins
-  map-end : s.size * s.bitmap.0 + s.size * (s.area.0 - s.bitmap.0) ≡ s.size * s.area.0
-  map-end =
-      let e : s.bitmap.0 + (s.area.0 - s.bitmap.0) ≡ s.area.0 = omega (arith, map-before) in
+  map_end : s.size * s.bitmap.0 + s.size * (s.area.0 - s.bitmap.0) ≡ s.size * s.area.0
+  map_end =
+      let e : s.bitmap.0 + (s.area.0 - s.bitmap.0) ≡ s.area.0 = omega (arith, map_before) in
       sym (mul-add s.size s.bitmap.0 (s.area.0 - s.bitmap.0)) ∙ ap (λ (x : ℕ). s.size * x) e
 
   -- ---- the used count: at is where the bitmap begins, c how many of its bits are set
@@ -58,11 +58,11 @@ module _ {s : SuperBlock} {I : List ℕ} (f : Fit s I) where
     bits_in = let p = placed f in omega arith
 
     pub sum_fits : {c : ℕ} → c ≡ ones I at s.bits → s.area.0 + c < 2 ^ 32
-    sum_fits {c} h = omega (arith, ones-le I at s.bits, (placed f).few_bits, area-inside f, few-blocks f, f.known.most)
+    sum_fits {c} h = omega (arith, ones-le I at s.bits, (placed f).few_bits, area_inside f, few_blocks f, f.known.most)
 
-    pub count-tested : {c u : ℕ} → c ≡ ones I at s.bits → u ≡ used_count (geo_of s) I
+    pub count_tested : {c u : ℕ} → c ≡ ones I at s.bits → u ≡ used_count (geo_of s) I
         → eqb u (s.area.0 + c) ≡ eqb (used_count (geo_of s) I) (data_at (geo_of s) + set_bits I (geo_of s))
-    count-tested {c} {u} h k =
+    count_tested {c} {u} h k =
         let g = geo_of s in
         let x : at ≡ block_size g * map_at g = from_is f e in
         let z : c ≡ set_bits I g = h ∙ ap (λ (w : ℕ). ones I w s.bits) x ∙ ap (ones I (block_size g * map_at g)) f.bits in
@@ -70,9 +70,9 @@ module _ {s : SuperBlock} {I : List ℕ} (f : Fit s I) where
 
 -- ---- the bitmap: m bytes of marks in the work buffer W, c of them as the bitmap has them too
 
-pub marks-long : {m c : ℕ} (s : SuperBlock) (W : List ℕ) → m ≡ mark_bytes (area_in s) → mark_bytes (area_in s) ≤ length W → c ≡ min m (s.bits / 8)
+pub marks_long : {m c : ℕ} (s : SuperBlock) (W : List ℕ) → m ≡ mark_bytes (area_in s) → mark_bytes (area_in s) ≤ length W → c ≡ min m (s.bits / 8)
     → c ≡ length (take c W)
-marks-long {m} {c} s W e h q = sym (length-take-le c W (omega arith))
+marks_long {m} {c} s W e h q = sym (length-take-le c W (omega arith))
 
 module _ {s : SuperBlock} {I : List ℕ} {m c at : ℕ} (W : List ℕ) (f : Fit s I) (h : mark_bytes (area_in s) ≤ length W)
     (e : m ≡ mark_bytes (area_in s)) (ec : c ≡ min m (s.bits / 8)) (a : at ≡ s.size * s.bitmap.0) where
@@ -88,28 +88,28 @@ module _ {s : SuperBlock} {I : List ℕ} {m c at : ℕ} (W : List ℕ) (f : Fit 
   pub left_in : c + (m - c) ≤ length W
   left_in = omega arith
 
-  at-is : at ≡ map_from (geo_of s)
-  at-is = from_is f a
+  at_is : at ≡ map_from (geo_of s)
+  at_is = from_is f a
 
-  m-is : m ≡ mark_long (geo_of s)
-  m-is = e ∙ ap mark_bytes (area-is f)
+  m_is : m ≡ mark_long (geo_of s)
+  m_is = e ∙ ap mark_bytes (area_is f)
 
   map_is : s.bits / 8 ≡ map_long (geo_of s)
   map_is = omega (arith, f.bits)
 
-  c-is : c ≡ both_long (geo_of s)
-  c-is = ec ∙ (λ i. min (m-is i) (map_is i))
+  c_is : c ≡ both_long (geo_of s)
+  c_is = ec ∙ (λ i. min (m_is i) (map_is i))
 
   -- the comparison is the first part of the test
   compared : {b : Bool} → b ≡ same (take (length (take c W)) (drop at I)) (take c W)
       → b ≡ same (take (both_long (geo_of s)) (drop (map_from (geo_of s)) I)) (take (both_long (geo_of s)) W)
   compared q =
-      q ∙ ap (λ (z : ℕ). same (take z (drop at I)) (take c W)) took ∙ ap (λ (z : ℕ). same (take c (drop z I)) (take c W)) at-is
-      ∙ ap (λ (z : ℕ). same (take z (drop (map_from (geo_of s)) I)) (take z W)) c-is
+      q ∙ ap (λ (z : ℕ). same (take z (drop at I)) (take c W)) took ∙ ap (λ (z : ℕ). same (take c (drop z I)) (take c W)) at_is
+      ∙ ap (λ (z : ℕ). same (take z (drop (map_from (geo_of s)) I)) (take z W)) c_is
 
   -- the marks that have no bit the second
   left_over : {b : Bool} → b ≡ zero_from W c (m - c) → b ≡ zero_from W (both_long (geo_of s)) (mark_long (geo_of s) - both_long (geo_of s))
-  left_over q = q ∙ (λ i. zero_from W (c-is i) (m-is i - c-is i))
+  left_over q = q ∙ (λ i. zero_from W (c_is i) (m_is i - c_is i))
 
   module _ (b : Bool) (q : b ≡ same (take (length (take c W)) (drop at I)) (take c W)) where
     pub marks_differ : not b ≡ true → false ≡ agreed (geo_of s) I W
@@ -117,17 +117,17 @@ module _ {s : SuperBlock} {I : List ℕ} {m c at : ℕ} (W : List ℕ) (f : Fit 
     marks_differ t = simp (sym (compared q), not-true b t)
 
     module _ (t : not b ≡ false) (v : Bool) (w : v ≡ zero_from W c (m - c)) where
-      pub marks-bare : not v ≡ true → false ≡ agreed (geo_of s) I W
+      pub marks_bare : not v ≡ true → false ≡ agreed (geo_of s) I W
       unfolding agreed
-      marks-bare y = simp (sym (compared q), not-false b t, sym (left_over w), not-true v y)
+      marks_bare y = simp (sym (compared q), not-false b t, sym (left_over w), not-true v y)
 
       -- the bytes past the marks
-      pub marks-tested : not v ≡ false → {end : ℕ} → end ≡ s.size * s.area.0 → {r : Bool} → r ≡ zero_from I (at + c) (end - (at + c)) → r ≡ agreed (geo_of s) I W
+      pub marks_tested : not v ≡ false → {end : ℕ} → end ≡ s.size * s.area.0 → {r : Bool} → r ≡ zero_from I (at + c) (end - (at + c)) → r ≡ agreed (geo_of s) I W
       unfolding agreed
-      marks-tested y {end} d {r} z =
+      marks_tested y {end} d {r} z =
           let g = geo_of s in
-          let x : at + c ≡ map_from g + both_long g = λ i. at-is i + c-is i in
-          let k : end - (at + c) ≡ map_long g - both_long g = past-long a (d ∙ sym (map-end f)) (long-is f) c-is in
+          let x : at + c ≡ map_from g + both_long g = λ i. at_is i + c_is i in
+          let k : end - (at + c) ≡ map_long g - both_long g = past_long a (d ∙ sym (map_end f)) (long_is f) c_is in
           z ∙ ap (λ (w : ℕ). zero_from I w (end - (at + c))) x ∙ ap (zero_from I (map_from g + both_long g)) k
           ∙ simp (sym (compared q), not-false b t, sym (left_over w), not-false v y)
 
@@ -136,7 +136,7 @@ module _ {s : SuperBlock} {I : List ℕ} {m c at : ℕ} (W : List ℕ) (f : Fit 
 
   module _ {end : ℕ} (d : end ≡ s.size * s.area.0) where
     pub past_in : at + c ≤ end
-    past_in = let p = placed f in omega (arith, map-end f)
+    past_in = let p = placed f in omega (arith, map_end f)
 
-    pub past-image : at + c + (end - (at + c)) ≤ length I
-    past-image = let p = placed f in omega (arith, map-end f)
+    pub past_image : at + c + (end - (at + c)) ≤ length I
+    past_image = let p = placed f in omega (arith, map_end f)

@@ -9,14 +9,14 @@ use native.Mathlib.Omega.{arith}
 use lib.ListN.{length, get_or, take, drop, length-drop}
 use lib.Seq.{length-take-le, get_or-take, get_or-drop}
 use Rattle.wire.specs.Pick.{same, zero_from}
-use Rattle.wire.proofs.Picks.{same_eq, same-agree, and_both, both_and}
-use Rattle.wire.proofs.Zeros.{zeros-shown, zeros_pass}
+use Rattle.wire.proofs.Picks.{same_eq, same_agree, and_both, both_and}
+use Rattle.wire.proofs.Zeros.{zeros_shown, zeros_pass}
 use Rattle.bits.specs.Bit.{bit}
 use Rattle.bits.proofs.Bits.{bit_ext, bit_zero}
 use Rattle.model.specs.Geometry.{Geo, block_size, map_at, data_at, map_bits, Sound}
 use Rattle.model.specs.Steps.{Bytes}
 use Rattle.model.proofs.Areas.{area}
-use Rattle.model.proofs.Demand.{byte-same}
+use Rattle.model.proofs.Demand.{byte_same}
 use Rattle.check_bitmap.specs.Tally.{map_from, map_long, mark_long, both_long, agreed}
 
 -- ---- bytes and bits of a part of a list
@@ -32,21 +32,21 @@ bytes_drop I from b i = subst (λ (v : ℕ). v < 256) (sym (get_or-drop from I i
 byte_agrees : (I W : List ℕ) (from i : ℕ) → Bytes I → Bytes W → ((k : ℕ) → k < 8 → bit I from (8 * i + k) ≡ bit W 0 (8 * i + k)) → get_or I (from + i) 0 ≡ get_or W i 0
 byte_agrees I W from i b w h =
     sym (get_or-drop from I i 0)
-    ∙ rw zero-add at (byte-same W (drop from I) 0 i w (bytes_drop I from b) (λ k q. bit-drop I from (8 * i + k) ∙ h k q))
+    ∙ rw zero-add at (byte_same W (drop from I) 0 i w (bytes_drop I from b) (λ k q. bit-drop I from (8 * i + k) ∙ h k q))
 
 -- a byte with no bit set is zero
 no_bytes : Bytes []
 no_bytes i = omega arith
 
-byte-clear : (I : List ℕ) (from i : ℕ) → Bytes I → ((k : ℕ) → k < 8 → bit I from (8 * i + k) ≡ 0) → get_or I (from + i) 0 ≡ 0
-byte-clear I from i b h = byte_agrees I [] from i b no_bytes (λ k q. h k q ∙ sym (bit_zero [] 0 (8 * i + k) refl))
+byte_clear : (I : List ℕ) (from i : ℕ) → Bytes I → ((k : ℕ) → k < 8 → bit I from (8 * i + k) ≡ 0) → get_or I (from + i) 0 ≡ 0
+byte_clear I from i b h = byte_agrees I [] from i b no_bytes (λ k q. h k q ∙ sym (bit_zero [] 0 (8 * i + k) refl))
 
 -- ---- the places
 
 -- the bitmap is in the image
 module _ (g : Geo) (len : ℕ) (s : Sound g len) where
-  map-inside : map_from g + map_long g ≤ len
-  map-inside =
+  map_inside : map_from g + map_long g ≤ len
+  map_inside =
       let a = area g len s in
       let k : map_at g + (data_at g - map_at g) ≡ data_at g = omega (arith, a.maps) in
       let e : map_from g + map_long g ≡ block_size g * data_at g = sym (mul-add (block_size g) (map_at g) (data_at g - map_at g)) ∙ ap (λ (x : ℕ). block_size g * x) k in
@@ -85,7 +85,7 @@ module _ (g : Geo) (I W : List ℕ) (s : Sound g (length I)) (room : mark_long g
           ∙ marks x (omega arith)
       go (no l) =
           let j : map_from g + x / 8 ≡ map_from g + both_long g + (x / 8 - both_long g) = omega arith in
-          bit_zero I (map_from g) x (ap (λ (v : ℕ). get_or I v 0) j ∙ zeros-shown I (map_from g + both_long g) (map_long g - both_long g) (all_three e).bits_clear (x / 8 - both_long g) (omega arith))
+          bit_zero I (map_from g) x (ap (λ (v : ℕ). get_or I v 0) j ∙ zeros_shown I (map_from g + both_long g) (map_long g - both_long g) (all_three e).bits_clear (x / 8 - both_long g) (omega arith))
           ∙ sym (past x (omega arith))
 
   pub agrees_bits : agreed g I W ≡ true → (x : ℕ) → map_bits g ≤ x → f x ≡ 0
@@ -95,7 +95,7 @@ module _ (g : Geo) (I W : List ℕ) (s : Sound g (length I)) (room : mark_long g
       go (yes l) =
           let j : 0 + x / 8 ≡ both_long g + (x / 8 - both_long g) = omega arith in
           sym (marks x (omega arith))
-          ∙ bit_zero W 0 x (ap (λ (v : ℕ). get_or W v 0) j ∙ zeros-shown W (both_long g) (mark_long g - both_long g) (all_three e).marks_clear (x / 8 - both_long g) (omega arith))
+          ∙ bit_zero W 0 x (ap (λ (v : ℕ). get_or W v 0) j ∙ zeros_shown W (both_long g) (mark_long g - both_long g) (all_three e).marks_clear (x / 8 - both_long g) (omega arith))
       go (no l) = past x (omega arith)
 
   pub agrees_complete : Bytes I → Bytes W → ((x : ℕ) → x < map_bits g → bit I (block_size g * map_at g) x ≡ f x) → ((x : ℕ) → map_bits g ≤ x → f x ≡ 0)
@@ -107,11 +107,11 @@ module _ (g : Geo) (I W : List ℕ) (s : Sound g (length I)) (room : mark_long g
       lw = length-take-le (both_long g) W (omega arith)
 
       li : length (take (both_long g) (drop (map_from g) I)) ≡ both_long g
-      li = length-take-le (both_long g) (drop (map_from g) I) (rw length-drop (omega (arith, map-inside g (length I) s)))
+      li = length-take-le (both_long g) (drop (map_from g) I) (rw length-drop (omega (arith, map_inside g (length I) s)))
 
       first : same (take (both_long g) (drop (map_from g) I)) (take (both_long g) W) ≡ true
       first =
-          same-agree _ _ (li ∙ sym lw) (λ i q.
+          same_agree _ _ (li ∙ sym lw) (λ i q.
           let l : i < both_long g = omega (arith, lw) in
           part_at i l ∙ byte_agrees I W (map_from g) i b w (λ k r. h (8 * i + k) (omega arith) ∙ sym (marks (8 * i + k) (omega arith)))
           ∙ sym (get_or-take (both_long g) W i 0 l))
@@ -120,11 +120,11 @@ module _ (g : Geo) (I W : List ℕ) (s : Sound g (length I)) (room : mark_long g
       second =
           zeros_pass W (mark_long g - both_long g) (both_long g) (λ j q.
           sym (ap (λ (v : ℕ). get_or W v 0) (zero-add (both_long g + j)))
-          ∙ byte-clear W 0 (both_long g + j) w (λ k r. marks (8 * (both_long g + j) + k) (omega arith) ∙ z (8 * (both_long g + j) + k) (omega arith)))
+          ∙ byte_clear W 0 (both_long g + j) w (λ k r. marks (8 * (both_long g + j) + k) (omega arith) ∙ z (8 * (both_long g + j) + k) (omega arith)))
 
       third : zero_from I (map_from g + both_long g) (map_long g - both_long g) ≡ true
       third =
           zeros_pass I (map_long g - both_long g) (map_from g + both_long g) (λ j q.
           let e : map_from g + both_long g + j ≡ map_from g + (both_long g + j) = omega arith in
           ap (λ (v : ℕ). get_or I v 0) e
-          ∙ byte-clear I (map_from g) (both_long g + j) b (λ k r. h (8 * (both_long g + j) + k) (omega arith) ∙ past (8 * (both_long g + j) + k) (omega arith)))
+          ∙ byte_clear I (map_from g) (both_long g + j) b (λ k r. h (8 * (both_long g + j) + k) (omega arith) ∙ past (8 * (both_long g + j) + k) (omega arith)))

@@ -11,19 +11,19 @@ use borrow.Author.Tests.{eq-eqb, ne_eqb, le-leb, lt-leb}
 use Rattle.wire.specs.Pick.{pick}
 use Rattle.wire.proofs.Picks.{pick_true, pick_false}
 use Rattle.block.specs.Block.{Area, next}
-use Rattle.block.proofs.Blocks.{linked-inside}
+use Rattle.block.proofs.Blocks.{linked_inside}
 use Rattle.model.specs.Tree.{Cell, then}
 use Rattle.model.proofs.Lists.{then_some, then-none}
 use Rattle.super_block.specs.declared.SuperBlock.{SuperBlock}
 use Rattle.super_block.specs.Super.{area_in, Fit}
-use Rattle.super_block.proofs.Fits.{fit-inside}
+use Rattle.super_block.proofs.Fits.{fit_inside}
 use Rattle.thm_survey.specs.Survey.{Claimed, with_found, claim, cells_of, chain_of, seen_of}
 use Rattle.check_bitmap.specs.Tally.{mark_bytes}
 use Rattle.check_chain.specs.Marks.{MarksAnswer, Inside}
-use Rattle.check_chain.proofs.Remaining.{Check, checks_as, Goes, goes_refl, goes_end, goes_stop, goes-no, goes_yes}
+use Rattle.check_chain.proofs.Remaining.{Check, checks_as, Goes, goes_refl, goes_end, goes_stop, goes_no, goes_yes}
 use Rattle.model.specs.Volume.{file_limit, blocks_for}
 use Rattle.check_chain.proofs.Claims.{beyond_refl}
-use Rattle.thm_survey.proofs.Seen.{seen-with}
+use Rattle.thm_survey.proofs.Seen.{seen_with}
 
 -- ---- what is claimed along the chain
 
@@ -41,15 +41,15 @@ module _ (A : Area) (I : List ℕ) where
   unfolding seen_of cells_of then
   seen_done a seen e = ap (λ (o : Option (Claimed (List Cell))). then o (λ c. some c.seen)) (pick_true _ _ (eq-eqb a 0 e))
 
-  seen-over : (a : ℕ) (seen : List ℕ) → (a ≡ 0 → ⊥) → seen_of (cells_of A I 0 a seen) ≡ none
+  seen_over : (a : ℕ) (seen : List ℕ) → (a ≡ 0 → ⊥) → seen_of (cells_of A I 0 a seen) ≡ none
   unfolding seen_of cells_of then
-  seen-over a seen e = ap (λ (o : Option (Claimed (List Cell))). then o (λ c. some c.seen)) (pick_false _ _ (ne_eqb a 0 e))
+  seen_over a seen e = ap (λ (o : Option (Claimed (List Cell))). then o (λ c. some c.seen)) (pick_false _ _ (ne_eqb a 0 e))
 
   seen_next : (k a : ℕ) (seen s : List ℕ) → claim A [] a seen ≡ some s → seen_of (cells_of A I (suc k) a seen) ≡ seen_of (cells_of A I k (next A.size I a) s)
   unfolding cells_of
   seen_next k a seen s e =
       ap seen_of (then_some (λ t. with_found (λ cs. record { at = a; body = _ } ∷ cs) (cells_of A I k (next A.size I a) t)) (claim-any A I a seen ∙ e))
-      ∙ seen-with (λ cs. record { at = a; body = _ } ∷ cs) (cells_of A I k (next A.size I a) s)
+      ∙ seen_with (λ cs. record { at = a; body = _ } ∷ cs) (cells_of A I k (next A.size I a) s)
 
   seen_stop : (k a : ℕ) (seen : List ℕ) → claim A [] a seen ≡ none → seen_of (cells_of A I (suc k) a seen) ≡ none
   unfolding cells_of
@@ -58,21 +58,21 @@ module _ (A : Area) (I : List ℕ) where
 
 -- ---- what the loop's calls ask
 
-pub still-long : (s : SuperBlock) (W₀ W : List ℕ) → mark_bytes (area_in s) ≤ length W₀ → length W ≡ length W₀ → mark_bytes (area_in s) ≤ length W
-still-long s W₀ W h e = omega arith
+pub still_long : (s : SuperBlock) (W₀ W : List ℕ) → mark_bytes (area_in s) ≤ length W₀ → length W ≡ length W₀ → mark_bytes (area_in s) ≤ length W
+still_long s W₀ W h e = omega arith
 
-pub claimed-inside : (s : SuperBlock) (I : List ℕ) (a b : ℕ) (r : Bool) → Fit s I → Inside (area_in s) b r → r ≡ true → a ≡ b
+pub claimed_inside : (s : SuperBlock) (I : List ℕ) (a b : ℕ) (r : Bool) → Fit s I → Inside (area_in s) b r → r ≡ true → a ≡ b
     → s.size * a + s.size ≤ length I
-claimed-inside s I a b r f q e g = fit-inside s I I a b f refl g (subst (Inside (area_in s) b) e q).1
+claimed_inside s I a b r f q e g = fit_inside s I I a b f refl g (subst (Inside (area_in s) b) e q).1
 
 -- the same, by the numbers of the block that is made of it
-pub claimed-linked : {z m : ℕ} (s : SuperBlock) (I : List ℕ) (b : ℕ) (r : Bool) → z ≡ s.size → m ≡ b → Fit s I
+pub claimed_linked : {z m : ℕ} (s : SuperBlock) (I : List ℕ) (b : ℕ) (r : Bool) → z ≡ s.size → m ≡ b → Fit s I
     → Inside (area_in s) b r → r ≡ true → z * m + z ≤ length I
-claimed-linked s I b r e g f q y = linked-inside b e g (claimed-inside s I b b r f q y refl)
+claimed_linked s I b r e g f q y = linked_inside b e g (claimed_inside s I b b r f q y refl)
 
 -- the next address is read by these numbers too
-pub next-is : {z m c : ℕ} (B : ℕ) (I : List ℕ) (b : ℕ) → z ≡ B → m ≡ b → c ≡ next z I m → c ≡ next B I b
-next-is B I b e g h = h ∙ (λ i. next (e i) I (g i))
+pub next_is : {z m c : ℕ} (B : ℕ) (I : List ℕ) (b : ℕ) → z ≡ B → m ≡ b → c ≡ next z I m → c ≡ next B I b
+next_is B I b e g h = h ∙ (λ i. next (e i) I (g i))
 
 -- ---- the loop, whatever check g (of at most so many blocks, from an address on) it computes: what is left to claim from W on is
 -- what was to be claimed from W₀ on
@@ -84,8 +84,8 @@ pub record Left (A : Area) (g : Along) (W₀ : List ℕ) (k a : ℕ) (W : List �
   pub goes : Goes A (g k a) (g left b) W₀ W
 
 module _ (A : Area) (g : Along) (W₀ : List ℕ) (k a : ℕ) where
-  pub left-start : Left A g W₀ k a W₀ a k
-  left-start = record { goes = goes_refl A (g k a) W₀ }
+  pub left_start : Left A g W₀ k a W₀ a k
+  left_start = record { goes = goes_refl A (g k a) W₀ }
 
   module _ (W : List ℕ) (b left : ℕ) (l : Left A g W₀ k a W b left) where
     none_left : left ≤ 0 → left ≡ 0
@@ -104,14 +104,14 @@ module _ (A : Area) (g : Along) (W₀ : List ℕ) (k a : ℕ) where
     -- block b passes its check h, or not
     module _ (h : Check) (Z : List ℕ) (r : Bool) (more : 0 < left) (q : MarksAnswer A h W Z r) where
       pub left_stop : r ≡ false → ((j : ℕ) (seen : List ℕ) → h seen ≡ none → g (suc j) b seen ≡ none) → MarksAnswer A (g k a) W₀ Z false
-      left_stop e f = goes-no A (g k a) (g left b) W₀ W l.goes h Z r q e (λ s y. ap (λ (j : ℕ). g j b s) (some_left more) ∙ f (left - 1) s y)
+      left_stop e f = goes_no A (g k a) (g left b) W₀ W l.goes h Z r q e (λ s y. ap (λ (j : ℕ). g j b s) (some_left more) ∙ f (left - 1) s y)
 
       pub left_step : (c : ℕ) → r ≡ true → ((j : ℕ) (seen s : List ℕ) → h seen ≡ some s → g (suc j) b seen ≡ g j c s) → Left A g W₀ k a Z c (left - 1)
       left_step c e f = record { goes = goes_yes A (g k a) (g left b) W₀ W l.goes h Z r q (g (left - 1) c) e (λ s y z. ap (λ (j : ℕ). g j b s) (some_left more) ∙ f (left - 1) s y z) }
 
       -- the chain ends with b
-      pub left-last : r ≡ true → ((j : ℕ) (seen s : List ℕ) → h seen ≡ some s → g (suc j) b seen ≡ some s) → MarksAnswer A (g k a) W₀ Z true
-      left-last e f =
+      pub left_last : r ≡ true → ((j : ℕ) (seen s : List ℕ) → h seen ≡ some s → g (suc j) b seen ≡ some s) → MarksAnswer A (g k a) W₀ Z true
+      left_last e f =
           goes_end A (g k a) some W₀ Z
           (goes_yes A (g k a) (g left b) W₀ W l.goes h Z r q some e (λ s y z. ap (λ (j : ℕ). g j b s) (some_left more) ∙ f (left - 1) s y z)) (λ s. refl)
 
@@ -121,17 +121,17 @@ module _ (A : Area) (I : List ℕ) where
   abbrev pub file_check : Along
   file_check k a seen = seen_of (cells_of A I k a seen)
 
-  pub file-done : (b : ℕ) → b ≡ 0 → (seen : List ℕ) → file_check 0 b seen ≡ some seen
-  file-done b e seen = seen_done A I b seen e
+  pub file_done : (b : ℕ) → b ≡ 0 → (seen : List ℕ) → file_check 0 b seen ≡ some seen
+  file_done b e seen = seen_done A I b seen e
 
-  pub file-over : (b : ℕ) → (b ≡ 0 → ⊥) → (seen : List ℕ) → file_check 0 b seen ≡ none
-  file-over b e seen = seen-over A I b seen e
+  pub file_over : (b : ℕ) → (b ≡ 0 → ⊥) → (seen : List ℕ) → file_check 0 b seen ≡ none
+  file_over b e seen = seen_over A I b seen e
 
   pub file_stop : (b j : ℕ) (seen : List ℕ) → claim A [] b seen ≡ none → file_check (suc j) b seen ≡ none
   file_stop b j seen e = seen_stop A I j b seen e
 
-  pub file-next : (b c : ℕ) → c ≡ next A.size I b → (j : ℕ) (seen s : List ℕ) → claim A [] b seen ≡ some s → file_check (suc j) b seen ≡ file_check j c s
-  file-next b c h j seen s e = seen_next A I j b seen s e ∙ ap (λ (x : ℕ). file_check j x s) (sym h)
+  pub file_next : (b c : ℕ) → c ≡ next A.size I b → (j : ℕ) (seen s : List ℕ) → claim A [] b seen ≡ some s → file_check (suc j) b seen ≡ file_check j c s
+  file_next b c h j seen s e = seen_next A I j b seen s e ∙ ap (λ (x : ℕ). file_check j x s) (sym h)
 
 -- ---- a device's chain
 
@@ -139,9 +139,9 @@ module _ (A : Area) (I : List ℕ) where
   abbrev pub device_check : Along
   device_check k a seen = seen_of (chain_of A I k a seen)
 
-  pub device-over : (b : ℕ) (seen : List ℕ) → device_check 0 b seen ≡ none
+  pub device_over : (b : ℕ) (seen : List ℕ) → device_check 0 b seen ≡ none
   unfolding chain_of
-  device-over b seen = seen_none (List Cell)
+  device_over b seen = seen_none (List Cell)
 
   pub device_stop : (b j : ℕ) (seen : List ℕ) → claim A [] b seen ≡ none → device_check (suc j) b seen ≡ none
   unfolding chain_of
@@ -149,21 +149,21 @@ module _ (A : Area) (I : List ℕ) where
       ap seen_of (then-none (λ s. with_found (λ cs. record { at = b; body = _ } ∷ cs) (pick (eqb (next A.size I b) 0) (some (record { found = []; seen = s })) (chain_of A I j (next A.size I b) s))) (claim-any A I b seen ∙ e))
       ∙ seen_none (List Cell)
 
-  device-claimed : (b j : ℕ) (seen s : List ℕ) → claim A [] b seen ≡ some s
+  device_claimed : (b j : ℕ) (seen s : List ℕ) → claim A [] b seen ≡ some s
       → device_check (suc j) b seen ≡ seen_of (pick (eqb (next A.size I b) 0) (some (record { found = []; seen = s })) (chain_of A I j (next A.size I b) s))
   unfolding chain_of
-  device-claimed b j seen s e =
+  device_claimed b j seen s e =
       ap seen_of (then_some (λ t. with_found (λ cs. record { at = b; body = _ } ∷ cs) (pick (eqb (next A.size I b) 0) (some (record { found = []; seen = t })) (chain_of A I j (next A.size I b) t))) (claim-any A I b seen ∙ e))
-      ∙ seen-with (λ cs. record { at = b; body = _ } ∷ cs) (pick (eqb (next A.size I b) 0) (some (record { found = []; seen = s })) (chain_of A I j (next A.size I b) s))
+      ∙ seen_with (λ cs. record { at = b; body = _ } ∷ cs) (pick (eqb (next A.size I b) 0) (some (record { found = []; seen = s })) (chain_of A I j (next A.size I b) s))
 
-  pub device-last : (b c : ℕ) → c ≡ next A.size I b → c ≡ 0 → (j : ℕ) (seen s : List ℕ) → claim A [] b seen ≡ some s → device_check (suc j) b seen ≡ some s
+  pub device_last : (b c : ℕ) → c ≡ next A.size I b → c ≡ 0 → (j : ℕ) (seen s : List ℕ) → claim A [] b seen ≡ some s → device_check (suc j) b seen ≡ some s
   unfolding seen_of then
-  device-last b c h z j seen s e =
-      device-claimed b j seen s e ∙ ap (λ (o : Option (Claimed (List Cell))). then o (λ x. some x.seen)) (pick_true _ _ (eq-eqb (next A.size I b) 0 (sym h ∙ z)))
+  device_last b c h z j seen s e =
+      device_claimed b j seen s e ∙ ap (λ (o : Option (Claimed (List Cell))). then o (λ x. some x.seen)) (pick_true _ _ (eq-eqb (next A.size I b) 0 (sym h ∙ z)))
 
-  pub device-next : (b c : ℕ) → c ≡ next A.size I b → (c ≡ 0 → ⊥) → (j : ℕ) (seen s : List ℕ) → claim A [] b seen ≡ some s → device_check (suc j) b seen ≡ device_check j c s
-  device-next b c h z j seen s e =
-      device-claimed b j seen s e ∙ ap seen_of (pick_false _ _ (ne_eqb (next A.size I b) 0 (λ w. z (h ∙ w)))) ∙ ap (λ (x : ℕ). device_check j x s) (sym h)
+  pub device_next : (b c : ℕ) → c ≡ next A.size I b → (c ≡ 0 → ⊥) → (j : ℕ) (seen s : List ℕ) → claim A [] b seen ≡ some s → device_check (suc j) b seen ≡ device_check j c s
+  device_next b c h z j seen s e =
+      device_claimed b j seen s e ∙ ap seen_of (pick_false _ _ (ne_eqb (next A.size I b) 0 (λ w. z (h ∙ w)))) ∙ ap (λ (x : ℕ). device_check j x s) (sym h)
 
 -- ---- the chain of a file of that size
 
@@ -174,7 +174,7 @@ module _ (A : Area) (I : List ℕ) (a size : ℕ) (W : List ℕ) where
   pub file_large : file_limit < size → MarksAnswer A file_of W W false
   file_large h = record { beyond = beyond_refl A W; answer = λ seen m. pick_false _ _ (lt-leb size file_limit h) }
 
-  pub file-cells : size ≤ file_limit → (k : ℕ) (Z : List ℕ) (r : Bool) → k ≡ blocks_for A.size size → MarksAnswer A (λ seen. seen_of (cells_of A I k a seen)) W Z r → MarksAnswer A file_of W Z r
-  file-cells h k Z r e q =
+  pub file_cells : size ≤ file_limit → (k : ℕ) (Z : List ℕ) (r : Bool) → k ≡ blocks_for A.size size → MarksAnswer A (λ seen. seen_of (cells_of A I k a seen)) W Z r → MarksAnswer A file_of W Z r
+  file_cells h k Z r e q =
       checks_as A (λ seen. seen_of (cells_of A I k a seen)) file_of W Z r
       (λ seen. pick_true _ _ (le-leb size file_limit h) ∙ ap (λ (j : ℕ). seen_of (cells_of A I j a seen)) (sym e)) q

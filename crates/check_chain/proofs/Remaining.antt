@@ -25,8 +25,8 @@ pub goes_refl : (A : Area) (f : Check) (W : List ℕ) → Goes A f f W W
 goes_refl A f W = record { beyond = beyond_refl A W; rest = λ seen m. (seen, m, refl) }
 
 -- the same check in other words
-goes-from : (A : Area) (e f g : Check) (W Z : List ℕ) → ((seen : List ℕ) → e seen ≡ f seen) → Goes A f g W Z → Goes A e g W Z
-goes-from A e f g W Z q l = record { beyond = l.beyond; rest = λ seen m. let s = l.rest seen m in (s.0, s.1, q seen ∙ s.2) }
+goes_from : (A : Area) (e f g : Check) (W Z : List ℕ) → ((seen : List ℕ) → e seen ≡ f seen) → Goes A f g W Z → Goes A e g W Z
+goes_from A e f g W Z q l = record { beyond = l.beyond; rest = λ seen m. let s = l.rest seen m in (s.0, s.1, q seen ∙ s.2) }
 
 module _ (A : Area) (f g : Check) (W Z : List ℕ) (l : Goes A f g W Z) where
   -- nothing is left, or nothing can come of it
@@ -38,8 +38,8 @@ module _ (A : Area) (f g : Check) (W Z : List ℕ) (l : Goes A f g W Z) where
 
   -- the next step, h, is answered
   module _ (h : Check) (Y : List ℕ) (r : Bool) (q : MarksAnswer A h Z Y r) where
-    pub goes-no : r ≡ false → ((seen : List ℕ) → h seen ≡ none → g seen ≡ none) → MarksAnswer A f W Y false
-    goes-no e c = record {
+    pub goes_no : r ≡ false → ((seen : List ℕ) → h seen ≡ none → g seen ≡ none) → MarksAnswer A f W Y false
+    goes_no e c = record {
       beyond = beyond_trans l.beyond q.beyond;
       answer = λ seen m.
           let s = l.rest seen m in
@@ -57,8 +57,8 @@ module _ (A : Area) (f g : Check) (W Z : List ℕ) (l : Goes A f g W Z) where
 
 -- A step and then the rest, where the whole check is their sequence.
 module _ (A : Area) (h : Check) (k : Check) (f : Check) (W Z : List ℕ) (r : Bool) (q : MarksAnswer A h W Z r) (is : (seen : List ℕ) → f seen ≡ then (h seen) k) where
-  pub step-no : r ≡ false → MarksAnswer A f W Z false
-  step-no e = goes-no A f f W W (goes_refl A f W) h Z r q e (λ seen z. is seen ∙ then-none k z)
+  pub step_no : r ≡ false → MarksAnswer A f W Z false
+  step_no e = goes_no A f f W W (goes_refl A f W) h Z r q e (λ seen z. is seen ∙ then-none k z)
 
   pub step_yes : r ≡ true → Goes A f k W Z
   step_yes e = goes_yes A f f W W (goes_refl A f W) h Z r q k e (λ seen s z. is seen ∙ then_some k z)
@@ -66,8 +66,8 @@ module _ (A : Area) (h : Check) (k : Check) (f : Check) (W Z : List ℕ) (r : Bo
 -- The last step answers for what is left.
 pub goes_last : (A : Area) (f g : Check) (W Z Y : List ℕ) (r : Bool) → Goes A f g W Z → MarksAnswer A g Z Y r → MarksAnswer A f W Y r
 goes_last A f g W Z Y true l q = goes_end A f some W Y (goes_yes A f g W Z l g Y true q some refl (λ seen s e. e)) (λ seen. refl)
-goes_last A f g W Z Y false l q = goes-no A f g W Z l g Y false q refl (λ seen e. e)
+goes_last A f g W Z Y false l q = goes_no A f g W Z l g Y false q refl (λ seen e. e)
 
 -- the same check in other words
 pub checks_as : (A : Area) (f g : Check) (W Z : List ℕ) (r : Bool) → ((seen : List ℕ) → g seen ≡ f seen) → MarksAnswer A f W Z r → MarksAnswer A g W Z r
-checks_as A f g W Z r e q = goes_last A g f W W Z r (goes-from A g f f W W e (goes_refl A f W)) q
+checks_as A f g W Z r e q = goes_last A g f W W Z r (goes_from A g f f W W e (goes_refl A f W)) q

@@ -24,7 +24,7 @@ use Rattle.check_dir.specs.declared.Held.TheVariants as held
 use Rattle.read_dir.specs.declared.Summed.{Summed}
 use Rattle.read_dir.specs.declared.Summed.TheVariants as summed
 use Rattle.thm_survey.specs.Steps.{is_total}
-use Rattle.thm_survey.proofs.RawSteps.{reads, stops, raws-step}
+use Rattle.thm_survey.proofs.RawSteps.{reads, stops, raws_step}
 
 -- ---- an entry passes
 
@@ -33,9 +33,9 @@ module _ (e : DirEntry) (x : List ℕ) where
   unfolding passes
   passes_zero a q z = sym (ap (λ (b : Bool). not b && is_name x) (eq-eqb e.addr.0 0 (sym q ∙ z)))
 
-  pub passes-name : (a : ℕ) (r : Bool) (y : List ℕ) → a ≡ e.addr.0 → (a ≡ 0 → ⊥) → y ≡ x → r ≡ is_name y → r ≡ passes e x
+  pub passes_name : (a : ℕ) (r : Bool) (y : List ℕ) → a ≡ e.addr.0 → (a ≡ 0 → ⊥) → y ≡ x → r ≡ is_name y → r ≡ passes e x
   unfolding passes
-  passes-name a r y q z h g = g ∙ ap is_name h ∙ sym (ap (λ (b : Bool). not b && is_name x) (ne_eqb e.addr.0 0 (λ w. z (q ∙ w))))
+  passes_name a r y q z h g = g ∙ ap is_name h ∙ sym (ap (λ (b : Bool). not b && is_name x) (ne_eqb e.addr.0 0 (λ w. z (q ∙ w))))
 
 -- ---- after the last entry
 
@@ -44,27 +44,27 @@ module _ (I : List ℕ) (k p q o : ℕ) (t : Bool) (h : t ≡ zero_from I p (k -
   unfolding rest_at
   rest_as b g = ap (λ (z : ℕ). pick (zero_from I z (k - o)) (pick (eqb o 0) held.Nothing held.Entries) held.Damaged) (sym e) ∙ ap (λ (z : Bool). pick z (pick (eqb o 0) held.Nothing held.Entries) held.Damaged) (sym h ∙ g)
 
-  pub rest-damaged : t ≡ false → held.Damaged ≡ rest_at I k q o
+  pub rest_damaged : t ≡ false → held.Damaged ≡ rest_at I k q o
   unfolding pick
-  rest-damaged g = sym (rest_as false g)
+  rest_damaged g = sym (rest_as false g)
 
   pub rest_nothing : t ≡ true → o ≡ 0 → held.Nothing ≡ rest_at I k q o
   unfolding pick
   rest_nothing g z = sym (rest_as true g ∙ pick_true _ _ (eq-eqb o 0 z))
 
-  pub rest-entries : t ≡ true → (o ≡ 0 → ⊥) → held.Entries ≡ rest_at I k q o
+  pub rest_entries : t ≡ true → (o ≡ 0 → ⊥) → held.Entries ≡ rest_at I k q o
   unfolding pick
-  rest-entries g z = sym (rest_as true g ∙ pick_false _ _ (ne_eqb o 0 z))
+  rest_entries g z = sym (rest_as true g ∙ pick_false _ _ (ne_eqb o 0 z))
 
 -- ---- the size of a directory
 
-pub total-is : (size t : ℕ) (s m : Summed) (r : Bool) → s ≡ m → s ≡ summed.Total t → r ≡ eqb size t → r ≡ is_total size m
+pub total_is : (size t : ℕ) (s m : Summed) (r : Bool) → s ≡ m → s ≡ summed.Total t → r ≡ eqb size t → r ≡ is_total size m
 unfolding is_total
-total-is size t s m r e g h = h ∙ ap (is_total size) (sym g ∙ e)
+total_is size t s m r e g h = h ∙ ap (is_total size) (sym g ∙ e)
 
-pub total-none : (size : ℕ) (s m : Summed) → s ≡ m → s ≡ summed.Damaged → false ≡ is_total size m
+pub total_none : (size : ℕ) (s m : Summed) → s ≡ m → s ≡ summed.Damaged → false ≡ is_total size m
 unfolding is_total
-total-none size s m e g = ap (is_total size) (sym g ∙ e)
+total_none size s m e g = ap (is_total size) (sym g ∙ e)
 
 -- ---- the loop
 
@@ -72,10 +72,10 @@ total-none size s m e g = ap (is_total size) (sym g ∙ e)
 abbrev pub Looks : ℕ → List ℕ → ℕ → ℕ → Type 0
 Looks B I a o = held_at 0 (raws_from B I B a 0) ≡ held_at o (raws_from B I B a o)
 
-more-held : (o p : ℕ) (r : Raw) (x : Option (List Raw)) → 1 ≤ p → held_at o (then x (λ rs. some (r ∷ rs))) ≡ held_at p x
+more_held : (o p : ℕ) (r : Raw) (x : Option (List Raw)) → 1 ≤ p → held_at o (then x (λ rs. some (r ∷ rs))) ≡ held_at p x
 unfolding held_at then has_some
-more-held o p r none h = refl
-more-held o p r (some rs) h =
+more_held o p r none h = refl
+more_held o p r (some rs) h =
     pick_false _ _ (nothing_some o r rs) ∙ sym (pick_false _ _ (ap (λ (b : Bool). b && not (has_some rs)) (ne_eqb p 0 (λ z. omega arith))))
   where
     both : (b : Bool) → (b && false) ≡ false
@@ -92,7 +92,7 @@ module _ (B : ℕ) (I : List ℕ) (a b o z : ℕ) (known : BlockSize B) (v : Loo
 
   stepped : raws_from B I B a o ≡ on_slot s (reads B I a B o) (stops B I a o)
   stepped =
-      raws-step B I a o l (omega (arith, known.least))
+      raws_step B I a o l (omega (arith, known.least))
       ∙ ap (λ (z : Slot). on_slot z (reads B I a B o) (stops B I a o)) (sym d)
 
   -- the entries stop here
@@ -111,11 +111,11 @@ module _ (B : ℕ) (I : List ℕ) (a b o z : ℕ) (known : BlockSize B) (v : Loo
 
   module _ (e : DirEntry) (g : s ≡ slot.Entry e) where
     -- an entry here ends in the block
-    pub entry-fits : o + 18 + e.len ≤ B - 5
-    entry-fits = (slot_stands B I a o e (sym d ∙ g)).ends
+    pub entry_fits : o + 18 + e.len ≤ B - 5
+    entry_fits = (slot_stands B I a o e (sym d ∙ g)).ends
 
-    pub less-left : (p : ℕ) → p ≡ o + 18 + e.len → B - p < B - o
-    less-left p h = omega (arith, entry-fits, known.least)
+    pub less_left : (p : ℕ) → p ≡ o + 18 + e.len → B - p < B - o
+    less_left p h = omega (arith, entry_fits, known.least)
 
     entry_read : raws_from B I B a o ≡ reads B I a B o e
     unfolding on_slot
@@ -127,4 +127,4 @@ module _ (B : ℕ) (I : List ℕ) (a b o z : ℕ) (known : BlockSize B) (v : Loo
       looks_bad f = sym (v ∙ ap (held_at o) (entry_read ∙ pick_false _ _ (sym h ∙ f)))
 
       pub looks_more : t ≡ true → Looks B I a (o + 18 + e.len)
-      looks_more f = v ∙ ap (held_at o) (entry_read ∙ pick_true _ _ (sym h ∙ f)) ∙ more-held o (o + 18 + e.len) _ (raws_from B I B a (o + 18 + e.len)) (omega arith)
+      looks_more f = v ∙ ap (held_at o) (entry_read ∙ pick_true _ _ (sym h ∙ f)) ∙ more_held o (o + 18 + e.len) _ (raws_from B I B a (o + 18 + e.len)) (omega arith)

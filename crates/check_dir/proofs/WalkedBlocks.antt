@@ -11,56 +11,56 @@ use Rattle.block.specs.Block.{Area, next}
 use Rattle.model.specs.Tree.{then}
 use Rattle.thm_survey.specs.Survey.{Raw, RawBlock, has_some, Claimed, claim, raws_from, later_of, blocks_of, seen_of}
 use Rattle.check_dir.specs.Blocks.{held_at, may_stand, block_check}
-use Rattle.thm_survey.proofs.Seen.{then-then, then_same, seen-then, seen_test, seen-with}
+use Rattle.thm_survey.proofs.Seen.{then-then, then_same, seen_then, seen_test, seen_with}
 
 -- a first block may stand there unless it is damaged; a later one must have an entry too
-first-stands : {Y : Type 0} (o : Option (List Raw)) (s : List ℕ) (f : List ℕ → Option Y)
+first_stands : {Y : Type 0} (o : Option (List Raw)) (s : List ℕ) (f : List ℕ → Option Y)
     → then (pick (may_stand false (held_at 0 o)) (some s) none) f ≡ then o (λ rs. f s)
 unfolding then pick held_at has_some
-first-stands none s f = refl
-first-stands (some []) s f = refl
-first-stands (some (r ∷ rs)) s f = refl
+first_stands none s f = refl
+first_stands (some []) s f = refl
+first_stands (some (r ∷ rs)) s f = refl
 
-later-stands : {Y : Type 0} (o : Option (List Raw)) (s : List ℕ) (f : List ℕ → Option Y)
+later_stands : {Y : Type 0} (o : Option (List Raw)) (s : List ℕ) (f : List ℕ → Option Y)
     → then (pick (may_stand true (held_at 0 o)) (some s) none) f ≡ then o (λ rs. pick (has_some rs) (f s) none)
 unfolding then pick held_at has_some
-later-stands none s f = refl
-later-stands (some []) s f = refl
-later-stands (some (r ∷ rs)) s f = refl
+later_stands none s f = refl
+later_stands (some []) s f = refl
+later_stands (some (r ∷ rs)) s f = refl
 
 module _ (A : Area) (I : List ℕ) where
   -- the first block, then the later ones
-  pub block-steps : (a : ℕ) (seen : List ℕ)
+  pub block_steps : (a : ℕ) (seen : List ℕ)
       → seen_of (blocks_of A I a seen) ≡ then (block_check A I false a seen) (λ s. seen_of (later_of A I (A.end - A.first - 1) (next A.size I a) s))
   unfolding blocks_of block_check
-  block-steps a seen =
-      seen-then (claim A I a seen) _
+  block_steps a seen =
+      seen_then (claim A I a seen) _
       ∙ then_same (claim A I a seen) _ _ (λ s _.
-      seen-then (raws_from A.size I A.size a 0) _
-      ∙ then_same (raws_from A.size I A.size a 0) _ _ (λ rs _. seen-with (λ bs. record { at = a; raws = rs } ∷ bs) (later_of A I (A.end - A.first - 1) (next A.size I a) s))
-      ∙ sym (first-stands (raws_from A.size I A.size a 0) s (λ s. seen_of (later_of A I (A.end - A.first - 1) (next A.size I a) s))))
+      seen_then (raws_from A.size I A.size a 0) _
+      ∙ then_same (raws_from A.size I A.size a 0) _ _ (λ rs _. seen_with (λ bs. record { at = a; raws = rs } ∷ bs) (later_of A I (A.end - A.first - 1) (next A.size I a) s))
+      ∙ sym (first_stands (raws_from A.size I A.size a 0) s (λ s. seen_of (later_of A I (A.end - A.first - 1) (next A.size I a) s))))
       ∙ sym (then-then (claim A I a seen) _ _)
 
   -- a later block, then those after it; the end; more blocks than may be
-  pub later-steps : (k a : ℕ) (seen : List ℕ) → (a ≡ 0 → ⊥)
+  pub later_steps : (k a : ℕ) (seen : List ℕ) → (a ≡ 0 → ⊥)
       → seen_of (later_of A I (suc k) a seen) ≡ then (block_check A I true a seen) (λ s. seen_of (later_of A I k (next A.size I a) s))
   unfolding later_of block_check
-  later-steps k a seen z =
+  later_steps k a seen z =
       ap seen_of (pick_false _ _ (ne_eqb a 0 z))
-      ∙ seen-then (claim A I a seen) _
+      ∙ seen_then (claim A I a seen) _
       ∙ then_same (claim A I a seen) _ _ (λ s _.
-      seen-then (raws_from A.size I A.size a 0) _
+      seen_then (raws_from A.size I A.size a 0) _
       ∙ then_same (raws_from A.size I A.size a 0) _ _ (λ rs _.
       seen_test (has_some rs) _
-      ∙ ap (λ (o : Option (List ℕ)). pick (has_some rs) o none) (seen-with (λ bs. record { at = a; raws = rs } ∷ bs) (later_of A I k (next A.size I a) s)))
-      ∙ sym (later-stands (raws_from A.size I A.size a 0) s (λ s. seen_of (later_of A I k (next A.size I a) s))))
+      ∙ ap (λ (o : Option (List ℕ)). pick (has_some rs) o none) (seen_with (λ bs. record { at = a; raws = rs } ∷ bs) (later_of A I k (next A.size I a) s)))
+      ∙ sym (later_stands (raws_from A.size I A.size a 0) s (λ s. seen_of (later_of A I k (next A.size I a) s))))
       ∙ sym (then-then (claim A I a seen) _ _)
 
-  pub later-end : (k a : ℕ) (seen : List ℕ) → a ≡ 0 → seen_of (later_of A I k a seen) ≡ some seen
+  pub later_end : (k a : ℕ) (seen : List ℕ) → a ≡ 0 → seen_of (later_of A I k a seen) ≡ some seen
   unfolding later_of seen_of then
-  later-end zero a seen z = ap (λ (o : Option (Claimed (List RawBlock))). then o (λ c. some c.seen)) (pick_true _ _ (eq-eqb a 0 z))
-  later-end (suc k) a seen z = ap (λ (o : Option (Claimed (List RawBlock))). then o (λ c. some c.seen)) (pick_true _ _ (eq-eqb a 0 z))
+  later_end zero a seen z = ap (λ (o : Option (Claimed (List RawBlock))). then o (λ c. some c.seen)) (pick_true _ _ (eq-eqb a 0 z))
+  later_end (suc k) a seen z = ap (λ (o : Option (Claimed (List RawBlock))). then o (λ c. some c.seen)) (pick_true _ _ (eq-eqb a 0 z))
 
-  pub later-over : (a : ℕ) (seen : List ℕ) → (a ≡ 0 → ⊥) → seen_of (later_of A I 0 a seen) ≡ none
+  pub later_over : (a : ℕ) (seen : List ℕ) → (a ≡ 0 → ⊥) → seen_of (later_of A I 0 a seen) ≡ none
   unfolding later_of seen_of then
-  later-over a seen z = ap (λ (o : Option (Claimed (List RawBlock))). then o (λ c. some c.seen)) (pick_false _ _ (ne_eqb a 0 z))
+  later_over a seen z = ap (λ (o : Option (Claimed (List RawBlock))). then o (λ c. some c.seen)) (pick_false _ _ (ne_eqb a 0 z))

@@ -22,14 +22,14 @@ use Rattle.read_dir.specs.declared.ReadDir.{ReadDir}
 use Rattle.read_dir.specs.declared.Place.{Place}
 use Rattle.read_dir.specs.declared.Step.{Step}
 use Rattle.read_dir.specs.declared.Step.TheVariants as step
-use Rattle.read_dir.proofs.Along.{start-walk, count-again}
+use Rattle.read_dir.proofs.Along.{start-walk, count_again}
 use Rattle.read_dir.proofs.Sizes.{count_fits}
 use Rattle.check_names.specs.Names.{one_of, names_in, ends}
 use Rattle.name_filter.specs.Bits.{hash_of, wiped}
 use Rattle.check_names.specs.Filter.{met_in, distinct_in, clear, noted_in, CoversPart, Only}
 use Rattle.check_names.proofs.Among.{search_hit, search_miss, search_end, search_none, and_false}
-use Rattle.check_names.proofs.Parts.{part-hit, part-more}
-use Rattle.check_names.proofs.Marks.{clear-covers, clear_within, covers_more, within_more, within_all, within-wiped, within_none}
+use Rattle.check_names.proofs.Parts.{part_hit, part_more}
+use Rattle.check_names.proofs.Marks.{clear_covers, clear_within, covers_more, within_more, within_all, within_wiped, within_none}
 
 -- ---- what the test has met: the first i names of the walk w, of which v is left
 
@@ -53,7 +53,7 @@ met_start s I F m k c dir f e b =
       left = ap names_in q;
       ending = ap ends q;
       apart = refl;
-      covers = clear-covers F m k;
+      covers = clear_covers F m k;
       within = clear_within F [] e;
       few = omega (arith, ap items q, count_fits (area_in s) I dir.0 (placed f).bytes);
     }
@@ -64,22 +64,22 @@ module _ (A : Area) (I : List ℕ) (c : ReadDir) (m : Step) (g : Stepped A I c m
   gave : (x : Step) → m ≡ x → cursor_walk A I c ≡ on_step A I x
   gave x e = g.walked ∙ ap (on_step A I) e
 
-  names-end : m ≡ step.End → names_in (cursor_walk A I c) ≡ []
+  names_end : m ≡ step.End → names_in (cursor_walk A I c) ≡ []
   unfolding names_in
-  names-end e = ap names_in (gave step.End e)
+  names_end e = ap names_in (gave step.End e)
 
-  names-bad : m ≡ step.Damaged → names_in (cursor_walk A I c) ≡ []
+  names_bad : m ≡ step.Damaged → names_in (cursor_walk A I c) ≡ []
   unfolding names_in
-  names-bad e = ap names_in (gave step.Damaged e)
+  names_bad e = ap names_in (gave step.Damaged e)
 
-  names-item : (e : DirEntry) (p : Place) (d : ReadDir) → m ≡ step.Entry e p d
+  names_item : (e : DirEntry) (p : Place) (d : ReadDir) → m ≡ step.Entry e p d
       → names_in (cursor_walk A I c) ≡ name_at I (place_at A.size p.block.0 p.offset) e.len ∷ names_in (cursor_walk A I d)
   unfolding names_in
-  names-item e p d q = ap names_in (gave (step.Entry e p d) q)
+  names_item e p d q = ap names_in (gave (step.Entry e p d) q)
 
-  ends-item : (e : DirEntry) (p : Place) (d : ReadDir) → m ≡ step.Entry e p d → ends (cursor_walk A I c) ≡ ends (cursor_walk A I d)
+  ends_item : (e : DirEntry) (p : Place) (d : ReadDir) → m ≡ step.Entry e p d → ends (cursor_walk A I c) ≡ ends (cursor_walk A I d)
   unfolding ends
-  ends-item e p d q = ap ends (gave (step.Entry e p d) q)
+  ends_item e p d q = ap ends (gave (step.Entry e p d) q)
 
   -- ---- earlier: what is left to search is what was to be searched
 
@@ -87,48 +87,48 @@ module _ (A : Area) (I : List ℕ) (c : ReadDir) (m : Step) (g : Stepped A I c m
     looked : (ys : List Name) → names_in (cursor_walk A I c) ≡ ys → one_of x (take k ys) ≡ one_of x (take i (names_in (cursor_walk A I c₀)))
     looked ys q = sym (ap (λ (zs : List Name). one_of x (take k zs)) q) ∙ inv
 
-    pub earlier-again : (e : DirEntry) (p : Place) (d : ReadDir) (t : Bool) → m ≡ step.Entry e p d → 0 < k
+    pub earlier_again : (e : DirEntry) (p : Place) (d : ReadDir) (t : Bool) → m ≡ step.Entry e p d → 0 < k
         → t ≡ same (name_at I (place_at A.size p.block.0 p.offset) e.len) x → t ≡ false
         → one_of x (take (k - 1) (names_in (cursor_walk A I d))) ≡ one_of x (take i (names_in (cursor_walk A I c₀)))
-    earlier-again e p d t q h a f =
+    earlier_again e p d t q h a f =
         let y : Name = name_at I (place_at A.size p.block.0 p.offset) e.len in
-        sym (search_miss x k y (names_in (cursor_walk A I d)) h (sym a ∙ f)) ∙ looked (y ∷ names_in (cursor_walk A I d)) (names-item e p d q)
+        sym (search_miss x k y (names_in (cursor_walk A I d)) h (sym a ∙ f)) ∙ looked (y ∷ names_in (cursor_walk A I d)) (names_item e p d q)
 
     module _ (dir : Addr) (b : c₀ ≡ start A dir) where
       whole : one_of x (take i (names_in (cursor_walk A I c₀))) ≡ one_of x (take i (names_in (walk A I dir.0)))
       whole = ap (λ (v : Walk). one_of x (take i (names_in v))) (start-walk A I c₀ dir b)
 
-      pub earlier-hit : (e : DirEntry) (p : Place) (d : ReadDir) (t : Bool) → m ≡ step.Entry e p d → 0 < k
+      pub earlier_hit : (e : DirEntry) (p : Place) (d : ReadDir) (t : Bool) → m ≡ step.Entry e p d → 0 < k
           → t ≡ same (name_at I (place_at A.size p.block.0 p.offset) e.len) x → t ≡ true → true ≡ one_of x (take i (names_in (walk A I dir.0)))
-      earlier-hit e p d t q h a f =
+      earlier_hit e p d t q h a f =
           let y : Name = name_at I (place_at A.size p.block.0 p.offset) e.len in
-          sym (search_hit x k y (names_in (cursor_walk A I d)) h (sym a ∙ f)) ∙ looked (y ∷ names_in (cursor_walk A I d)) (names-item e p d q) ∙ whole
+          sym (search_hit x k y (names_in (cursor_walk A I d)) h (sym a ∙ f)) ∙ looked (y ∷ names_in (cursor_walk A I d)) (names_item e p d q) ∙ whole
 
-      pub earlier-end : m ≡ step.End → false ≡ one_of x (take i (names_in (walk A I dir.0)))
-      earlier-end q = sym (search_end x k) ∙ looked [] (names-end q) ∙ whole
+      pub earlier_end : m ≡ step.End → false ≡ one_of x (take i (names_in (walk A I dir.0)))
+      earlier_end q = sym (search_end x k) ∙ looked [] (names_end q) ∙ whole
 
-      pub earlier-bad : m ≡ step.Damaged → false ≡ one_of x (take i (names_in (walk A I dir.0)))
-      earlier-bad q = sym (search_end x k) ∙ looked [] (names-bad q) ∙ whole
+      pub earlier_bad : m ≡ step.Damaged → false ≡ one_of x (take i (names_in (walk A I dir.0)))
+      earlier_bad q = sym (search_end x k) ∙ looked [] (names_bad q) ∙ whole
 
   -- ---- tested
 
   module _ (F : List ℕ) (n k i : ℕ) (w : Walk) (v : Met F n k i w (cursor_walk A I c)) where
     -- all names are met
-    at-end : names_in (cursor_walk A I c) ≡ [] → distinct_in n k (names_in w) ≡ true
-    at-end z =
+    at_end_lem : names_in (cursor_walk A I c) ≡ [] → distinct_in n k (names_in w) ≡ true
+    at_end_lem z =
         let t : take i (names_in w) ≡ names_in w
         = sym (append-nil (take i (names_in w))) ∙ ap (λ (ys : List Name). take i (names_in w) ++ ys) (sym z ∙ v.left) ∙ take-append-drop i (names_in w) in
         ap (distinct_in n k) (sym t) ∙ v.apart
 
-    pub tested-end : m ≡ step.End → true ≡ (ends w && distinct_in n k (names_in w))
+    pub tested_end : m ≡ step.End → true ≡ (ends w && distinct_in n k (names_in w))
     unfolding ends
-    tested-end q =
+    tested_end q =
         let t : ends w ≡ true = sym v.ending ∙ ap ends (gave step.End q) in
-        sym (ap (λ (b : Bool). b && distinct_in n k (names_in w)) t ∙ at-end (names-end q))
+        sym (ap (λ (b : Bool). b && distinct_in n k (names_in w)) t ∙ at_end_lem (names_end q))
 
-    pub tested-bad : m ≡ step.Damaged → false ≡ (ends w && distinct_in n k (names_in w))
+    pub tested_bad : m ≡ step.Damaged → false ≡ (ends w && distinct_in n k (names_in w))
     unfolding ends
-    tested-bad q =
+    tested_bad q =
         let t : ends w ≡ false = sym v.ending ∙ ap ends (gave step.Damaged q) in
         sym (ap (λ (b : Bool). b && distinct_in n k (names_in w)) t)
 
@@ -136,7 +136,7 @@ module _ (A : Area) (I : List ℕ) (c : ReadDir) (m : Step) (g : Stepped A I c m
     module _ (e : DirEntry) (p : Place) (d : ReadDir) (x : Name) (G : List ℕ) (q : m ≡ step.Entry e p d)
         (a : x ≡ name_at I (place_at A.size p.block.0 p.offset) e.len) (f : G ≡ noted_in F x n k) where
       rest : drop i (names_in w) ≡ x ∷ names_in (cursor_walk A I d)
-      rest = sym v.left ∙ names-item e p d q ∙ ap (λ (y : Name). y ∷ names_in (cursor_walk A I d)) (sym a)
+      rest = sym v.left ∙ names_item e p d q ∙ ap (λ (y : Name). y ∷ names_in (cursor_walk A I d)) (sym a)
 
       parts : take i (names_in w) ++ (x ∷ names_in (cursor_walk A I d)) ≡ names_in w
       parts = ap (λ (ys : List Name). take i (names_in w) ++ ys) (sym rest) ∙ take-append-drop i (names_in w)
@@ -144,38 +144,38 @@ module _ (A : Area) (I : List ℕ) (c : ReadDir) (m : Step) (g : Stepped A I c m
       one_more : take (i + 1) (names_in w) ≡ take i (names_in w) ++ (x ∷ [])
       one_more = take-add i 1 (names_in w) ∙ ap (λ (ys : List Name). take i (names_in w) ++ take 1 ys) rest
 
-      next-covers : CoversPart G (take (i + 1) (names_in w)) n k
-      next-covers =
+      next_covers : CoversPart G (take (i + 1) (names_in w)) n k
+      next_covers =
           subst (λ (ys : List Name). CoversPart G ys n k) (sym one_more)
           (subst (λ (H : List ℕ). CoversPart H (take i (names_in w) ++ (x ∷ [])) n k) (sym f)
           (covers_more F (take i (names_in w)) x n k v.within.long v.covers))
 
-      next-within : Only G (take (i + 1) (names_in w))
-      next-within =
+      next_within : Only G (take (i + 1) (names_in w))
+      next_within =
           subst (Only G) (sym one_more)
           (subst (λ (H : List ℕ). Only H (take i (names_in w) ++ (x ∷ []))) (sym f)
           (within_more F (take i (names_in w)) x n k v.within))
 
-      pub tested-within : Only G (names_in w)
-      tested-within = within_all G (i + 1) (names_in w) next-within
+      pub tested_within : Only G (names_in w)
+      tested_within = within_all G (i + 1) (names_in w) next_within
 
       module _ (t : Bool) (o : t ≡ not (met_in n k x (take i (names_in w)))) where
-        pub tested-hit : t ≡ false → false ≡ (ends w && distinct_in n k (names_in w))
-        tested-hit z =
+        pub tested_hit : t ≡ false → false ≡ (ends w && distinct_in n k (names_in w))
+        tested_hit z =
             let u : met_in n k x (take i (names_in w)) ≡ true = not-false (met_in n k x (take i (names_in w))) (sym o ∙ z) in
             sym (and_false (ends w) (distinct_in n k (names_in w))
-            (ap (distinct_in n k) (sym parts) ∙ part-hit n k (take i (names_in w)) x (names_in (cursor_walk A I d)) u))
+            (ap (distinct_in n k) (sym parts) ∙ part_hit n k (take i (names_in w)) x (names_in (cursor_walk A I d)) u))
 
-        pub tested-again : t ≡ true → Met G n k (i + 1) w (cursor_walk A I d)
-        tested-again z =
+        pub tested_again : t ≡ true → Met G n k (i + 1) w (cursor_walk A I d)
+        tested_again z =
             let u : met_in n k x (take i (names_in w)) ≡ false = not-true (met_in n k x (take i (names_in w))) (sym o ∙ z) in
             record {
               left = sym (ap (drop 1) rest) ∙ drop-drop 1 i (names_in w);
-              ending = sym (ends-item e p d q) ∙ v.ending;
-              apart = ap (distinct_in n k) one_more ∙ part-more n k (take i (names_in w)) x v.apart u;
-              covers = next-covers;
-              within = next-within;
-              few = count-again A I c m g i e p d v.few q;
+              ending = sym (ends_item e p d q) ∙ v.ending;
+              apart = ap (distinct_in n k) one_more ∙ part_more n k (take i (names_in w)) x v.apart u;
+              covers = next_covers;
+              within = next_within;
+              few = count_again A I c m g i e p d v.few q;
             }
 
   -- ---- forget
@@ -184,23 +184,23 @@ module _ (A : Area) (I : List ℕ) (c : ReadDir) (m : Step) (g : Stepped A I c m
     pub forget_again : (e : DirEntry) (p : Place) (d : ReadDir) (x : Name) (h : ℕ) (G : List ℕ) → m ≡ step.Entry e p d → x ≡ name_at I (place_at A.size p.block.0 p.offset) e.len
         → h ≡ hash_of x → G ≡ wiped F h → Only G (names_in (cursor_walk A I d))
     forget_again e p d x h G q a u f =
-        let t : names_in (cursor_walk A I c) ≡ x ∷ names_in (cursor_walk A I d) = names-item e p d q ∙ ap (λ (y : Name). y ∷ names_in (cursor_walk A I d)) (sym a) in
+        let t : names_in (cursor_walk A I c) ≡ x ∷ names_in (cursor_walk A I d) = names_item e p d q ∙ ap (λ (y : Name). y ∷ names_in (cursor_walk A I d)) (sym a) in
         let z : G ≡ wiped F (hash_of x) = f ∙ ap (wiped F) u in
-        subst (λ (y : List ℕ). Only y (names_in (cursor_walk A I d))) (sym z) (within-wiped F x (names_in (cursor_walk A I d)) (subst (Only F) t v))
+        subst (λ (y : List ℕ). Only y (names_in (cursor_walk A I d))) (sym z) (within_wiped F x (names_in (cursor_walk A I d)) (subst (Only F) t v))
 
     pub forget_end : m ≡ step.End → F ≡ clear
-    forget_end q = within_none F (subst (Only F) (names-end q) v)
+    forget_end q = within_none F (subst (Only F) (names_end q) v)
 
     pub forget_bad : m ≡ step.Damaged → F ≡ clear
-    forget_bad q = within_none F (subst (Only F) (names-bad q) v)
+    forget_bad q = within_none F (subst (Only F) (names_bad q) v)
 
 -- ---- the ends that no step makes
 
 -- no name is left to search
-pub earlier-none : (A : Area) (I : List ℕ) (x : Name) (c c₀ : ReadDir) (i k : ℕ) (dir : Addr)
+pub earlier_none : (A : Area) (I : List ℕ) (x : Name) (c c₀ : ReadDir) (i k : ℕ) (dir : Addr)
     → one_of x (take k (names_in (cursor_walk A I c))) ≡ one_of x (take i (names_in (cursor_walk A I c₀))) → k ≤ 0 → c₀ ≡ start A dir
     → false ≡ one_of x (take i (names_in (walk A I dir.0)))
-earlier-none A I x c c₀ i k dir inv h b =
+earlier_none A I x c c₀ i k dir inv h b =
     sym (search_none x k (names_in (cursor_walk A I c)) (omega arith)) ∙ inv ∙ ap (λ (v : Walk). one_of x (take i (names_in v))) (start-walk A I c₀ dir b)
 
 -- every name is still to be forgotten

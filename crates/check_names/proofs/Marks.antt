@@ -14,21 +14,21 @@ use Rattle.wire.specs.Be.{zeros, splice}
 use Rattle.wire.proofs.Picks.{not_both, pick_true, pick_false, pick_case}
 use Rattle.name_filter.specs.Bits.{hash_of, filter_bytes, turned, filtered, noted, wiped, OffPair}
 use Rattle.name_filter.proofs.Bytes.{hash_fits}
-use Rattle.name_filter.proofs.Marks.{length-noted, noted_other, length-wiped, noted-marked, noted_keeps, wiped-off}
+use Rattle.name_filter.proofs.Marks.{length-noted, noted_other, length_wiped, noted-marked, noted_keeps, wiped_off}
 use Rattle.model.specs.Tree.{Name}
 use Rattle.check_names.specs.Names.{one_of}
 use Rattle.check_names.specs.Filter.{clear, part_of, met_in, noted_in, Covers, CoversPart, OffFilter, Only}
-use Rattle.check_names.proofs.Among.{not_so, none_of_none, one_self, one_cases, one-first, one-second, one_last, one-taken}
+use Rattle.check_names.proofs.Among.{not_so, none_of_none, one_self, one_cases, one_first, one_second, one_last, one-taken}
 
 -- ---- the clear filter
 
-pub clear-zeros : zeros 16384 ≡ clear
+pub clear_zeros : zeros 16384 ≡ clear
 unfolding clear
-clear-zeros = refl
+clear_zeros = refl
 
-clear-long : length clear ≡ filter_bytes
+clear_long : length clear ≡ filter_bytes
 unfolding clear
-clear-long = length-replicate {A = ℕ} filter_bytes 0
+clear_long = length-replicate {A = ℕ} filter_bytes 0
 
 clear_in_lem : (j : ℕ) → j < filter_bytes → get_or clear j 0 ≡ 0
 unfolding clear
@@ -39,7 +39,7 @@ clear_zero j = go (dec_lt j filter_bytes)
   where
     go : Dec (j < filter_bytes) → get_or clear j 0 ≡ 0
     go (yes h) = clear_in_lem j h
-    go (no h) = get_or-eq_default clear 0 (omega (arith, clear-long))
+    go (no h) = get_or-eq_default clear 0 (omega (arith, clear_long))
 
 -- as code makes it
 pub clear_filled : (F G : List ℕ) → length F ≡ filter_bytes → G ≡ splice F 0 (zeros 16384) → G ≡ clear
@@ -51,11 +51,11 @@ clear_filled F G l e =
 -- ---- what it knows of names
 
 -- of none, where it is lent
-pub clear-covers : (F : List ℕ) (m k : ℕ) → CoversPart F [] m k
-clear-covers F m k x p t = absurd (not_both t (none_of_none x))
+pub clear_covers : (F : List ℕ) (m k : ℕ) → CoversPart F [] m k
+clear_covers F m k x p t = absurd (not_both t (none_of_none x))
 
 pub clear_within : (F : List ℕ) (xs : List Name) → F ≡ clear → Only F xs
-clear_within F xs e = subst (λ (y : List ℕ). Only y xs) (sym e) (record { long = clear-long; rest = λ j u. clear_zero j })
+clear_within F xs e = subst (λ (y : List ℕ). Only y xs) (sym e) (record { long = clear_long; rest = λ j u. clear_zero j })
 
 -- of one name more
 module _ (F : List ℕ) (xs : List Name) (y : Name) (m k : ℕ) where
@@ -82,38 +82,38 @@ module _ (F : List ℕ) (xs : List Name) (y : Name) (m k : ℕ) where
       own = record {
         long = length-noted F (hash_of y) ∙ w.long;
         rest = λ j u.
-            noted_other F (hash_of y) j (u y (one-second y xs (y ∷ []) (one_self y [])))
-            ∙ w.rest j (λ x t. u x (one-first x xs (y ∷ []) t));
+            noted_other F (hash_of y) j (u y (one_second y xs (y ∷ []) (one_self y [])))
+            ∙ w.rest j (λ x t. u x (one_first x xs (y ∷ []) t));
       }
 
       other : Only F (xs ++ (y ∷ []))
-      other = record { long = w.long; rest = λ j u. w.rest j (λ x t. u x (one-first x xs (y ∷ []) t)) }
+      other = record { long = w.long; rest = λ j u. w.rest j (λ x t. u x (one_first x xs (y ∷ []) t)) }
 
 -- what `fresh` says and stores, of a name of the part and of another
 module _ (y : Name) (m k h : ℕ) (e : h ≡ hash_of y) where
-  own-part : h % 65521 % m ≡ k → part_of m y ≡ k
-  own-part q = ap (λ (z : ℕ). z % 65521 % m) (sym e) ∙ q
+  own_part : h % 65521 % m ≡ k → part_of m y ≡ k
+  own_part q = ap (λ (z : ℕ). z % 65521 % m) (sym e) ∙ q
 
-  other-part : (h % 65521 % m ≡ k → ⊥) → eqb (part_of m y) k ≡ false
-  other-part n = ne_eqb (part_of m y) k (λ q. n (ap (λ (z : ℕ). z % 65521 % m) e ∙ q))
+  other_part : (h % 65521 % m ≡ k → ⊥) → eqb (part_of m y) k ≡ false
+  other_part n = ne_eqb (part_of m y) k (λ q. n (ap (λ (z : ℕ). z % 65521 % m) e ∙ q))
 
-  pub fresh-own : (xs : List Name) (t : Bool) → h % 65521 % m ≡ k → t ≡ one_of y xs → not t ≡ not (met_in m k y xs)
-  fresh-own xs t q o = ap not (o ∙ sym (ap (λ (b : Bool). b && one_of y xs) (eq-eqb (part_of m y) k (own-part q))))
+  pub fresh_own : (xs : List Name) (t : Bool) → h % 65521 % m ≡ k → t ≡ one_of y xs → not t ≡ not (met_in m k y xs)
+  fresh_own xs t q o = ap not (o ∙ sym (ap (λ (b : Bool). b && one_of y xs) (eq-eqb (part_of m y) k (own_part q))))
 
-  pub fresh-other : (xs : List Name) → (h % 65521 % m ≡ k → ⊥) → true ≡ not (met_in m k y xs)
-  fresh-other xs n = sym (ap (λ (b : Bool). not (b && one_of y xs)) (other-part n))
+  pub fresh_other : (xs : List Name) → (h % 65521 % m ≡ k → ⊥) → true ≡ not (met_in m k y xs)
+  fresh_other xs n = sym (ap (λ (b : Bool). not (b && one_of y xs)) (other_part n))
 
   pub fresh-noted : (F G : List ℕ) → h % 65521 % m ≡ k → G ≡ noted F h → G ≡ noted_in F y m k
   unfolding noted_in
-  fresh-noted F G q g = g ∙ ap (noted F) e ∙ sym (pick_true (noted F (hash_of y)) F (eq-eqb (part_of m y) k (own-part q)))
+  fresh-noted F G q g = g ∙ ap (noted F) e ∙ sym (pick_true (noted F (hash_of y)) F (eq-eqb (part_of m y) k (own_part q)))
 
   pub fresh_kept : (F : List ℕ) → (h % 65521 % m ≡ k → ⊥) → F ≡ noted_in F y m k
   unfolding noted_in
-  fresh_kept F n = sym (pick_false (noted F (hash_of y)) F (other-part n))
+  fresh_kept F n = sym (pick_false (noted F (hash_of y)) F (other_part n))
 
   -- one of the part is covered
-  pub covers-own : (F : List ℕ) (xs : List Name) → CoversPart F xs m k → h % 65521 % m ≡ k → Covers F xs y
-  covers-own F xs c q = c y (own-part q)
+  pub covers_own : (F : List ℕ) (xs : List Name) → CoversPart F xs m k → h % 65521 % m ≡ k → Covers F xs y
+  covers_own F xs c q = c y (own_part q)
 
 -- of all names, where it was of the first
 pub within_all : (F : List ℕ) (i : ℕ) (xs : List Name) → Only F (take i xs) → Only F xs
@@ -125,10 +125,10 @@ pub not_covered : (F : List ℕ) (xs : List Name) (x : Name) (h : ℕ) (b : Bool
 not_covered F xs x h b k e m f = sym (not_so (one_of x xs) (λ t. not_both (k t) (ap (filtered F) (sym e) ∙ sym m ∙ f)))
 
 -- of one name fewer
-pub within-wiped : (F : List ℕ) (x : Name) (xs : List Name) → Only F (x ∷ xs) → Only (wiped F (hash_of x)) xs
-within-wiped F x xs w = record {
-  long = length-wiped F (hash_of x) ∙ w.long;
-  rest = λ j u. wiped-off F (hash_of x) w.long (hash_fits x) j (λ o. w.rest j (λ z t. off j u o z (one_cases z x xs t)));
+pub within_wiped : (F : List ℕ) (x : Name) (xs : List Name) → Only F (x ∷ xs) → Only (wiped F (hash_of x)) xs
+within_wiped F x xs w = record {
+  long = length_wiped F (hash_of x) ∙ w.long;
+  rest = λ j u. wiped_off F (hash_of x) w.long (hash_fits x) j (λ o. w.rest j (λ z t. off j u o z (one_cases z x xs t)));
 }
   where
     off : (j : ℕ) → OffFilter j xs → OffPair j (hash_of x) × OffPair j (turned (hash_of x))
@@ -138,4 +138,4 @@ within-wiped F x xs w = record {
 
 -- of none: it is clear again
 pub within_none : (F : List ℕ) → Only F [] → F ≡ clear
-within_none F w = ext_get_or 0 F clear (w.long ∙ sym clear-long) (λ j h. w.rest j (λ x t. absurd (not_both t (none_of_none x))) ∙ sym (clear_zero j))
+within_none F w = ext_get_or 0 F clear (w.long ∙ sym clear_long) (λ j h. w.rest j (λ x t. absurd (not_both t (none_of_none x))) ∙ sym (clear_zero j))

@@ -25,7 +25,7 @@ use Rattle.model.specs.Steps.{Bytes}
 use Rattle.model.proofs.Counts.{count_none}
 use Rattle.super_block.specs.declared.SuperBlock.{SuperBlock}
 use Rattle.super_block.specs.Super.{area_in, geo_of, Fit}
-use Rattle.super_block.proofs.Fits.{area-is}
+use Rattle.super_block.proofs.Fits.{area_is}
 use Rattle.read_dir.specs.Walk.{walk}
 use Rattle.check_bitmap.specs.Tally.{mark_bytes, mark_long, agreed}
 use Rattle.check_bitmap.proofs.Marks.{agrees_sound, agrees_bits, agrees_complete}
@@ -33,9 +33,9 @@ use Rattle.thm_survey.specs.Survey.{survey, seen_of}
 use Rattle.check_chain.specs.Marks.{Marks, Beyond, Answers, MarksAnswer}
 use Rattle.thm_survey.specs.Steps.{open_dir, through, entry_check, dir_check}
 use Rattle.thm_survey.specs.Whole.{bits_are, all_below, bits_of, whole}
-use Rattle.check_chain.proofs.Remaining.{Check, goes_last, step-no, step_yes}
-use Rattle.thm_survey.proofs.WalkedDirs.{dir-steps}
-use Rattle.thm_survey.proofs.Wholes.{bits-told, bits_pass, below-told, below_pass, claims_of, claimed-past}
+use Rattle.check_chain.proofs.Remaining.{Check, goes_last, step_no, step_yes}
+use Rattle.thm_survey.proofs.WalkedDirs.{dir_steps}
+use Rattle.thm_survey.proofs.Wholes.{bits_told, bits_pass, below_told, below_pass, claims_of, claimed_past}
 
 -- ---- the tree
 
@@ -48,10 +48,10 @@ module _ (A : Area) (I : List ℕ) (a : ℕ) (W Z : List ℕ) (r : Bool) (q : Ma
 
   as_steps : (seen : List ℕ) → tree_check seen ≡ then (seen_of (open_dir A I a seen)) entries
   unfolding dir_check
-  as_steps seen = dir-steps A I max_depth a seen
+  as_steps seen = dir_steps A I max_depth a seen
 
-  pub tree-no : r ≡ false → MarksAnswer A tree_check W Z false
-  tree-no e = step-no A _ entries tree_check W Z r q as_steps e
+  pub tree_no : r ≡ false → MarksAnswer A tree_check W Z false
+  tree_no e = step_no A _ entries tree_check W Z r q as_steps e
 
   pub tree_yes : r ≡ true → (Y : List ℕ) (t : Bool) → MarksAnswer A entries Z Y t → MarksAnswer A tree_check W Y t
   tree_yes e Y t p = goes_last A tree_check entries W Z Y t (step_yes A _ entries tree_check W Z r q as_steps e) p
@@ -65,45 +65,45 @@ module _ (s : SuperBlock) (I : List ℕ) (f : Fit s I) where
   abbrev surveyed : Check
   surveyed seen = seen_of (survey (area_in s) I max_depth s.area.0 seen)
 
-  surveyed-is : (o : Option (List ℕ)) → surveyed [] ≡ o → claims_of g I ≡ o
-  surveyed-is o e = ap (λ (A : Area). seen_of (survey A I max_depth A.first [])) (sym (area-is f)) ∙ e
+  surveyed_is : (o : Option (List ℕ)) → surveyed [] ≡ o → claims_of g I ≡ o
+  surveyed_is o e = ap (λ (A : Area). seen_of (survey A I max_depth A.first [])) (sym (area_is f)) ∙ e
 
-  rest-is : zero_from I (s.size * s.addr.0 + 18) (s.size - 18) ≡ zero_from I (block_size g * g.K + 18) (block_size g - 18)
-  rest-is = ap (λ (B : ℕ). zero_from I (B * s.addr.0 + 18) (B - 18)) f.size
+  rest_is : zero_from I (s.size * s.addr.0 + 18) (s.size - 18) ≡ zero_from I (block_size g * g.K + 18) (block_size g - 18)
+  rest_is = ap (λ (B : ℕ). zero_from I (B * s.addr.0 + 18) (B - 18)) f.size
 
   pub not_rest : (t : Bool) → t ≡ zero_from I (s.size * s.addr.0 + 18) (s.size - 18) → t ≡ false → false ≡ whole g I
   unfolding whole
-  not_rest t h e = sym (ap (λ (b : Bool). b && (bits_of g I (claims_of g I) && eqb (used_count g I) (data_at g + set_bits I g))) (sym (h ∙ rest-is) ∙ e))
+  not_rest t h e = sym (ap (λ (b : Bool). b && (bits_of g I (claims_of g I) && eqb (used_count g I) (data_at g + set_bits I g))) (sym (h ∙ rest_is) ∙ e))
 
   module _ (t : Bool) (h : t ≡ zero_from I (s.size * s.addr.0 + 18) (s.size - 18)) (e : t ≡ true) where
     rest_then : (o : Option (List ℕ)) → claims_of g I ≡ o → whole g I ≡ (bits_of g I o && eqb (used_count g I) (data_at g + set_bits I g))
     unfolding whole
     rest_then o c =
-        ap (λ (b : Bool). b && (bits_of g I (claims_of g I) && eqb (used_count g I) (data_at g + set_bits I g))) (sym (h ∙ rest-is) ∙ e)
+        ap (λ (b : Bool). b && (bits_of g I (claims_of g I) && eqb (used_count g I) (data_at g + set_bits I g))) (sym (h ∙ rest_is) ∙ e)
         ∙ ap (λ (x : Option (List ℕ)). bits_of g I x && eqb (used_count g I) (data_at g + set_bits I g)) c
 
     module _ (W Z : List ℕ) (r : Bool) (m : Marks (area_in s) W []) (q : MarksAnswer (area_in s) surveyed W Z r) where
       pub not_tree : r ≡ false → false ≡ whole g I
       unfolding bits_of
-      not_tree z = sym (rest_then none (surveyed-is none (subst (Answers (area_in s) surveyed W Z) z q.answer [] m)))
+      not_tree z = sym (rest_then none (surveyed_is none (subst (Answers (area_in s) surveyed W Z) z q.answer [] m)))
 
       module _ (z : r ≡ true) (b : Bytes I) (w : Bytes Z) (l : mark_bytes (area_in s) ≤ length W) (v : Bool) (k : v ≡ agreed g I Z) where
         abbrev claimed : (seen : List ℕ) × (surveyed [] ≡ some seen) × Marks (area_in s) Z seen
         claimed = subst (Answers (area_in s) surveyed W Z) z q.answer [] m
 
         there : claims_of g I ≡ some claimed.0
-        there = surveyed-is (some claimed.0) claimed.1
+        there = surveyed_is (some claimed.0) claimed.1
 
         marks : (x : ℕ) → x < 8 * mark_long g → bit Z 0 x ≡ count (data_at g + x) claimed.0
         marks =
-            subst (λ (A : Area). (x : ℕ) → x < 8 * mark_bytes A → bit Z 0 x ≡ count (A.first + x) claimed.0) (area-is f)
+            subst (λ (A : Area). (x : ℕ) → x < 8 * mark_bytes A → bit Z 0 x ≡ count (A.first + x) claimed.0) (area_is f)
             claimed.2
 
         past : (x : ℕ) → g.n - data_at g ≤ x → count (data_at g + x) claimed.0 ≡ 0
-        past x j = claimed-past g I f.sound b claimed.0 there (data_at g + x) (omega arith)
+        past x j = claimed_past g I f.sound b claimed.0 there (data_at g + x) (omega arith)
 
         long : mark_long g ≤ length Z
-        long = subst (λ (A : Area). mark_bytes A ≤ length Z) (area-is f) (omega (arith, q.beyond.long))
+        long = subst (λ (A : Area). mark_bytes A ≤ length Z) (area_is f) (omega (arith, q.beyond.long))
 
         same_bits : agreed g I Z ≡ bits_of g I (some claimed.0)
         unfolding bits_of
@@ -121,7 +121,7 @@ module _ (s : SuperBlock) (I : List ℕ) (f : Fit s I) where
 
             clear : all_below (data_at g + map_bits g) claimed.0 ≡ true → (x : ℕ) → map_bits g ≤ x → Dec (0 < count (data_at g + x) claimed.0)
                 → count (data_at g + x) claimed.0 ≡ 0
-            clear y x h (yes l) = absurd (omega (arith, below-told (data_at g + map_bits g) claimed.0 y (data_at g + x) l))
+            clear y x h (yes l) = absurd (omega (arith, below_told (data_at g + map_bits g) claimed.0 y (data_at g + x) l))
             clear y x h (no l) = omega arith
 
             go : (agreed g I Z ≡ true) ⊎ (agreed g I Z ≡ false) → (bs ≡ true) ⊎ (bs ≡ false) → agreed g I Z ≡ bs
@@ -130,7 +130,7 @@ module _ (s : SuperBlock) (I : List ℕ) (f : Fit s I) where
                 (below_pass (data_at g + map_bits g) claimed.0 (λ i c. low x i c (dec_lt i (data_at g + map_bits g)))))
             go (inr x) (inl y) =
                 let h = and_both _ _ y in
-                absurd (not_both (agrees_complete g I Z f.sound long _ marks past b w (bits-told I (block_size g * map_at g) _ (map_bits g) h.0)
+                absurd (not_both (agrees_complete g I Z f.sound long _ marks past b w (bits_told I (block_size g * map_at g) _ (map_bits g) h.0)
                 (λ j k. clear h.1 j k (dec_lt 0 (count (data_at g + j) claimed.0)))) x)
             go (inr x) (inr y) = x ∙ sym y
 
@@ -140,8 +140,8 @@ module _ (s : SuperBlock) (I : List ℕ) (f : Fit s I) where
         pub not_agreed : v ≡ false → false ≡ whole g I
         not_agreed y = sym (whole_is ∙ ap (λ (x : Bool). x && eqb (used_count g I) (data_at g + set_bits I g)) y)
 
-        pub answer-count : v ≡ true → (u : Bool) → u ≡ eqb (used_count g I) (data_at g + set_bits I g) → u ≡ whole g I
-        answer-count y u o = o ∙ sym (whole_is ∙ ap (λ (x : Bool). x && eqb (used_count g I) (data_at g + set_bits I g)) y)
+        pub answer_count : v ≡ true → (u : Bool) → u ≡ eqb (used_count g I) (data_at g + set_bits I g) → u ≡ whole g I
+        answer_count y u o = o ∙ sym (whole_is ∙ ap (λ (x : Bool). x && eqb (used_count g I) (data_at g + set_bits I g)) y)
 
 -- ---- the work buffer
 

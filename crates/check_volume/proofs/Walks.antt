@@ -30,19 +30,19 @@ use Rattle.thm_survey.specs.Survey.{chain_of, seen_of}
 use Rattle.check_chain.specs.Marks.{MarksAnswer}
 use Rattle.thm_survey.specs.Steps.{open_dir, through, is_total, entry_check, sub_check}
 use Rattle.check_chain.proofs.Claims.{beyond_refl}
-use Rattle.check_chain.proofs.Remaining.{checks_as, Check, Goes, goes_refl, goes_end, goes_stop, goes-no, goes_yes, goes_last, step-no, step_yes}
-use Rattle.thm_survey.proofs.WalkedDirs.{sub-steps, sub-none, file-steps, device-steps}
+use Rattle.check_chain.proofs.Remaining.{checks_as, Check, Goes, goes_refl, goes_end, goes_stop, goes_no, goes_yes, goes_last, step_no, step_yes}
+use Rattle.thm_survey.proofs.WalkedDirs.{sub-steps, sub-none, file_steps, device_steps}
 use Rattle.check_chain.proofs.Chains.{file_of}
 
 -- a filter that comes back as it was is still clear, and as long
-pub still-clear : (F G : List ℕ) → F ≡ G → G ≡ clear → F ≡ clear
-still-clear F G e h = e ∙ h
+pub still_clear : (F G : List ℕ) → F ≡ G → G ≡ clear → F ≡ clear
+still_clear F G e h = e ∙ h
 
 pub kept_filter : (F G H : List ℕ) → F ≡ G → G ≡ H → F ≡ H
 kept_filter F G H e h = e ∙ h
 
-pub kept-long : (F G H : List ℕ) → F ≡ G → G ≡ H → length F ≡ length H
-kept-long F G H e h = ap length (e ∙ h)
+pub kept_long : (F G H : List ℕ) → F ≡ G → G ≡ H → length F ≡ length H
+kept_long F G H e h = ap length (e ∙ h)
 
 -- ---- a directory's entries
 
@@ -50,8 +50,8 @@ kept-long F G H e h = ap length (e ∙ h)
 pub record Rest (A : Area) (f : DirEntry → Check) (W₀ : List ℕ) (w₀ : Walk) (W : List ℕ) (w : Walk) : Type 0 where
   pub goes : Goes A (through f w₀) (through f w) W₀ W
 
-pub rest-start : (A : Area) (f : DirEntry → Check) (W : List ℕ) (w : Walk) → Rest A f W w W w
-rest-start A f W w = record { goes = goes_refl A (through f w) W }
+pub rest_start : (A : Area) (f : DirEntry → Check) (W : List ℕ) (w : Walk) → Rest A f W w W w
+rest_start A f W w = record { goes = goes_refl A (through f w) W }
 
 module _ (A : Area) (I : List ℕ) (f : DirEntry → Check) (W₀ : List ℕ) (c₀ : ReadDir) (W : List ℕ) (c : ReadDir) (l : Rest A f W₀ (cursor_walk A I c₀) W (cursor_walk A I c))
     (m : Step) (w : Stepped A I c m) where
@@ -69,59 +69,59 @@ module _ (A : Area) (I : List ℕ) (f : DirEntry → Check) (W₀ : List ℕ) (c
     unfolding through
     rest_end g = whole W true (goes_end A _ _ W₀ W l.goes (λ seen. gave step.End g seen))
 
-    pub rest-bad : m ≡ step.Damaged → MarksAnswer A all W₀ W false
+    pub rest_bad : m ≡ step.Damaged → MarksAnswer A all W₀ W false
     unfolding through
-    rest-bad g = whole W false (goes_stop A _ _ W₀ W l.goes (λ seen. gave step.Damaged g seen))
+    rest_bad g = whole W false (goes_stop A _ _ W₀ W l.goes (λ seen. gave step.Damaged g seen))
 
-    pub rest-no : (e : DirEntry) (p : Place) (d : ReadDir) (Z : List ℕ) (r : Bool) → m ≡ step.Entry e p d → MarksAnswer A (f e) W Z r → r ≡ false → MarksAnswer A all W₀ Z false
+    pub rest_no : (e : DirEntry) (p : Place) (d : ReadDir) (Z : List ℕ) (r : Bool) → m ≡ step.Entry e p d → MarksAnswer A (f e) W Z r → r ≡ false → MarksAnswer A all W₀ Z false
     unfolding through
-    rest-no e p d Z r g q h = whole Z false (goes-no A _ _ W₀ W l.goes (f e) Z r q h (λ seen z. gave (step.Entry e p d) g seen ∙ then-none _ z))
+    rest_no e p d Z r g q h = whole Z false (goes_no A _ _ W₀ W l.goes (f e) Z r q h (λ seen z. gave (step.Entry e p d) g seen ∙ then-none _ z))
 
-  pub rest-on : (e : DirEntry) (p : Place) (d : ReadDir) (Z : List ℕ) (r : Bool) → m ≡ step.Entry e p d → MarksAnswer A (f e) W Z r → r ≡ true
+  pub rest_on : (e : DirEntry) (p : Place) (d : ReadDir) (Z : List ℕ) (r : Bool) → m ≡ step.Entry e p d → MarksAnswer A (f e) W Z r → r ≡ true
       → Rest A f W₀ (cursor_walk A I c₀) Z (cursor_walk A I d)
   unfolding through
-  rest-on e p d Z r g q h = record { goes = goes_yes A _ _ W₀ W l.goes (f e) Z r q (through f (cursor_walk A I d)) h (λ seen s z. gave (step.Entry e p d) g seen ∙ then_some _ z) }
+  rest_on e p d Z r g q h = record { goes = goes_yes A _ _ W₀ W l.goes (f e) Z r q (through f (cursor_walk A I d)) h (λ seen s z. gave (step.Entry e p d) g seen ∙ then_some _ z) }
 
 -- ---- an entry
 
 pub inside_image : (s : SuperBlock) (I : List ℕ) → Fit s I → s.blocks * s.size ≤ length I
 inside_image s I f = omega (arith, f.inside, mul_comm s.size s.blocks)
 
-pub entry-deep : (A : Area) (I : List ℕ) (depth : ℕ) (e : DirEntry) (W : List ℕ) → e.kind ≡ kind.Dir → depth ≡ 0 → MarksAnswer A (entry_check A I depth e) W W false
-entry-deep A I depth e W g z = record { beyond = beyond_refl A W; answer = λ seen m. ap (λ (d : ℕ). entry_check A I d e seen) z ∙ sub-none A I e seen g }
+pub entry_deep : (A : Area) (I : List ℕ) (depth : ℕ) (e : DirEntry) (W : List ℕ) → e.kind ≡ kind.Dir → depth ≡ 0 → MarksAnswer A (entry_check A I depth e) W W false
+entry_deep A I depth e W g z = record { beyond = beyond_refl A W; answer = λ seen m. ap (λ (d : ℕ). entry_check A I d e seen) z ∙ sub-none A I e seen g }
 
 module _ (A : Area) (I : List ℕ) (depth : ℕ) (e : DirEntry) (W Z : List ℕ) (r : Bool) where
-  pub entry-file : e.kind ≡ kind.File → MarksAnswer A (file_of A I e.addr.0 e.size W) W Z r → MarksAnswer A (entry_check A I depth e) W Z r
-  entry-file g q = checks_as A _ _ W Z r (λ seen. file-steps A I depth e seen g) q
+  pub entry_file : e.kind ≡ kind.File → MarksAnswer A (file_of A I e.addr.0 e.size W) W Z r → MarksAnswer A (entry_check A I depth e) W Z r
+  entry_file g q = checks_as A _ _ W Z r (λ seen. file_steps A I depth e seen g) q
 
-  pub entry-device : e.kind ≡ kind.Device → MarksAnswer A (λ seen. seen_of (chain_of A I (A.end - A.first) e.addr.0 seen)) W Z r → MarksAnswer A (entry_check A I depth e) W Z r
-  entry-device g q = checks_as A _ _ W Z r (λ seen. device-steps A I depth e seen g) q
+  pub entry_device : e.kind ≡ kind.Device → MarksAnswer A (λ seen. seen_of (chain_of A I (A.end - A.first) e.addr.0 seen)) W Z r → MarksAnswer A (entry_check A I depth e) W Z r
+  entry_device g q = checks_as A _ _ W Z r (λ seen. device_steps A I depth e seen g) q
 
   module _ (fits : A.end * A.size ≤ length I) (g : e.kind ≡ kind.Dir) (more : depth ≡ 0 → ⊥) (q : MarksAnswer A (λ seen. seen_of (open_dir A I e.addr.0 seen)) W Z r) where
-    abbrev fits-size : Bool
-    fits-size = is_total e.size (sum_from 0 (walk A I e.addr.0))
+    abbrev fits_size : Bool
+    fits_size = is_total e.size (sum_from 0 (walk A I e.addr.0))
 
     abbrev below : Check
     below = through (entry_check A I (depth - 1)) (walk A I e.addr.0)
 
-    as_sub : (seen : List ℕ) → entry_check A I depth e seen ≡ then (seen_of (open_dir A I e.addr.0 seen)) (λ s. pick fits-size (below s) none)
+    as_sub : (seen : List ℕ) → entry_check A I depth e seen ≡ then (seen_of (open_dir A I e.addr.0 seen)) (λ s. pick fits_size (below s) none)
     unfolding sub_check
     as_sub seen =
         let w : depth ≡ suc (depth - 1) = omega arith in
         ap (λ (d : ℕ). entry_check A I d e seen) w ∙ sub-steps A I fits (depth - 1) e seen g
 
     pub entry_shut : r ≡ false → MarksAnswer A (entry_check A I depth e) W Z false
-    entry_shut h = step-no A _ (λ s. pick fits-size (below s) none) _ W Z r q as_sub h
+    entry_shut h = step_no A _ (λ s. pick fits_size (below s) none) _ W Z r q as_sub h
 
-    module _ (h : r ≡ true) (t : Bool) (o : t ≡ fits-size) where
-      opened : Goes A (entry_check A I depth e) (λ s. pick fits-size (below s) none) W Z
-      opened = step_yes A _ (λ s. pick fits-size (below s) none) _ W Z r q as_sub h
+    module _ (h : r ≡ true) (t : Bool) (o : t ≡ fits_size) where
+      opened : Goes A (entry_check A I depth e) (λ s. pick fits_size (below s) none) W Z
+      opened = step_yes A _ (λ s. pick fits_size (below s) none) _ W Z r q as_sub h
 
-      pub entry-size : t ≡ false → MarksAnswer A (entry_check A I depth e) W Z false
-      entry-size z = goes_stop A _ _ W Z opened (λ s. pick_false _ _ (sym o ∙ z))
+      pub entry_size : t ≡ false → MarksAnswer A (entry_check A I depth e) W Z false
+      entry_size z = goes_stop A _ _ W Z opened (λ s. pick_false _ _ (sym o ∙ z))
 
       pub entry_down : t ≡ true → (d : ℕ) (Y : List ℕ) (u : Bool) → d ≡ depth - 1 → MarksAnswer A (through (entry_check A I d) (walk A I e.addr.0)) Z Y u → MarksAnswer A (entry_check A I depth e) W Y u
       entry_down z d Y u v p =
-          goes_last A _ (λ s. pick fits-size (below s) none) W Z Y u opened
-          (checks_as A below (λ s. pick fits-size (below s) none) Z Y u (λ s. pick_true _ _ (sym o ∙ z))
+          goes_last A _ (λ s. pick fits_size (below s) none) W Z Y u opened
+          (checks_as A below (λ s. pick fits_size (below s) none) Z Y u (λ s. pick_true _ _ (sym o ∙ z))
           (subst (λ (j : ℕ). MarksAnswer A (through (entry_check A I j) (walk A I e.addr.0)) Z Y u) v p))

@@ -11,7 +11,7 @@ use lib.ListN.{length, length-append}
 use lib.Seq.{take-append_seam, drop-append-add, drop_at}
 use borrow.Author.Tests.{leb-true}
 use Rattle.wire.specs.Be.{bytes, splice, zeros}
-use Rattle.wire.proofs.Numbers.{length-bytes, drop-zeros, splice-past}
+use Rattle.wire.proofs.Numbers.{length_bytes, drop-zeros, splice-past}
 use Rattle.wire.proofs.Picks.{either, pick_true, pick_false}
 use Rattle.model.specs.Tree.{Name, Entry, Block, any, weight, used, fill, insert}
 use Rattle.model.specs.Render.{padded}
@@ -60,9 +60,9 @@ module _ {X : Type 0} (cap : ℕ) (n : Name) where
     some = pick_true _ _ c;
   }
 
-  gap-there : (z : ℕ) (b : Block X) (bs : List (Block X)) → has_room cap n b ≡ false → Gap b.at bs → Gap z (b ∷ bs)
+  gap_there : (z : ℕ) (b : Block X) (bs : List (Block X)) → has_room cap n b ≡ false → Gap b.at bs → Gap z (b ∷ bs)
   unfolding spot_on insert any
-  gap-there z b bs c g = record {
+  gap_there z b bs c g = record {
     earlier = b ∷ g.earlier;
     block = g.block;
     later = g.later;
@@ -73,9 +73,9 @@ module _ {X : Type 0} (cap : ℕ) (n : Name) where
     some = pick_false _ _ c ∙ g.some;
   }
 
-  full-one : (z : ℕ) (b : Block X) → has_room cap n b ≡ false → Full z (b ∷ [])
+  full_one : (z : ℕ) (b : Block X) → has_room cap n b ≡ false → Full z (b ∷ [])
   unfolding spot_on insert any
-  full-one z b c = record {
+  full_one z b c = record {
     earlier = [];
     last = b;
     is = refl;
@@ -84,9 +84,9 @@ module _ {X : Type 0} (cap : ℕ) (n : Name) where
     none = pick_false _ _ c;
   }
 
-  full-there : (z : ℕ) (b : Block X) (bs : List (Block X)) → has_room cap n b ≡ false → Full b.at bs → Full z (b ∷ bs)
+  full_there : (z : ℕ) (b : Block X) (bs : List (Block X)) → has_room cap n b ≡ false → Full b.at bs → Full z (b ∷ bs)
   unfolding spot_on insert any
-  full-there z b bs c g = record {
+  full_there z b bs c g = record {
     earlier = b ∷ g.earlier;
     last = g.last;
     is = ap (λ (l : List (Block X)). b ∷ l) g.is;
@@ -101,38 +101,38 @@ module _ {X : Type 0} (cap : ℕ) (n : Name) where
     where
       go : (has_room cap n b ≡ true) ⊎ (has_room cap n b ≡ false) → Gap z (b ∷ []) ⊎ Full z (b ∷ [])
       go (inl c) = inl (gap_here z b [] c)
-      go (inr c) = inr (full-one z b c)
+      go (inr c) = inr (full_one z b c)
   gap z b (x ∷ bs) = go (either (has_room cap n b)) (gap b.at x bs)
     where
       go : (has_room cap n b ≡ true) ⊎ (has_room cap n b ≡ false) → Gap b.at (x ∷ bs) ⊎ Full b.at (x ∷ bs) → Gap z (b ∷ (x ∷ bs)) ⊎ Full z (b ∷ (x ∷ bs))
       go (inl c) r = inl (gap_here z b (x ∷ bs) c)
-      go (inr c) (inl r) = inl (gap-there z b (x ∷ bs) c r)
-      go (inr c) (inr r) = inr (full-there z b (x ∷ bs) c r)
+      go (inr c) (inl r) = inl (gap_there z b (x ∷ bs) c r)
+      go (inr c) (inr r) = inr (full_there z b (x ∷ bs) c r)
 
 -- ---- the bytes of a block
 
 -- a store where the zeros begin
-splice-end : (l x : List ℕ) (k : ℕ) → splice (l ++ zeros k) (length l) x ≡ l ++ (x ++ zeros (k - length x))
+splice_end : (l x : List ℕ) (k : ℕ) → splice (l ++ zeros k) (length l) x ≡ l ++ (x ++ zeros (k - length x))
 unfolding splice
-splice-end l x k = rw (take-append_seam l (zeros k), drop-append-add l (zeros k) (length x), drop-zeros (length x) k)
+splice_end l x k = rw (take-append_seam l (zeros k), drop-append-add l (zeros k) (length x), drop-zeros (length x) k)
 
 -- A block with x stored after its last entry.
 pub block_more : (c z : ℕ) (l x : List ℕ) → splice (bytes 4 z ++ padded c l) (4 + length l) x ≡ bytes 4 z ++ padded c (l ++ x)
 unfolding padded
 block_more c z l x =
-    let e : 4 + length l ≡ length (bytes 4 z) + length l = omega (arith, length-bytes 4 z) in
+    let e : 4 + length l ≡ length (bytes 4 z) + length l = omega (arith, length_bytes 4 z) in
     let f : c - length l - length x ≡ c - length (l ++ x) = omega (arith, length-append l x) in
     ap (λ (k : ℕ). splice (bytes 4 z ++ (l ++ zeros (c - length l))) k x) e
     ∙ splice-past (bytes 4 z) (l ++ zeros (c - length l)) (length l) x
-    ∙ ap (λ (y : List ℕ). bytes 4 z ++ y) (splice-end l x (c - length l) ∙ sym (append_assoc l x (zeros (c - length l - length x))) ∙ ap (λ (k : ℕ). (l ++ x) ++ zeros k) f)
+    ∙ ap (λ (y : List ℕ). bytes 4 z ++ y) (splice_end l x (c - length l) ∙ sym (append_assoc l x (zeros (c - length l - length x))) ∙ ap (λ (k : ℕ). (l ++ x) ++ zeros k) f)
 
 -- A block with another next address.
-pub block-linked : (z w : ℕ) (m : List ℕ) → splice (bytes 4 z ++ m) 0 (bytes 4 w) ≡ bytes 4 w ++ m
+pub block_linked : (z w : ℕ) (m : List ℕ) → splice (bytes 4 z ++ m) 0 (bytes 4 w) ≡ bytes 4 w ++ m
 unfolding splice
-block-linked z w m =
-    let e : length (bytes 4 z) ≡ 0 + length (bytes 4 w) = omega (arith, length-bytes 4 z, length-bytes 4 w) in
+block_linked z w m =
+    let e : length (bytes 4 z) ≡ 0 + length (bytes 4 w) = omega (arith, length_bytes 4 z, length_bytes 4 w) in
     ap (λ (y : List ℕ). bytes 4 w ++ y) (drop_at (bytes 4 z) m (0 + length (bytes 4 w)) e)
 
 -- A new block is one that ends its chain and has no entry.
-pub new-block : (B : ℕ) → 4 ≤ B → zeros B ≡ bytes 4 0 ++ padded (B - 4) []
-new-block B h = zero_block B h ∙ ap (λ (l : List ℕ). bytes 4 0 ++ l) (sym (padded-none (B - 4)))
+pub new_block : (B : ℕ) → 4 ≤ B → zeros B ≡ bytes 4 0 ++ padded (B - 4) []
+new_block B h = zero_block B h ∙ ap (λ (l : List ℕ). bytes 4 0 ++ l) (sym (padded-none (B - 4)))

@@ -56,33 +56,33 @@ module _ (B : ℕ) (I : List ℕ) (a o : ℕ) (inv : (o ≤ B - 5) × (stop_from
     used_stop h = sym (stop_here B I a (B - o) o (at_slot Stop h)) ∙ inv.1
 
     module _ (d : DirEntry) (h : r ≡ Entry d) where
-      pub used-ends : o + 18 + d.len ≤ B - 5
-      used-ends = (slot_stands B I a o d (at_slot (Entry d) h)).ends
+      pub used_ends : o + 18 + d.len ≤ B - 5
+      used_ends = (slot_stands B I a o d (at_slot (Entry d) h)).ends
 
-      pub used-less : B - (o + 18 + d.len) < B - o
-      used-less = omega (arith, used-ends)
+      pub used_less : B - (o + 18 + d.len) < B - o
+      used_less = omega (arith, used_ends)
 
-      pub used-again : stop_from B I (B - (o + 18 + d.len)) a (o + 18 + d.len) ≡ used_at B I a
-      used-again =
-          let k : B - o ≡ suc (B - o - 1) = omega (arith, used-ends) in
+      pub used_again : stop_from B I (B - (o + 18 + d.len)) a (o + 18 + d.len) ≡ used_at B I a
+      used_again =
+          let k : B - o ≡ suc (B - o - 1) = omega (arith, used_ends) in
           stop_enough B I a (B - (o + 18 + d.len)) (B - o - 1) (o + 18 + d.len) (omega arith) (omega arith)
           ∙ sym (stop_past B I a (B - o - 1) o d (at_slot (Entry d) h)) ∙ ap (λ (x : ℕ). stop_from B I x a o) (sym k) ∙ inv.1
 
 -- ---- where a new entry goes
 
 module _ (A : Area) (I : List ℕ) (len : ℕ) where
-  spot-over : (a : ℕ) → spot_from A I len 0 a ≡ Damaged
+  spot_over : (a : ℕ) → spot_from A I len 0 a ≡ Damaged
   unfolding spot_from
-  spot-over a = refl
+  spot_over a = refl
 
   module _ (k a : ℕ) where
-    spot-below : a < A.first → spot_from A I len (suc k) a ≡ Damaged
+    spot_below : a < A.first → spot_from A I len (suc k) a ≡ Damaged
     unfolding spot_from
-    spot-below h = pick_false _ _ (rw (lt-leb A.first a h))
+    spot_below h = pick_false _ _ (rw (lt-leb A.first a h))
 
-    spot-above : A.first ≤ a → A.end ≤ a → spot_from A I len (suc k) a ≡ Damaged
+    spot_above : A.first ≤ a → A.end ≤ a → spot_from A I len (suc k) a ≡ Damaged
     unfolding spot_from
-    spot-above h q = pick_false _ _ (rw (le-leb A.first a h, le-ltb _ _ q))
+    spot_above h q = pick_false _ _ (rw (le-leb A.first a h, le-ltb _ _ q))
 
     module _ (h : A.first ≤ a) (q : a < A.end) where
       inside : in_area A I a ≡ true
@@ -93,30 +93,30 @@ module _ (A : Area) (I : List ℕ) (len : ℕ) where
       spot_in r = pick_true _ _ inside ∙ pick_true _ _ (le-leb _ _ r)
 
       module _ (r : A.size - 5 < used_at A.size I a + header + len) where
-        pub spot-after : next A.size I a ≡ 0 → spot_from A I len (suc k) a ≡ After (record { 0 = a })
+        pub spot_after : next A.size I a ≡ 0 → spot_from A I len (suc k) a ≡ After (record { 0 = a })
         unfolding spot_from
-        spot-after e = pick_true _ _ inside ∙ pick_false _ _ (lt-leb _ _ r) ∙ pick_true _ _ (eq-eqb _ 0 e)
+        spot_after e = pick_true _ _ inside ∙ pick_false _ _ (lt-leb _ _ r) ∙ pick_true _ _ (eq-eqb _ 0 e)
 
-        pub spot-next : (next A.size I a ≡ 0 → ⊥) → spot_from A I len (suc k) a ≡ spot_from A I len k (next A.size I a)
+        pub spot_next : (next A.size I a ≡ 0 → ⊥) → spot_from A I len (suc k) a ≡ spot_from A I len k (next A.size I a)
         unfolding spot_from
-        spot-next e = pick_true _ _ inside ∙ pick_false _ _ (lt-leb _ _ r) ∙ pick_false _ _ (ne_eqb _ 0 e)
+        spot_next e = pick_true _ _ inside ∙ pick_false _ _ (lt-leb _ _ r) ∙ pick_false _ _ (ne_eqb _ 0 e)
 
 -- the loop at block b, where `left` blocks may be read
 module _ (A : Area) (I : List ℕ) (len left : ℕ) (b : Addr) (whole : Spot) (inv : spot_from A I len left b.0 ≡ whole) where
   pub left_over : left ≤ 0 → Damaged ≡ whole
   left_over h =
       let z : left ≡ 0 = omega arith in
-      sym (spot-over A I len b.0) ∙ ap (λ (k : ℕ). spot_from A I len k b.0) (sym z) ∙ inv
+      sym (spot_over A I len b.0) ∙ ap (λ (k : ℕ). spot_from A I len k b.0) (sym z) ∙ inv
 
   module _ (more : 0 < left) where
     one : spot_from A I len (suc (left - 1)) b.0 ≡ whole
     one = let z : suc (left - 1) ≡ left = omega arith in ap (λ (k : ℕ). spot_from A I len k b.0) z ∙ inv
 
     pub left_below : b.0 < A.first → Damaged ≡ whole
-    left_below h = sym (spot-below A I len (left - 1) b.0 h) ∙ one
+    left_below h = sym (spot_below A I len (left - 1) b.0 h) ∙ one
 
-    pub left-above : A.first ≤ b.0 → A.end ≤ b.0 → Damaged ≡ whole
-    left-above h q = sym (spot-above A I len (left - 1) b.0 h q) ∙ one
+    pub left_above : A.first ≤ b.0 → A.end ≤ b.0 → Damaged ≡ whole
+    left_above h q = sym (spot_above A I len (left - 1) b.0 h q) ∙ one
 
     module _ (h : A.first ≤ b.0) (q : b.0 < A.end) (u : ℕ) (e : u ≡ used_at A.size I b.0) where
       pub left_in : u + 18 + len ≤ A.size - 4 - 1 → ◌≡◌ {A = Spot} (In (record { block = b; offset = u })) whole
@@ -129,8 +129,8 @@ module _ (A : Area) (I : List ℕ) (len left : ℕ) (b : Addr) (whole : Spot) (i
         to = f ∙ (λ i. next (x i) I (w i))
 
         pub left_after : m.0 ≡ 0 → ◌≡◌ {A = Spot} (After b) whole
-        left_after z = sym (spot-after A I len (left - 1) b.0 h q (omega arith) (sym to ∙ z)) ∙ one
+        left_after z = sym (spot_after A I len (left - 1) b.0 h q (omega arith) (sym to ∙ z)) ∙ one
 
-        pub left-again : (m.0 ≡ 0 → ⊥) → spot_from A I len (left - 1) m.0 ≡ whole
-        left-again z =
-            ap (spot_from A I len (left - 1)) to ∙ sym (spot-next A I len (left - 1) b.0 h q (omega arith) (λ y. z (to ∙ y))) ∙ one
+        pub left_again : (m.0 ≡ 0 → ⊥) → spot_from A I len (left - 1) m.0 ≡ whole
+        left_again z =
+            ap (spot_from A I len (left - 1)) to ∙ sym (spot_next A I len (left - 1) b.0 h q (omega arith) (λ y. z (to ∙ y))) ∙ one

@@ -9,7 +9,7 @@ use Rattle.wire.proofs.Picks.{either}
 use Rattle.block.specs.Block.{Area}
 use Rattle.model.specs.Answers.{Reply, accepted, refused, when, given}
 use Rattle.model.specs.Geometry.{area_of, Geo, block_size}
-use Rattle.model.proofs.Replies.{not_accepted, given_yes, given-no, then-accepted, first-refused}
+use Rattle.model.proofs.Replies.{not_accepted, given_yes, given_no, then-accepted, first_refused}
 use Rattle.dir_entry.specs.declared.DirEntry.{DirEntry}
 use Rattle.dir_entry.proofs.Slots.{slot_stands}
 use Rattle.read_dir.specs.declared.Place.{Place}
@@ -18,8 +18,8 @@ use Rattle.read_dir.specs.declared.Found.TheVariants as found
 use Rattle.read_dir.specs.Walk.{in_area, walk}
 use Rattle.read_dir.specs.Finds.{find_in}
 use Rattle.read_dir.specs.Cursor.{Lies}
-use Rattle.read_dir.proofs.Items.{found-item}
-use Rattle.read_dir.proofs.Unroll.{area_true, chain-out}
+use Rattle.read_dir.proofs.Items.{found_item}
+use Rattle.read_dir.proofs.Unroll.{area_true, chain_out}
 use Rattle.path.specs.Path.{last_name, dir_part}
 use Rattle.dir.specs.Resolve.{on_name}
 use Rattle.dir.specs.Hold.{Hold, on_placed, hold_dir}
@@ -27,16 +27,16 @@ use Rattle.delete.specs.Deleting.{Doomed, has_entries, doomed_at, doomed_in, doo
 
 -- ---- replies
 
-given-past : {A : Type 0} (b : Bool) (r : Reply A) (a : A) → given (when 14 b) r ≡ accepted a → (b ≡ false) × (r ≡ accepted a)
-given-past b r a e = go (either b)
+given_past : {A : Type 0} (b : Bool) (r : Reply A) (a : A) → given (when 14 b) r ≡ accepted a → (b ≡ false) × (r ≡ accepted a)
+given_past b r a e = go (either b)
   where
     go : (b ≡ true) ⊎ (b ≡ false) → (b ≡ false) × (r ≡ accepted a)
     go (inl t) = absurd (not_accepted 14 a (sym (given_yes 14 r (omega arith) t) ∙ e))
-    go (inr t) = (t, sym (given-no 14 r t) ∙ e)
+    go (inr t) = (t, sym (given_no 14 r t) ∙ e)
 
-name-past : {A : Type 0} (x : List ℕ) (r : Reply A) (a : A) → on_name x r ≡ accepted a → r ≡ accepted a
-name-past [] r a e = absurd (not_accepted 5 a e)
-name-past (c ∷ x) r a e = e
+name_past : {A : Type 0} (x : List ℕ) (r : Reply A) (a : A) → on_name x r ≡ accepted a → r ≡ accepted a
+name_past [] r a e = absurd (not_accepted 5 a e)
+name_past (c ∷ x) r a e = e
 
 placed_past : {A : Type 0} (f : Found) (k : DirEntry → Place → Reply A) (a : A) → on_placed f k ≡ accepted a → (e : DirEntry) × (p : Place) × (f ≡ found.At e p) × (k e p ≡ accepted a)
 placed_past (found.At e p) k a q = (e, p, refl, q)
@@ -55,15 +55,15 @@ module _ (g : Geo) (I l : List ℕ) where
     pub bare : has_entries d.entry ≡ false
     pub own : d.own ≡ hold.own
 
-  pub doomed-by : (d : Doomed) → doomed_of g I l ≡ accepted d → DoomedBy d
+  pub doomed_by : (d : Doomed) → doomed_of g I l ≡ accepted d → DoomedBy d
   unfolding doomed_of doomed_in doomed_at
-  doomed-by d k =
-      let a = then-accepted (hold_dir (area_of g) I (dir_part l)) (doomed_in g I (last_name l)) d (name-past (last_name l) _ d k) in
+  doomed_by d k =
+      let a = then-accepted (hold_dir (area_of g) I (dir_part l)) (doomed_in g I (last_name l)) d (name_past (last_name l) _ d k) in
       let h : Hold = a.0 in
       let b = placed_past (find_in (last_name l) (walk (area_of g) I h.dir)) (doomed_at h) d a.2 in
       let e : DirEntry = b.0 in
       let p : Place = b.1 in
-      let c = given-past (has_entries e) _ d b.3 in
+      let c = given_past (has_entries e) _ d b.3 in
       let made : Doomed = record { dir = h.dir; entry = e; place = p; own = h.own } in
       let q : accepted made ≡ accepted d = c.1 in
       let z : made ≡ d = cc in
@@ -80,31 +80,31 @@ module _ (g : Geo) (I l : List ℕ) where
 
 module _ (g : Geo) (I l : List ℕ) where
   -- a refusal is that of the entry,
-  refused-doomed : (k : ℕ) → deleted_on g I l ≡ refused k → doomed_of g I l ≡ refused k
+  refused_doomed : (k : ℕ) → deleted_on g I l ≡ refused k → doomed_of g I l ≡ refused k
   unfolding deleted_on
-  refused-doomed k e = first-refused (doomed_of g I l) (λ d. tt) k e
+  refused_doomed k e = first_refused (doomed_of g I l) (λ d. tt) k e
 
 -- ---- what the stores ask of it
 
 -- a directory with an entry begins in the data
-found-begins : (A : Area) (I : List ℕ) (a : ℕ) (x : List ℕ) (e : DirEntry) (p : Place) → find_in x (walk A I a) ≡ found.At e p → a < A.end
+found_begins : (A : Area) (I : List ℕ) (a : ℕ) (x : List ℕ) (e : DirEntry) (p : Place) → find_in x (walk A I a) ≡ found.At e p → a < A.end
 unfolding find_in
-found-begins A I a x e p f = go (either (in_area A I a))
+found_begins A I a x e p f = go (either (in_area A I a))
   where
     go : (in_area A I a ≡ true) ⊎ (in_area A I a ≡ false) → a < A.end
     go (inl t) = (area_true A I a t).1
-    go (inr t) = let w : found.Damaged ≡ found.At e p = sym (ap (find_in x) (chain-out A I (A.end - A.first) a t)) ∙ f in let z : ◌≡◌ {A = ℕ} 0 1 = cc in absurd (omega arith)
+    go (inr t) = let w : found.Damaged ≡ found.At e p = sym (ap (find_in x) (chain_out A I (A.end - A.first) a t)) ∙ f in let z : ◌≡◌ {A = ℕ} 0 1 = cc in absurd (omega arith)
 
 -- The entry stands in a block of the data and ends there, in a directory of the data.
 pub record Removable (g : Geo) (I : List ℕ) (d : Doomed) : Type 0 where
   pub begins : d.dir < g.n
   pub lies : Lies (area_of g) I d.entry d.place
 
-pub doomed-ready : (g : Geo) (I l : List ℕ) (d : Doomed) → DoomedBy g I l d → Removable g I d
-doomed-ready g I l d b =
-    let i = found-item (area_of g) I b.hold.dir (last_name l) d.entry d.place b.entry in
+pub doomed_ready : (g : Geo) (I l : List ℕ) (d : Doomed) → DoomedBy g I l d → Removable g I d
+doomed_ready g I l d b =
+    let i = found_item (area_of g) I b.hold.dir (last_name l) d.entry d.place b.entry in
     let t = slot_stands (block_size g) I d.place.block.0 d.place.offset d.entry i.stands in
-    let k = found-begins (area_of g) I b.hold.dir (last_name l) d.entry d.place b.entry in
+    let k = found_begins (area_of g) I b.hold.dir (last_name l) d.entry d.place b.entry in
     record {
       begins = omega (arith, b.dir);
       lies = record { from = i.from; below = i.below; ends = t.ends };

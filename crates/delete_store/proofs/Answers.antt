@@ -13,7 +13,7 @@ use Rattle.block.specs.Block.{next, linked}
 use Rattle.model.specs.Geometry.{block_size, data_at}
 use Rattle.super_block.specs.declared.SuperBlock.{SuperBlock}
 use Rattle.super_block.specs.Super.{geo_of, Fit}
-use Rattle.super_block.proofs.Fits.{fit-long, fit-inside}
+use Rattle.super_block.proofs.Fits.{fit_long, fit_inside}
 use Rattle.dir_entry.specs.declared.DirEntry.{DirEntry}
 use Rattle.dir_entry.specs.Entry.{header, place_at}
 use Rattle.read_dir.specs.declared.Place.{Place}
@@ -25,27 +25,27 @@ use Rattle.delete_store.specs.Delete.{after, cut_out, before_from, unlinked, les
 
 -- ---- what calls ask
 
-pub own-still : (B : ℕ) (I J L : List ℕ) (o : Own) → OwnIn B I o → length J ≡ length I → length L ≡ length J → OwnIn B L o
-own-still B I J L Root h e f = tt
-own-still B I J L (At p) h e f = (omega (arith, h.0), h.1)
+pub own_still : (B : ℕ) (I J L : List ℕ) (o : Own) → OwnIn B I o → length J ≡ length I → length L ≡ length J → OwnIn B L o
+own_still B I J L Root h e f = tt
+own_still B I J L (At p) h e f = (omega (arith, h.0), h.1)
 
 pub fit_twice : (s : SuperBlock) (I J L : List ℕ) → Fit s I → length J ≡ length I → length L ≡ length J → Fit s L
-fit_twice s I J L f d e = fit-long (e ∙ d) f
+fit_twice s I J L f d e = fit_long (e ∙ d) f
 
 -- the data bytes of a block of the volume are in the image
-pub bare-inside : (s : SuperBlock) (I : List ℕ) (at b : ℕ) → Fit s I → at ≡ place_at s.size b 0 → b < s.blocks
+pub bare_inside : (s : SuperBlock) (I : List ℕ) (at b : ℕ) → Fit s I → at ≡ place_at s.size b 0 → b < s.blocks
     → at + (s.size - 4) ≤ length I
-bare-inside s I at b f e h = omega (arith, f.known.least, fit-inside s I I b b f refl refl h)
+bare_inside s I at b f e h = omega (arith, f.known.least, fit_inside s I I b b f refl refl h)
 
 -- ---- the block before: what is left to walk is what was to be walked
 
 module _ (B n : ℕ) (I : List ℕ) (left a b r : ℕ) (v : before_from B n I left a b ≡ r) where
-  pub before-end : left ≤ 0 → a ≡ r
+  pub before_end : left ≤ 0 → a ≡ r
   unfolding before_from
-  before-end h = let e : left ≡ 0 = omega arith in sym (ap (λ (k : ℕ). before_from B n I k a b) e) ∙ v
+  before_end h = let e : left ≡ 0 = omega arith in sym (ap (λ (k : ℕ). before_from B n I k a b) e) ∙ v
 
-  step-before : 0 < left → before_from B n I left a b ≡ before_from B n I (suc (left - 1)) a b
-  step-before h = let e : left ≡ suc (left - 1) = omega arith in ap (λ (k : ℕ). before_from B n I k a b) e
+  step_before : 0 < left → before_from B n I left a b ≡ before_from B n I (suc (left - 1)) a b
+  step_before h = let e : left ≡ suc (left - 1) = omega arith in ap (λ (k : ℕ). before_from B n I k a b) e
 
   module _ (more : 0 < left) (d c to : ℕ) (x : to ≡ next d I c) (k : d ≡ B) (y : c ≡ a) where
     reads : next B I a ≡ to
@@ -53,19 +53,19 @@ module _ (B n : ℕ) (I : List ℕ) (left a b r : ℕ) (v : before_from B n I le
 
     pub before_here : to ≡ b → a ≡ r
     unfolding before_from
-    before_here e = sym (step-before more ∙ pick_true _ _ (eq-eqb (next B I a) b (reads ∙ e))) ∙ v
+    before_here e = sym (step_before more ∙ pick_true _ _ (eq-eqb (next B I a) b (reads ∙ e))) ∙ v
 
-    pub before-out : (to ≡ b → ⊥) → n ≤ to → a ≡ r
+    pub before_out : (to ≡ b → ⊥) → n ≤ to → a ≡ r
     unfolding before_from
-    before-out e h =
-        sym (step-before more ∙ pick_false _ _ (ne_eqb (next B I a) b (λ w. e (sym reads ∙ w)))
+    before_out e h =
+        sym (step_before more ∙ pick_false _ _ (ne_eqb (next B I a) b (λ w. e (sym reads ∙ w)))
         ∙ pick_true _ _ (le-leb n (next B I a) (omega (arith, reads)))) ∙ v
 
     pub before_more : (to ≡ b → ⊥) → to < n → before_from B n I (left - 1) to b ≡ r
     unfolding before_from
     before_more e h =
         ap (λ (z : ℕ). before_from B n I (left - 1) z b) (sym reads)
-        ∙ sym (step-before more ∙ pick_false _ _ (ne_eqb (next B I a) b (λ w. e (sym reads ∙ w)))
+        ∙ sym (step_before more ∙ pick_false _ _ (ne_eqb (next B I a) b (λ w. e (sym reads ∙ w)))
         ∙ pick_false _ _ (lt-leb n (next B I a) (omega (arith, reads)))) ∙ v
 
 -- ---- a block that is emptied
@@ -83,9 +83,9 @@ unlink_is s I J L dir b to last k a m c f x u y z v w j l =
     l ∙ ap (λ (K : List ℕ). released (geo_of s) K b) (j ∙ (λ i. linked ((v ∙ f.size) i) I ((w ∙ p) i) (q i)))
 
 module _ (s : SuperBlock) (I : List ℕ) (dir b : ℕ) where
-  pub bare-first : b ≡ dir → I ≡ less_bare (geo_of s) I dir b
+  pub bare_first : b ≡ dir → I ≡ less_bare (geo_of s) I dir b
   unfolding less_bare
-  bare-first e = sym (pick_true _ _ (eq-eqb b dir e))
+  bare_first e = sym (pick_true _ _ (eq-eqb b dir e))
 
   module _ (f : Fit s I) (at : ℕ) (r : Bool) (n : b ≡ dir → ⊥) (p : at ≡ place_at s.size b 0)
       (q : r ≡ zero_from I at (s.size - 4)) where
@@ -94,28 +94,28 @@ module _ (s : SuperBlock) (I : List ℕ) (dir b : ℕ) where
         let z : place_at s.size b 0 ≡ s.size * b + 4 = omega arith in
         sym (q ∙ ap (λ (x : ℕ). zero_from I x (s.size - 4)) (p ∙ z) ∙ ap (λ (B : ℕ). zero_from I (B * b + 4) (B - 4)) f.size)
 
-    pub bare-kept : r ≡ false → I ≡ less_bare (geo_of s) I dir b
+    pub bare_kept : r ≡ false → I ≡ less_bare (geo_of s) I dir b
     unfolding less_bare
-    bare-kept e = sym (pick_false _ _ (ne_eqb b dir n) ∙ pick_false _ _ (tested ∙ e))
+    bare_kept e = sym (pick_false _ _ (ne_eqb b dir n) ∙ pick_false _ _ (tested ∙ e))
 
-    pub bare-gone : r ≡ true → (J : List ℕ) → J ≡ unlinked (geo_of s) I dir b → J ≡ less_bare (geo_of s) I dir b
+    pub bare_gone : r ≡ true → (J : List ℕ) → J ≡ unlinked (geo_of s) I dir b → J ≡ less_bare (geo_of s) I dir b
     unfolding less_bare
-    bare-gone e J h = h ∙ sym (pick_false _ _ (ne_eqb b dir n) ∙ pick_true _ _ (tested ∙ e))
+    bare_gone e J h = h ∙ sym (pick_false _ _ (ne_eqb b dir n) ∙ pick_true _ _ (tested ∙ e))
 
 -- ---- the whole
 
 -- the bytes that move down and the zeros behind them, as code stores them
-pub cut-is : (B : ℕ) (I J L : List ℕ) (a o w at : ℕ) → at ≡ place_at B a o → J ≡ splice I at (take (after B o w) (drop (at + w) I))
+pub cut_is : (B : ℕ) (I J L : List ℕ) (a o w at : ℕ) → at ≡ place_at B a o → J ≡ splice I at (take (after B o w) (drop (at + w) I))
     → L ≡ splice J (at + after B o w) (zeros w) → L ≡ cut_out B I a o w
 unfolding cut_out
-cut-is B I J L a o w at e h k =
+cut_is B I J L a o w at e h k =
     k ∙ ap (λ (K : List ℕ). splice K (at + after B o w) (zeros w)) h
     ∙ ap (λ (r : ℕ). splice (splice I r (take (after B o w) (drop (r + w) I))) (r + after B o w) (zeros w)) e
 
-pub gone-is : (s : SuperBlock) (I J L : List ℕ) (dir : ℕ) (e : DirEntry) (p : Place) → Fit s I
+pub gone_is : (s : SuperBlock) (I J L : List ℕ) (dir : ℕ) (e : DirEntry) (p : Place) → Fit s I
     → J ≡ cut_out s.size I p.block.0 p.offset (18 + e.len) → L ≡ less_bare (geo_of s) J dir p.block.0 → L ≡ entry_gone (geo_of s) I dir e p
 unfolding entry_gone
-gone-is s I J L dir e p f x y =
+gone_is s I J L dir e p f x y =
     y ∙ ap (λ (K : List ℕ). less_bare (geo_of s) K dir p.block.0)
     (x ∙ ap (λ (B : ℕ). cut_out B I p.block.0 p.offset (header + e.len)) f.size)
 

@@ -10,32 +10,32 @@ use lib.ListN.{length, get_or, length-append}
 use borrow.Author.Tests.{eq-eqb, ne_eqb}
 use Rattle.wire.specs.Be.{bytes}
 use Rattle.wire.specs.Pick.{zero_from}
-use Rattle.wire.proofs.Numbers.{length-bytes}
+use Rattle.wire.proofs.Numbers.{length_bytes}
 use Rattle.wire.proofs.Picks.{either, pick_true, pick_false}
-use Rattle.wire.proofs.Zeros.{zeros-shown}
+use Rattle.wire.proofs.Zeros.{zeros_shown}
 use Rattle.block.specs.Block.{cell, Off, Kept}
 use Rattle.block.proofs.Blocks.{kept_less}
 use Rattle.model.specs.Tree.{Name, Entry, Block, Below, Tree, weight, used, delete}
 use Rattle.model.specs.Render.{View, blocks_at, padded, entry_bytes, entries_bytes, node_pieces, entry_pieces, dir_pieces, view, render, ats, count, blocks, Shows, ShowsAll}
 use Rattle.model.specs.Geometry.{Geo, block_size}
 use Rattle.model.specs.Volume.{All, GoodEntry, GoodBlock, GoodBelow}
-use Rattle.model.proofs.Alike.{length-entry}
+use Rattle.model.proofs.Alike.{length_entry}
 use Rattle.model.proofs.Areas.{size_large, block_inside}
-use Rattle.model.proofs.Commit.{shows-two, cut-length}
-use Rattle.model.proofs.Counts.{count_same, count_none, count-is}
-use Rattle.model.proofs.Cuts.{Cut, dir-split, entries-split, bytes-split, up_to, bytes-both, pieces-both}
+use Rattle.model.proofs.Commit.{shows_two, cut_length}
+use Rattle.model.proofs.Counts.{count_same, count_none, count_is}
+use Rattle.model.proofs.Cuts.{Cut, dir_split, entries_split, bytes_split, up_to, bytes_both, pieces_both}
 use Rattle.model.proofs.Entries.{block_reads}
-use Rattle.model.proofs.Frame.{shows-right, cut-count, cut-shows, cut-old, cut-new}
-use Rattle.model.proofs.Full.{whole-tree, length-entries}
-use Rattle.model.proofs.Good.{good-delete}
+use Rattle.model.proofs.Frame.{shows_right, cut_count, cut_shows, cut_old, cut_new}
+use Rattle.model.proofs.Full.{whole_tree, length_entries}
+use Rattle.model.proofs.Good.{good_delete}
 use Rattle.model.proofs.Lists.{all_mid}
 use Rattle.dir_entry.specs.Entry.{header}
 use Rattle.dir_entry.specs.Shown.{head_of}
-use Rattle.dir_entry.proofs.Shown.{head-weight}
+use Rattle.dir_entry.proofs.Shown.{head_weight}
 use Rattle.thm_walk.specs.Shown.{spot_of}
 use Rattle.thm_walk.proofs.Parts.{Part}
 use Rattle.delete_store.specs.Delete.{cut_out, less_bare, entry_gone}
-use Rattle.delete_store.proofs.Moved.{cut-kept, cut-shown}
+use Rattle.delete_store.proofs.Moved.{cut_kept, cut_shown}
 use Rattle.delete_store.proofs.Sites.{Stays}
 
 -- ---- what an image W has to show, once an entry of the directory s is out and nothing is given back yet: u is the directory without it, `bare` its block
@@ -55,16 +55,16 @@ pub record Without (g : Geo) (I W : List ℕ) (d : ℕ) (s u : Tree d) (bare gon
 
 module _ {X : Type 0} (B : ℕ) (v : View X) where
   -- A directory's pieces, by those of one of its blocks.
-  pub dir-block : (xs : List (Block X)) (a : ℕ) (es : List (Entry X)) (ys : List (Block X))
+  pub dir_block_lem : (xs : List (Block X)) (a : ℕ) (es : List (Entry X)) (ys : List (Block X))
       → dir_pieces B v (xs ++ (record { at = a; entries = es } ∷ ys))
       ≡ up_to B v a xs ++ (record { at = a; full = bytes 4 (blocks_at ys) ++ padded (B - 4) (entries_bytes v es) } ∷ (entry_pieces v es ++ dir_pieces B v ys))
   unfolding dir_pieces
-  dir-block xs a es ys = dir-split B v xs (record { at = a; entries = es }) ys
+  dir_block_lem xs a es ys = dir_split B v xs (record { at = a; entries = es }) ys
 
   -- One entry out of a block, as a cut: its bytes become none, and so do its pieces.
-  out-cut : (n : Name) (e : Entry X) (bs : List (Block X)) (s : Stays n e bs)
+  out_cut : (n : Name) (e : Entry X) (bs : List (Block X)) (s : Stays n e bs)
       → Cut B (dir_pieces B v bs) (dir_pieces B v (delete n bs)) (node_pieces v e.node) [] (B * s.at + 4 + used s.left) (entry_bytes v e) []
-  out-cut n e bs s = record {
+  out_cut n e bs s = record {
     before = up_to B v s.at s.front;
     between = entry_pieces v s.left;
     after = entry_pieces v s.right ++ dir_pieces B v s.later;
@@ -72,11 +72,11 @@ module _ {X : Type 0} (B : ℕ) (v : View X) where
     next = blocks_at s.later;
     low = entries_bytes v s.left;
     high = entries_bytes v s.right;
-    old = ap (dir_pieces B v) s.is ∙ dir-block s.front s.at (s.left ++ (e ∷ s.right)) s.later
-        ∙ rw (bytes-split B v s.left e s.right, entries-split B v s.left e s.right) (simp append_assoc);
-    new = ap (dir_pieces B v) s.gone ∙ dir-block s.front s.at (s.left ++ s.right) s.later
-        ∙ rw (bytes-both B v s.left s.right, pieces-both B v s.left s.right) (simp append_assoc);
-    stands = ap (λ (z : ℕ). B * s.at + 4 + z) (sym (length-entries v s.left));
+    old = ap (dir_pieces B v) s.is ∙ dir_block_lem s.front s.at (s.left ++ (e ∷ s.right)) s.later
+        ∙ rw (bytes_split B v s.left e s.right, entries_split B v s.left e s.right) (simp append_assoc);
+    new = ap (dir_pieces B v) s.gone ∙ dir_block_lem s.front s.at (s.left ++ s.right) s.later
+        ∙ rw (bytes_both B v s.left s.right, pieces_both B v s.left s.right) (simp append_assoc);
+    stands = ap (λ (z : ℕ). B * s.at + 4 + z) (sym (length_entries v s.left));
   }
 
 -- one block was stored to
@@ -104,27 +104,27 @@ module _ (g : Geo) (I : List ℕ) (d : ℕ) (s : Tree d) (part : Part g I d s) (
 
   out : Cut (block_size g) (dir_pieces (block_size g) shows s) (dir_pieces (block_size g) shows (delete n s)) (node_pieces shows e.node) []
       (block_size g * st.at + 4 + used st.left) (entry_bytes shows e) []
-  out = out-cut (block_size g) shows n e s st
+  out = out_cut (block_size g) shows n e s st
 
   -- the bytes of its entries
-  low-long : length (entries_bytes shows st.left) ≡ used st.left
-  low-long = length-entries shows st.left
+  low_long : length (entries_bytes shows st.left) ≡ used st.left
+  low_long = length_entries shows st.left
 
   long : length (entries_bytes shows st.left ++ (entry_bytes shows e ++ entries_bytes shows st.right)) ≤ block_size g - 5
   long =
       omega (
         arith,
-        ap length (bytes-split (block_size g) shows st.left e st.right),
-        length-entries shows (st.left ++ (e ∷ st.right)),
+        ap length (bytes_split (block_size g) shows st.left e st.right),
+        length_entries shows (st.left ++ (e ∷ st.right)),
         held.fits,
       )
 
   room : used st.left + weight e ≤ block_size g - 5
-  room = omega (arith, low-long, length-entry shows e, simp length-append at long)
+  room = omega (arith, low_long, length_entry shows e, simp length-append at long)
 
   among : 1 ≤ count st.at (ats (dir_pieces (block_size g) shows s))
-  unfolding out out-cut
-  among = cut-old _ _ _ _ _ _ _ _ out
+  unfolding out out_cut
+  among = cut_old _ _ _ _ _ _ _ _ out
 
   in_image : block_size g * st.at + block_size g ≤ length I
   unfolding render
@@ -134,30 +134,30 @@ module _ (g : Geo) (I : List ℕ) (d : ℕ) (s : Tree d) (part : Part g I d s) (
   pub stayed : List ℕ
   stayed = cut_out (block_size g) I st.at (used st.left) (weight e)
 
-  stayed-kept : Kept (block_size g) (Off st.at 4 (block_size g - 4)) I stayed
+  stayed_kept : Kept (block_size g) (Off st.at 4 (block_size g - 4)) I stayed
   unfolding stayed
-  stayed-kept = cut-kept (block_size g) I st.at (used st.left) (weight e) (omega (arith, room)) (omega (arith, size_large g)) in_image
+  stayed_kept = cut_kept (block_size g) I st.at (used st.left) (weight e) (omega (arith, room)) (omega (arith, size_large g)) in_image
 
-  stayed-block : Shows stayed (block_size g * st.at) (bytes 4 (blocks_at st.later) ++ padded (block_size g - 4) (entries_bytes shows st.left ++ entries_bytes shows st.right))
-  unfolding stayed render out out-cut
-  stayed-block =
-      cut-shown (block_size g) I st.at (used st.left) (weight e) (omega (arith, room)) (omega (arith, size_large g)) in_image (blocks_at st.later)
-      (entries_bytes shows st.left) (entry_bytes shows e) (entries_bytes shows st.right) low-long (length-entry shows e) (omega (arith, long))
-      (shows-right (block_size g) I out.before _ (subst (ShowsAll (block_size g) I) out.old part.stored.shown)).0
+  stayed_block : Shows stayed (block_size g * st.at) (bytes 4 (blocks_at st.later) ++ padded (block_size g - 4) (entries_bytes shows st.left ++ entries_bytes shows st.right))
+  unfolding stayed render out out_cut
+  stayed_block =
+      cut_shown (block_size g) I st.at (used st.left) (weight e) (omega (arith, room)) (omega (arith, size_large g)) in_image (blocks_at st.later)
+      (entries_bytes shows st.left) (entry_bytes shows e) (entries_bytes shows st.right) low_long (length_entry shows e) (omega (arith, long))
+      (shows_right (block_size g) I out.before _ (subst (ShowsAll (block_size g) I) out.old part.stored.shown)).0
 
-  pub stays-without : Without g I stayed d s (delete n s) [] (ats (node_pieces shows e.node))
-  unfolding render ats cell out out-cut
-  stays-without =
+  pub stays_without : Without g I stayed d s (delete n s) [] (ats (node_pieces shows e.node))
+  unfolding render ats cell out out_cut
+  stays_without =
       let B : ℕ = block_size g in
       record {
         touched = st.at ∷ [];
-        kept = kept_less (λ b o h q x y. one_only b st.at h q) stayed-kept;
-        among = λ i h. subst (λ (j : ℕ). 1 ≤ count j (ats (dir_pieces B shows s))) (sym (count-is i st.at h)) among;
-        seen = λ i h. subst (λ (j : ℕ). 1 ≤ count j (ats (dir_pieces B shows (delete n s))) + count j []) (sym (count-is i st.at h)) (omega (arith, cut-new _ _ _ _ _ _ _ _ out));
-        shown = cut-shows B _ _ _ _ _ _ _ out I stayed (whole-tree B (omega (arith, size_large g)) d s part.good) part.stored.once part.stored.shown
-            (λ b h k q i l. stayed-kept.at b i (λ x _ _. q x) l) stayed-block tt;
-        counts = λ i. omega (arith, cut-count B _ _ _ _ _ _ _ out i, count_none i);
-        long = omega (arith, cut-length B _ _ _ _ _ _ _ out);
+        kept = kept_less (λ b o h q x y. one_only b st.at h q) stayed_kept;
+        among = λ i h. subst (λ (j : ℕ). 1 ≤ count j (ats (dir_pieces B shows s))) (sym (count_is i st.at h)) among;
+        seen = λ i h. subst (λ (j : ℕ). 1 ≤ count j (ats (dir_pieces B shows (delete n s))) + count j []) (sym (count_is i st.at h)) (omega (arith, cut_new _ _ _ _ _ _ _ _ out));
+        shown = cut_shows B _ _ _ _ _ _ _ out I stayed (whole_tree B (omega (arith, size_large g)) d s part.good) part.stored.once part.stored.shown
+            (λ b h k q i l. stayed_kept.at b i (λ x _ _. q x) l) stayed_block tt;
+        counts = λ i. omega (arith, cut_count B _ _ _ _ _ _ _ out i, count_none i);
+        long = omega (arith, cut_length B _ _ _ _ _ _ _ out);
       }
 
   -- it is not all zero, where it keeps an entry
@@ -167,27 +167,27 @@ module _ (g : Geo) (I : List ℕ) (d : ℕ) (s : Tree d) (part : Part g I d s) (
       kept : GoodBlock (block_size g) (GoodBelow (block_size g) d) (record { at = st.at; entries = st.left ++ st.right })
       kept =
           all_mid (GoodBlock (block_size g) (GoodBelow (block_size g) d)) st.front _ st.later
-          (subst (All (GoodBlock (block_size g) (GoodBelow (block_size g) d))) st.gone (good-delete n (block_size g) (GoodBelow (block_size g) d) s part.good).all)
+          (subst (All (GoodBlock (block_size g) (GoodBelow (block_size g) d))) st.gone (good_delete n (block_size g) (GoodBelow (block_size g) d) s part.good).all)
 
       four : block_size g * st.at + length (bytes 4 (blocks_at st.later)) ≡ block_size g * st.at + 4
-      four = omega (arith, length-bytes 4 (blocks_at st.later))
+      four = omega (arith, length_bytes 4 (blocks_at st.later))
 
       data_shown : Shows stayed (block_size g * st.at + 4) (padded (block_size g - 4) (entries_bytes shows (st.left ++ st.right)))
       data_shown =
-          subst (λ (l : List ℕ). Shows stayed (block_size g * st.at + 4) (padded (block_size g - 4) l)) (sym (bytes-both (block_size g) shows st.left st.right))
+          subst (λ (l : List ℕ). Shows stayed (block_size g * st.at + 4) (padded (block_size g - 4) l)) (sym (bytes_both (block_size g) shows st.left st.right))
           (subst (λ (j : ℕ). Shows stayed j (padded (block_size g - 4) (entries_bytes shows st.left ++ entries_bytes shows st.right))) four
-          (shows-two stayed (block_size g * st.at) (bytes 4 (blocks_at st.later)) _ stayed-block))
+          (shows_two stayed (block_size g * st.at) (bytes 4 (blocks_at st.later)) _ stayed_block))
 
       go : (zero_from stayed (block_size g * st.at + 4) (block_size g - 4) ≡ true) ⊎ (zero_from stayed (block_size g * st.at + 4) (block_size g - 4) ≡ false)
           → zero_from stayed (block_size g * st.at + 4) (block_size g - 4) ≡ false
       go (inr f) = f
       go (inl t) =
           absurd (named (block_size g) (GoodBelow (block_size g) d) shows stayed (block_size g * st.at + 4) (block_size g - 4) (st.left ++ st.right) h kept.each data_shown
-          (zeros-shown stayed (block_size g * st.at + 4) (block_size g - 4) t 17 (omega (arith, size_large g))))
+          (zeros_shown stayed (block_size g * st.at + 4) (block_size g - 4) t 17 (omega (arith, size_large g))))
 
-  same-less : less_bare g stayed (blocks_at s) st.at ≡ stayed
+  same_less : less_bare g stayed (blocks_at s) st.at ≡ stayed
   unfolding less_bare
-  same-less = go st.why (ℕ_discrete st.at (blocks_at s))
+  same_less = go st.why (ℕ_discrete st.at (blocks_at s))
     where
       go : (blocks_at s ≡ st.at) ⊎ (1 ≤ length (st.left ++ st.right)) → Dec (st.at ≡ blocks_at s) → less_bare g stayed (blocks_at s) st.at ≡ stayed
       go w (yes q) = pick_true _ _ (eq-eqb st.at (blocks_at s) q)
@@ -195,10 +195,10 @@ module _ (g : Geo) (I : List ℕ) (d : ℕ) (s : Tree d) (part : Part g I d s) (
       go (inr w) (no q) = pick_false _ _ (ne_eqb st.at (blocks_at s) q) ∙ pick_false _ _ (not_bare w)
 
   -- That is the image that the stores make.
-  pub stays-is : entry_gone g I (blocks_at s) (head_of shows e) (spot_of n s) ≡ stayed
+  pub stays_is : entry_gone g I (blocks_at s) (head_of shows e) (spot_of n s) ≡ stayed
   unfolding entry_gone stayed
-  stays-is =
-      let w : header + (head_of shows e).len ≡ weight e = omega (arith, head-weight shows 0 e) in
+  stays_is =
+      let w : header + (head_of shows e).len ≡ weight e = omega (arith, head_weight shows 0 e) in
       ap (entry_gone g I (blocks_at s) (head_of shows e)) st.spot
       ∙ ap (λ (k : ℕ). less_bare g (cut_out (block_size g) I st.at (used st.left) k) (blocks_at s) st.at) w
-      ∙ (unfold stayed in same-less)
+      ∙ (unfold stayed in same_less)

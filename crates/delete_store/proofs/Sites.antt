@@ -10,8 +10,8 @@ use lib.ListN.{length}
 use Rattle.wire.proofs.Picks.{either, pick_true, pick_false}
 use Rattle.model.specs.Tree.{Name, Entry, Block, first, less_first, then, called, holds, lookup, weight, used, unless_bare, delete_later, delete}
 use Rattle.model.specs.Render.{blocks_at, offset}
-use Rattle.model.proofs.Lists.{not_some, first-here, first-there, less_first-here, less_first-there}
-use Rattle.model.proofs.Others.{lookup-here, lookup-there}
+use Rattle.model.proofs.Lists.{not_some, first_here, first_there, less_first_here, less_first_there}
+use Rattle.model.proofs.Others.{lookup_here, lookup_there}
 use Rattle.model.proofs.Dirs.{not_bare}
 use Rattle.read_dir.specs.Finds.{placed}
 use Rattle.thm_walk.specs.Shown.{spot_of}
@@ -32,22 +32,22 @@ module _ {X : Type 0} (n : Name) (e : Entry X) where
     where
       go : (called n x ≡ true) ⊎ (called n x ≡ false) → (first (called n) es ≡ some e → Among es) → Among (x ∷ es)
       go (inl c) r =
-          let both : some x ≡ some e = sym (first-here (called n) x es c) ∙ f in
+          let both : some x ≡ some e = sym (first_here (called n) x es c) ∙ f in
           let k : x ≡ e = cc in
           record {
             left = [];
             right = es;
             is = ap (λ (z : Entry X). z ∷ es) k;
-            less = less_first-here (called n) x es c;
+            less = less_first_here (called n) x es c;
             place = pick_true 0 (weight x + offset n es) c;
           }
       go (inr c) r =
-          let s = r (sym (first-there (called n) x es c) ∙ f) in
+          let s = r (sym (first_there (called n) x es c) ∙ f) in
           record {
             left = x ∷ s.left;
             right = s.right;
             is = ap (λ (l : List (Entry X)). x ∷ l) s.is;
-            less = less_first-there (called n) x es c ∙ ap (λ (l : List (Entry X)). x ∷ l) s.less;
+            less = less_first_there (called n) x es c ∙ ap (λ (l : List (Entry X)). x ∷ l) s.less;
             place = pick_false 0 (weight x + offset n es) c ∙ ap (λ (z : ℕ). weight x + z) s.place;
           }
 
@@ -72,7 +72,7 @@ module _ {X : Type 0} (n : Name) (e : Entry X) where
     where
       go : (holds n b ≡ true) ⊎ (holds n b ≡ false) → (lookup n bs ≡ some e → Later bs) → Later (b ∷ bs)
       go (inl c) r =
-          let s = among b.entries (sym (lookup-here n b bs c) ∙ l) in
+          let s = among b.entries (sym (lookup_here n b bs c) ∙ l) in
           record {
             earlier = [];
             at = b.at;
@@ -84,7 +84,7 @@ module _ {X : Type 0} (n : Name) (e : Entry X) where
             gone = pick_true _ _ c ∙ ap (λ (es : List (Entry X)). unless_bare b.at es bs) s.less;
           }
       go (inr c) r =
-          let s = r (sym (lookup-there n b bs c) ∙ l) in
+          let s = r (sym (lookup_there n b bs c) ∙ l) in
           record {
             earlier = b ∷ s.earlier;
             at = s.at;
@@ -125,8 +125,8 @@ module _ {X : Type 0} (n : Name) (e : Entry X) where
       let r = last_of c bs in
       (b ∷ r.0, r.1, ap (λ (z : List (Block X)). b ∷ z) r.2)
 
-  split-last : (b : Block X) (bs ys : List (Block X)) (r : (front : List (Block X)) × (p : Block X) × (b ∷ bs ≡ front ++ (p ∷ []))) → b ∷ (bs ++ ys) ≡ r.0 ++ (r.1 ∷ ys)
-  split-last b bs ys r = ap (λ (z : List (Block X)). z ++ ys) r.2 ∙ append_assoc r.0 (r.1 ∷ []) ys
+  split_last : (b : Block X) (bs ys : List (Block X)) (r : (front : List (Block X)) × (p : Block X) × (b ∷ bs ≡ front ++ (p ∷ []))) → b ∷ (bs ++ ys) ≡ r.0 ++ (r.1 ∷ ys)
+  split_last b bs ys r = ap (λ (z : List (Block X)). z ++ ys) r.2 ∙ append_assoc r.0 (r.1 ∷ []) ys
 
   none_left : (l r : List (Entry X)) → l ++ r ≡ [] → (l ≡ []) × (r ≡ [])
   none_left [] r h = (refl, h)
@@ -141,10 +141,10 @@ module _ {X : Type 0} (n : Name) (e : Entry X) where
   no_block a ys = refl
 
   -- One of the two.
-  pub delete-site : (bs : List (Block X)) → lookup n bs ≡ some e → Stays bs ⊎ Goes bs
+  pub delete_site : (bs : List (Block X)) → lookup n bs ≡ some e → Stays bs ⊎ Goes bs
   unfolding lookup first then spot_of delete blocks_at block
-  delete-site [] l = absurd (not_some refl l)
-  delete-site (b ∷ bs) l = go (either (holds n b))
+  delete_site [] l = absurd (not_some refl l)
+  delete_site (b ∷ bs) l = go (either (holds n b))
     where
       after_first : holds n b ≡ false → (s : Later bs) → (m : List (Entry X)) → s.left ++ s.right ≡ m → Stays (b ∷ bs) ⊎ Goes (b ∷ bs)
       after_first c s [] q =
@@ -158,9 +158,9 @@ module _ {X : Type 0} (n : Name) (e : Entry X) where
             at = s.at;
             later = s.later;
             is = ap (λ (y : List (Block X)). b ∷ y) (s.is ∙ ap (λ (es : List (Entry X)). s.earlier ++ (block s.at es ∷ s.later)) one)
-                ∙ split-last b s.earlier (block s.at (e ∷ []) ∷ s.later) r;
+                ∙ split_last b s.earlier (block s.at (e ∷ []) ∷ s.later) r;
             spot = pick_false _ _ c ∙ s.spot ∙ ap (λ (es : List (Entry X)). placed s.at (used es)) z.0 ∙ ap (placed s.at) no_bytes;
-            gone = pick_false _ _ c ∙ ap (λ (y : List (Block X)). b ∷ y) (s.gone ∙ ap (λ (y : List (Block X)). s.earlier ++ y) none) ∙ split-last b s.earlier s.later r;
+            gone = pick_false _ _ c ∙ ap (λ (y : List (Block X)). b ∷ y) (s.gone ∙ ap (λ (y : List (Block X)). s.earlier ++ y) none) ∙ split_last b s.earlier s.later r;
           })
       after_first c s (x ∷ m) q =
           inl (record {
@@ -177,7 +177,7 @@ module _ {X : Type 0} (n : Name) (e : Entry X) where
 
       go : (holds n b ≡ true) ⊎ (holds n b ≡ false) → Stays (b ∷ bs) ⊎ Goes (b ∷ bs)
       go (inl c) =
-          let s = among b.entries (sym (lookup-here n b bs c) ∙ l) in
+          let s = among b.entries (sym (lookup_here n b bs c) ∙ l) in
           inl (record {
             front = [];
             at = b.at;
@@ -189,4 +189,4 @@ module _ {X : Type 0} (n : Name) (e : Entry X) where
             gone = pick_true _ _ c ∙ ap (λ (es : List (Entry X)). block b.at es ∷ bs) s.less;
             why = inl refl;
           })
-      go (inr c) = let s = in_later bs (sym (lookup-there n b bs c) ∙ l) in after_first c s (s.left ++ s.right) refl
+      go (inr c) = let s = in_later bs (sym (lookup_there n b bs c) ∙ l) in after_first c s (s.left ++ s.right) refl

@@ -7,18 +7,18 @@ use native.Mathlib.Decide.{dec_lt}
 use native.Mathlib.Omega.{arith}
 use lib.ListN.{length, get_or}
 use Rattle.wire.specs.Be.{bytes}
-use Rattle.wire.proofs.Numbers.{length-bytes}
+use Rattle.wire.proofs.Numbers.{length_bytes}
 use Rattle.model.specs.Tree.{Node, file, device, sub, Entry, weight, used}
 use Rattle.model.specs.Render.{View, padded, kind_of, address_of, size_of, entry_bytes, entries_bytes, Shows}
 use Rattle.model.specs.Volume.{GoodName}
-use Rattle.model.proofs.Alike.{length-entry}
-use Rattle.model.proofs.Commit.{shows-one, shows-two}
-use Rattle.model.proofs.Entries.{block-ends}
+use Rattle.model.proofs.Alike.{length_entry}
+use Rattle.model.proofs.Commit.{shows_one, shows_two}
+use Rattle.model.proofs.Entries.{block_ends}
 use Rattle.model.proofs.Full.{padded-after}
 use Rattle.dir_entry.specs.declared.Slot.TheVariants as slot
 use Rattle.dir_entry.specs.Entry.{kind_byte, header, head_bytes, place_at, name_at, slot_at}
 use Rattle.dir_entry.specs.Shown.{kind_is, head_of}
-use Rattle.dir_entry.proofs.Heads.{length-head, slot_shown, name-shown}
+use Rattle.dir_entry.proofs.Heads.{length_head, slot_shown, name_shown}
 use Rattle.dir_entry.proofs.Slots.{stop_offset, stop_empty}
 
 -- ---- one entry
@@ -31,25 +31,25 @@ pub record Legible {X : Type 0} (v : View X) (e : Entry X) : Type 0 where
   pub size : size_of v e.node < 2 ^ 32
   pub time : e.time < 2 ^ 64
 
-kind-byte : {X : Type 0} (x : Node X) → kind_of x ≡ kind_byte (kind_is x)
+kind_byte_lem : {X : Type 0} (x : Node X) → kind_of x ≡ kind_byte (kind_is x)
 unfolding kind_of
-kind-byte (file z cs) = refl
-kind-byte (device z cs) = refl
-kind-byte (sub x) = refl
+kind_byte_lem (file z cs) = refl
+kind_byte_lem (device z cs) = refl
+kind_byte_lem (sub x) = refl
 
 -- An entry's bytes are those of its fixed part, and its name.
-pub entry-bytes : {X : Type 0} (v : View X) (e : Entry X) → entry_bytes v e ≡ head_bytes (head_of v e) ++ e.name
+pub entry_bytes_lem : {X : Type 0} (v : View X) (e : Entry X) → entry_bytes v e ≡ head_bytes (head_of v e) ++ e.name
 unfolding entry_bytes head_bytes head_of
-entry-bytes v e = rw (kind-byte e.node) (simp append_assoc)
+entry_bytes_lem v e = rw (kind_byte_lem e.node) (simp append_assoc)
 
 -- after the entry at o is the next one
-pub head-weight : {X : Type 0} (v : View X) (o : ℕ) (e : Entry X) → o + header + (head_of v e).len ≡ o + weight e
+pub head_weight : {X : Type 0} (v : View X) (o : ℕ) (e : Entry X) → o + header + (head_of v e).len ≡ o + weight e
 unfolding head_of weight
-head-weight v o e = omega arith
+head_weight v o e = omega arith
 
 -- so that the bound on a block's entries need not count them
-pub less-left : (B o f k : ℕ) → B - o ≤ suc f → 1 ≤ k → B - (o + k) ≤ f
-less-left B o f k h l = omega arith
+pub less_left : (B o f k : ℕ) → B - o ≤ suc f → 1 ≤ k → B - (o + k) ≤ f
+less_left B o f k h l = omega arith
 
 -- ---- one block
 
@@ -57,30 +57,30 @@ module _ {X : Type 0} (B : ℕ) (I : List ℕ) (v : View X) (a : ℕ) where
   -- its data, after the next address
   pub data_shown : (z : ℕ) (es : List (Entry X)) → Shows I (B * a) (bytes 4 z ++ padded (B - 4) (entries_bytes v es)) → Shows I (place_at B a 0) (padded (B - 4 - 0) (entries_bytes v es))
   data_shown z es s =
-      let x : B * a + length (bytes 4 z) ≡ place_at B a 0 = omega (arith, length-bytes 4 z) in
+      let x : B * a + length (bytes 4 z) ≡ place_at B a 0 = omega (arith, length_bytes 4 z) in
       let y : B - 4 ≡ B - 4 - 0 = omega arith in
       subst (λ (j : ℕ). Shows I (place_at B a 0) (padded j (entries_bytes v es))) y
-      (subst (λ (j : ℕ). Shows I j (padded (B - 4) (entries_bytes v es))) x (shows-two I (B * a) (bytes 4 z) (padded (B - 4) (entries_bytes v es)) s))
+      (subst (λ (j : ℕ). Shows I j (padded (B - 4) (entries_bytes v es))) x (shows_two I (B * a) (bytes 4 z) (padded (B - 4) (entries_bytes v es)) s))
 
   -- the entry at offset o, and those after it
-  pub first-shown : (o : ℕ) (e : Entry X) (es : List (Entry X)) → Shows I (place_at B a o) (padded (B - 4 - o) (entries_bytes v (e ∷ es)))
+  pub first_shown : (o : ℕ) (e : Entry X) (es : List (Entry X)) → Shows I (place_at B a o) (padded (B - 4 - o) (entries_bytes v (e ∷ es)))
       → Shows I (place_at B a o) (entry_bytes v e) × Shows I (place_at B a (o + weight e)) (padded (B - 4 - (o + weight e)) (entries_bytes v es))
   unfolding entries_bytes
-  first-shown o e es s =
+  first_shown o e es s =
       let p : Shows I (place_at B a o) (entry_bytes v e ++ padded (B - 4 - o - length (entry_bytes v e)) (entries_bytes v es))
       = subst (Shows I (place_at B a o)) (padded-after (B - 4 - o) (entry_bytes v e) (entries_bytes v es)) s in
-      let x : place_at B a o + length (entry_bytes v e) ≡ place_at B a (o + weight e) = omega (arith, length-entry v e) in
-      let y : B - 4 - o - length (entry_bytes v e) ≡ B - 4 - (o + weight e) = omega (arith, length-entry v e) in
-      (shows-one I (place_at B a o) (entry_bytes v e) _ p, rw (x, y) at (shows-two I (place_at B a o) (entry_bytes v e) _ p))
+      let x : place_at B a o + length (entry_bytes v e) ≡ place_at B a (o + weight e) = omega (arith, length_entry v e) in
+      let y : B - 4 - o - length (entry_bytes v e) ≡ B - 4 - (o + weight e) = omega (arith, length_entry v e) in
+      (shows_one I (place_at B a o) (entry_bytes v e) _ p, rw (x, y) at (shows_two I (place_at B a o) (entry_bytes v e) _ p))
 
   -- after the last entry every byte is zero,
   pub zero_at : (o : ℕ) → Shows I (place_at B a o) (padded (B - 4 - o) (entries_bytes v [])) → (j : ℕ) → j < B - 4 - o → get_or I (place_at B a o + j) 0 ≡ 0
   unfolding used
-  zero_at o s j i = block-ends v I (place_at B a o) (B - 4 - o) [] j s (omega arith) i
+  zero_at o s j i = block_ends v I (place_at B a o) (B - 4 - o) [] j s (omega arith) i
 
   -- and the entries stop
-  pub block-stops : (o : ℕ) → o ≤ B - 5 → Shows I (place_at B a o) (padded (B - 4 - o) (entries_bytes v [])) → slot_at B I a o ≡ slot.Stop
-  block-stops o h s = go (dec_lt o (B - 22))
+  pub block_stops : (o : ℕ) → o ≤ B - 5 → Shows I (place_at B a o) (padded (B - 4 - o) (entries_bytes v [])) → slot_at B I a o ≡ slot.Stop
+  block_stops o h s = go (dec_lt o (B - 22))
     where
       go : Dec (o < B - 22) → slot_at B I a o ≡ slot.Stop
       go (no q) = stop_offset B I a o (omega arith)
@@ -93,12 +93,12 @@ module _ {X : Type 0} (B : ℕ) (I : List ℕ) (v : View X) (a : ℕ) where
   unfolding weight head_of
   slot_is o e l h s =
       slot_shown B I a o (head_of v e) l.address l.size l.time l.good_name.some_bytes (omega arith)
-      (shows-one I (place_at B a o) (head_bytes (head_of v e)) e.name (subst (Shows I (place_at B a o)) (entry-bytes v e) s))
+      (shows_one I (place_at B a o) (head_bytes (head_of v e)) e.name (subst (Shows I (place_at B a o)) (entry_bytes_lem v e) s))
 
   -- and so is its name.
-  pub name-is : B * a + B ≤ length I → (o : ℕ) (e : Entry X) → o + weight e ≤ B - 5 → Shows I (place_at B a o) (entry_bytes v e) → name_at I (place_at B a o) (length e.name) ≡ e.name
+  pub name_is : B * a + B ≤ length I → (o : ℕ) (e : Entry X) → o + weight e ≤ B - 5 → Shows I (place_at B a o) (entry_bytes v e) → name_at I (place_at B a o) (length e.name) ≡ e.name
   unfolding weight
-  name-is inside o e h s =
-      name-shown I (place_at B a o) e.name (omega arith)
-      (subst (λ (k : ℕ). Shows I (place_at B a o + k) e.name) (length-head (head_of v e))
-      (shows-two I (place_at B a o) (head_bytes (head_of v e)) e.name (subst (Shows I (place_at B a o)) (entry-bytes v e) s)))
+  name_is inside o e h s =
+      name_shown I (place_at B a o) e.name (omega arith)
+      (subst (λ (k : ℕ). Shows I (place_at B a o + k) e.name) (length_head (head_of v e))
+      (shows_two I (place_at B a o) (head_bytes (head_of v e)) e.name (subst (Shows I (place_at B a o)) (entry_bytes_lem v e) s)))

@@ -46,21 +46,21 @@ module _ (B : ℕ) (I : List ℕ) (a o : ℕ) where
 
 -- as code has them: k is the block's capacity, `at` the entry's byte and n its length byte
 module _ (B : ℕ) (I : List ℕ) (a o k : ℕ) (c : k ≡ B - 4) where
-  pub code-offset : k - 18 ≤ o → Stop ≡ slot_at B I a o
-  code-offset h = sym (stop_offset B I a o (omega arith))
+  pub code_offset : k - 18 ≤ o → Stop ≡ slot_at B I a o
+  code_offset h = sym (stop_offset B I a o (omega arith))
 
   module _ (at n : ℕ) (e : at ≡ place_at B a o) (h : o < k - 18) where
-    pub code-kind : 2 < get_or I at 0 → Stop ≡ slot_at B I a o
-    code-kind l = sym (stop_kind B I a o (omega arith) (rw e at l))
+    pub code_kind : 2 < get_or I at 0 → Stop ≡ slot_at B I a o
+    code_kind l = sym (stop_kind B I a o (omega arith) (rw e at l))
 
-    pub code-empty : get_or I at 0 ≤ 2 → n ≡ get_or I (at + 17) 0 → n ≡ 0 → Stop ≡ slot_at B I a o
-    code-empty l f z = sym (stop_empty B I a o (omega arith) (rw e at l) (rw (f, e) at z))
+    pub code_empty : get_or I at 0 ≤ 2 → n ≡ get_or I (at + 17) 0 → n ≡ 0 → Stop ≡ slot_at B I a o
+    code_empty l f z = sym (stop_empty B I a o (omega arith) (rw e at l) (rw (f, e) at z))
 
-    pub code-long : get_or I at 0 ≤ 2 → n ≡ get_or I (at + 17) 0 → (n ≡ 0 → ⊥) → k - 1 < o + 18 + n → Stop ≡ slot_at B I a o
-    code-long l f z m = let m' : B - 5 < o + 18 + n = omega arith in sym (stop_long B I a o (omega arith) (rw e at l) (rw (f, e) at z) (rw (f, e) at m'))
+    pub code_long : get_or I at 0 ≤ 2 → n ≡ get_or I (at + 17) 0 → (n ≡ 0 → ⊥) → k - 1 < o + 18 + n → Stop ≡ slot_at B I a o
+    code_long l f z m = let m' : B - 5 < o + 18 + n = omega arith in sym (stop_long B I a o (omega arith) (rw e at l) (rw (f, e) at z) (rw (f, e) at m'))
 
-    pub code-entry : (r : DirEntry) → get_or I at 0 ≤ 2 → n ≡ get_or I (at + 17) 0 → (n ≡ 0 → ⊥) → o + 18 + n ≤ k - 1 → r ≡ entry_at I at → Entry r ≡ slot_at B I a o
-    code-entry r l f z m g =
+    pub code_entry : (r : DirEntry) → get_or I at 0 ≤ 2 → n ≡ get_or I (at + 17) 0 → (n ≡ 0 → ⊥) → o + 18 + n ≤ k - 1 → r ≡ entry_at I at → Entry r ≡ slot_at B I a o
+    code_entry r l f z m g =
         let m' : o + 18 + n ≤ B - 5 = omega arith in
         sym (slot_entry B I a o (omega arith) (rw e at l) (rw (f, e) at z) (rw (f, e) at m') ∙ ap Entry (sym (rw e at g)))
 
@@ -130,19 +130,19 @@ name_ext I J at n l h =
     rw (get_or-take n (drop (at + 18) J) i 0 m, get_or-take n (drop (at + 18) I) i 0 m, get_or-drop (at + 18) J i 0, get_or-drop (at + 18) I i 0) (h i m))
 
 module _ (B : ℕ) (P : ℕ → ℕ → Type 0) (I J : List ℕ) (k : Kept B P I J) (a : ℕ) where
-  kept-place : (o i : ℕ) → P a (4 + o + i) → 4 + o + i < B → get_or J (place_at B a o + i) 0 ≡ get_or I (place_at B a o + i) 0
+  kept_place : (o i : ℕ) → P a (4 + o + i) → 4 + o + i < B → get_or J (place_at B a o + i) 0 ≡ get_or I (place_at B a o + i) 0
   unfolding cell
-  kept-place o i p h =
+  kept_place o i p h =
       let e : place_at B a o + i ≡ B * a + (4 + o + i) = omega arith in
       rw e (k.at a (4 + o + i) p h)
 
   pub slot_kept : ((p : ℕ) → p < B → P a p) → (o : ℕ) → slot_at B J a o ≡ slot_at B I a o
-  slot_kept f o = slot_ext B I J a o (λ l i q. kept-place o i (f (4 + o + i) (omega arith)) (omega arith))
+  slot_kept f o = slot_ext B I J a o (λ l i q. kept_place o i (f (4 + o + i) (omega arith)) (omega arith))
 
   -- And the name of n bytes after it.
-  pub name-kept : (o n : ℕ) → o + 18 + n ≤ B - 5 → ((p : ℕ) → 4 + o + 18 ≤ p → p < 4 + o + 18 + n → P a p) → name_at J (place_at B a o) n ≡ name_at I (place_at B a o) n
-  name-kept o n h f =
+  pub name_kept : (o n : ℕ) → o + 18 + n ≤ B - 5 → ((p : ℕ) → 4 + o + 18 ≤ p → p < 4 + o + 18 + n → P a p) → name_at J (place_at B a o) n ≡ name_at I (place_at B a o) n
+  name_kept o n h f =
       name_ext I J (place_at B a o) n k.size
       (λ i q.
       let e : place_at B a o + 18 + i ≡ place_at B a o + (18 + i) = omega arith in
-      rw e (kept-place o (18 + i) (f (4 + o + (18 + i)) (omega arith) (omega arith)) (omega arith)))
+      rw e (kept_place o (18 + i) (f (4 + o + (18 + i)) (omega arith) (omega arith)) (omega arith)))

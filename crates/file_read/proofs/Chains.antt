@@ -42,9 +42,9 @@ module _ (A : Area) (I : List ℕ) where
   unfolding chain
   chain-none a = refl
 
-  pub chain-out : (m a : ℕ) → in_area A I a ≡ false → chain A I (suc m) a ≡ none
+  pub chain_out : (m a : ℕ) → in_area A I a ≡ false → chain A I (suc m) a ≡ none
   unfolding chain
-  chain-out m a t = pick_false _ _ t
+  chain_out m a t = pick_false _ _ t
 
   pub chain_in : (m a : ℕ) → in_area A I a ≡ true → chain A I (suc m) a ≡ then (chain A I m (next A.size I a)) (λ xs. some (a ∷ xs))
   unfolding chain
@@ -62,7 +62,7 @@ module _ (A : Area) (I : List ℕ) where
   chain_head m a ys e = go (either (in_area A I a)) (chain A I m (next A.size I a)) refl
     where
       go : (in_area A I a ≡ true) ⊎ (in_area A I a ≡ false) → (o : Option (List ℕ)) → chain A I m (next A.size I a) ≡ o → Head m a ys
-      go (inr t) o q = absurd (not_some (chain-out m a t) e)
+      go (inr t) o q = absurd (not_some (chain_out m a t) e)
       go (inl t) none q = absurd (not_some (chain_in m a t ∙ then-none _ q) e)
       go (inl t) (some xs) q =
           let w = area_true A I a t in
@@ -79,28 +79,28 @@ module _ (A : Area) (I : List ℕ) where
       let h = chain_head m a xs e in
       ap length h.is ∙ ap suc (chain_length m (next A.size I a) h.rest h.goes)
 
-  pub chain-area : (m a : ℕ) (xs : List ℕ) → chain A I m a ≡ some xs → All (λ (x : ℕ). (A.first ≤ x) × (x < A.end)) xs
-  chain-area zero a xs e = subst (All (λ (x : ℕ). (A.first ≤ x) × (x < A.end))) (some_same (sym (chain-none a) ∙ e)) tt
-  chain-area (suc m) a xs e =
+  pub chain_area : (m a : ℕ) (xs : List ℕ) → chain A I m a ≡ some xs → All (λ (x : ℕ). (A.first ≤ x) × (x < A.end)) xs
+  chain_area zero a xs e = subst (All (λ (x : ℕ). (A.first ≤ x) × (x < A.end))) (some_same (sym (chain-none a) ∙ e)) tt
+  chain_area (suc m) a xs e =
       let h = chain_head m a xs e in
-      subst (All (λ (x : ℕ). (A.first ≤ x) × (x < A.end))) (sym h.is) ((h.from, h.below), chain-area m (next A.size I a) h.rest h.goes)
+      subst (All (λ (x : ℕ). (A.first ≤ x) × (x < A.end))) (sym h.is) ((h.from, h.below), chain_area m (next A.size I a) h.rest h.goes)
 
   -- ---- a read's chain, by its bound
 
-  pub chain-read : (a m : ℕ) → m ≤ A.end - A.first → chain_read A I a m ≡ chain A I m a
+  pub chain_read_lem : (a m : ℕ) → m ≤ A.end - A.first → chain_read A I a m ≡ chain A I m a
   unfolding chain_read
-  chain-read a m h = pick_true _ _ (le-leb _ _ h)
+  chain_read_lem a m h = pick_true _ _ (le-leb _ _ h)
 
   pub chain-over : (a m : ℕ) → A.end - A.first < m → chain_read A I a m ≡ none
   unfolding chain_read
   chain-over a m h = pick_false _ _ (lt-leb _ _ h)
 
-  pub chain-there : (a m : ℕ) (xs : List ℕ) → chain_read A I a m ≡ some xs → (m ≤ A.end - A.first) × (chain A I m a ≡ some xs)
-  chain-there a m xs e = go (dec_lt (A.end - A.first) m)
+  pub chain_there : (a m : ℕ) (xs : List ℕ) → chain_read A I a m ≡ some xs → (m ≤ A.end - A.first) × (chain A I m a ≡ some xs)
+  chain_there a m xs e = go (dec_lt (A.end - A.first) m)
     where
       go : Dec (A.end - A.first < m) → (m ≤ A.end - A.first) × (chain A I m a ≡ some xs)
       go (yes h) = absurd (not_some (chain-over a m h) e)
-      go (no h) = let l : m ≤ A.end - A.first = omega arith in (l, sym (chain-read a m l) ∙ e)
+      go (no h) = let l : m ≤ A.end - A.first = omega arith in (l, sym (chain_read_lem a m l) ∙ e)
 
   -- ---- a walk along a chain, block by block
 
@@ -108,9 +108,9 @@ module _ (A : Area) (I : List ℕ) where
   unfolding after
   after_none a = refl
 
-  pub after-out : (m a : ℕ) → in_area A I a ≡ false → after A I (suc m) a ≡ none
+  pub after_out : (m a : ℕ) → in_area A I a ≡ false → after A I (suc m) a ≡ none
   unfolding after
-  after-out m a t = pick_false _ _ t
+  after_out m a t = pick_false _ _ t
 
   pub after_in : (m a : ℕ) → in_area A I a ≡ true → after A I (suc m) a ≡ after A I m (next A.size I a)
   unfolding after
@@ -137,7 +137,7 @@ module _ (A : Area) (I : List ℕ) where
   after-split (suc q) a b e = go (either (in_area A I a)) (after-split q (next A.size I a) b)
     where
       go : (in_area A I a ≡ true) ⊎ (in_area A I a ≡ false) → (after A I q (next A.size I a) ≡ some b → Split q (next A.size I a) b) → Split (suc q) a b
-      go (inr t) r = absurd (not_some (after-out q a t) e)
+      go (inr t) r = absurd (not_some (after_out q a t) e)
       go (inl t) r =
           let s = r (sym (after_in q a t) ∙ e) in
           let w = area_true A I a t in
@@ -150,13 +150,13 @@ module _ (A : Area) (I : List ℕ) where
           }
 
   -- where it leaves D..n-1, so does the chain
-  pub after-lost : (q a : ℕ) → after A I q a ≡ none → (m : ℕ) → chain A I (q + m) a ≡ none
-  after-lost zero a e m = absurd (not_some e (after_none a))
-  after-lost (suc q) a e m = ap (λ (k : ℕ). chain A I k a) (suc-add q m) ∙ go (either (in_area A I a)) (after-lost q (next A.size I a))
+  pub after_lost : (q a : ℕ) → after A I q a ≡ none → (m : ℕ) → chain A I (q + m) a ≡ none
+  after_lost zero a e m = absurd (not_some e (after_none a))
+  after_lost (suc q) a e m = ap (λ (k : ℕ). chain A I k a) (suc-add q m) ∙ go (either (in_area A I a)) (after_lost q (next A.size I a))
     where
       go : (in_area A I a ≡ true) ⊎ (in_area A I a ≡ false) → (after A I q (next A.size I a) ≡ none → (m : ℕ) → chain A I (q + m) (next A.size I a) ≡ none)
           → chain A I (suc (q + m)) a ≡ none
-      go (inr t) r = chain-out (q + m) a t
+      go (inr t) r = chain_out (q + m) a t
       go (inl t) r = chain_in (q + m) a t ∙ then-none _ (r (sym (after_in q a t) ∙ e) m)
 
   -- ---- the data bytes
@@ -170,11 +170,11 @@ module _ (A : Area) (I : List ℕ) where
 
   module _ (h : 4 ≤ A.size) (fits : A.size * A.end ≤ length I) where
     -- a block below n is in the image, and has its data bytes
-    pub block-fits : (a : ℕ) → a < A.end → A.size * a + A.size ≤ length I
-    block-fits a k = omega (arith, mul-le-mul_left A.size k, mul-suc A.size a)
+    pub block_fits : (a : ℕ) → a < A.end → A.size * a + A.size ≤ length I
+    block_fits a k = omega (arith, mul-le-mul_left A.size k, mul-suc A.size a)
 
     data_block : (a : ℕ) → a < A.end → length (take (A.size - 4) (drop (A.size * a + 4) I)) ≡ A.size - 4
-    data_block a k = let f = block-fits a k in simp (length-take, length-drop) (omega arith)
+    data_block a k = let f = block_fits a k in simp (length-take, length-drop) (omega arith)
 
     pub data_length : (xs : List ℕ) → All (λ (x : ℕ). (A.first ≤ x) × (x < A.end)) xs → length (data_of A I xs) ≡ (A.size - 4) * length xs
     unfolding data_of

@@ -15,7 +15,7 @@ use Rattle.model.specs.Answers.{when, first_of}
 use Rattle.limits.specs.Refusals.{refusal_number}
 use Rattle.limits.specs.declared.Refusal.{Refusal}
 use Rattle.model.proofs.Opens.{when_true, when_false, when-none, passed, first_of_head, first_of_tail, first_of_one, first_of_zero}
-use Rattle.limits.proofs.Numbers.{number-some}
+use Rattle.limits.proofs.Numbers.{number_some}
 use Rattle.read_dir.specs.Walk.{walk}
 use Rattle.super_block.specs.declared.SuperBlock.{SuperBlock}
 use Rattle.super_block.specs.Super.{Fit}
@@ -100,23 +100,23 @@ first_two zero (suc b) c k p e =
     first_of_tail 0 _ refl ∙ first_of_head (suc b) _ (omega arith) ∙ sym (e ∙ first_of_tail 0 _ refl ∙ first_of_one (suc b))
 first_two (suc a) b c k p e = first_of_head (suc a) _ (omega arith) ∙ sym (e ∙ first_of_head (suc a) _ (omega arith))
 
-first-third : (a b c : ℕ) → 0 ≡ first_of (a ∷ (b ∷ [])) → first_of (a ∷ (b ∷ (c ∷ []))) ≡ c
-first-third a b c e =
+first_third : (a b c : ℕ) → 0 ≡ first_of (a ∷ (b ∷ [])) → first_of (a ∷ (b ∷ (c ∷ []))) ≡ c
+first_third a b c e =
     let p = first_of_zero a (b ∷ []) (sym e) in
     first_of_tail a _ p.0 ∙ first_of_tail b _ (first_of_zero b [] p.1).0 ∙ first_of_one c
 
 -- ---- r is what the handle's check gave
 
 module _ (A : Area) (I : List ℕ) (h : Handle) (r : Answer) (w : answer_number r ≡ handle_refusal A I h) where
-  pub read-fresh : r ≡ answer.Success → stale_fields h ≡ false
-  read-fresh g = when-none 11 (stale_fields h) (omega arith) (first_of_zero _ _ (sym w ∙ ap answer_number g)).0
+  pub read_fresh : r ≡ answer.Success → stale_fields h ≡ false
+  read_fresh g = when-none 11 (stale_fields h) (omega arith) (first_of_zero _ _ (sym w ∙ ap answer_number g)).0
 
-  pub read-refused : (x : Refusal) (l : List ℕ) → r ≡ answer.Refused x → Keeps (read_refusal A I h (length l)) h h l l (refusal_number x)
+  pub read_refused : (x : Refusal) (l : List ℕ) → r ≡ answer.Refused x → Keeps (read_refusal A I h (length l)) h h l l (refusal_number x)
   unfolding read_refusal
-  read-refused x l g =
+  read_refused x l g =
       record {
         refused =
-            first_two (when 11 (stale_fields h)) (held_in h (walk A I h.dir.0)) (chain_refusal A I h (length l)) (refusal_number x) (number-some x)
+            first_two (when 11 (stale_fields h)) (held_in h (walk A I h.dir.0)) (chain_refusal A I h (length l)) (refusal_number x) (number_some x)
             (sym (ap answer_number g) ∙ w);
         handle = refl;
         kept = refl;
@@ -126,7 +126,7 @@ module _ (A : Area) (I : List ℕ) (h : Handle) (r : Answer) (w : answer_number 
   unfolding read_refusal
   read_fetched l m out g f =
       let e : read_refusal A I h (length l) ≡ chain_refusal A I h (length l)
-      = first-third (when 11 (stale_fields h)) (held_in h (walk A I h.dir.0)) (chain_refusal A I h (length l)) (sym (ap answer_number g) ∙ w) in
+      = first_third (when 11 (stale_fields h)) (held_in h (walk A I h.dir.0)) (chain_refusal A I h (length l)) (sym (ap answer_number g) ∙ w) in
       subst (λ (k : ℕ). CountedIs k h out.handle (bytes_read A I h (length l)) l m out.answer) (sym e) f
 
 -- ---- what an accepted read tells
@@ -137,9 +137,9 @@ module _ (A : Area) (I : List ℕ) (h : Handle) (len : ℕ) (e : read_refusal A 
     pub held : held_in h (walk A I h.dir.0) ≡ 0
     pub chained : missing A I (chain_read A I h.addr.0 (blocks_read A I h.position (to_read h len))) ≡ false
 
-  read-passed : Passed
+  read_passed : Passed
   unfolding read_refusal
-  read-passed =
+  read_passed =
       let p = passed 11 (stale_fields h) _ (omega arith) e in
       let q = first_of_zero (held_in h (walk A I h.dir.0)) _ p.1 in
       let r = first_of_zero (when 17 (missing A I (chain_read A I h.addr.0 (blocks_read A I h.position (to_read h len))))) [] q.1 in

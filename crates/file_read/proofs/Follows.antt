@@ -10,14 +10,14 @@ use lib.ListN.{length, take, drop}
 use lib.Seq.{drop-append-add}
 use Rattle.block.specs.Block.{Area, next}
 use Rattle.block.specs.declared.Addr.{Addr}
-use Rattle.read_dir.proofs.Unroll.{area_in_lem, area-low, area-high}
+use Rattle.read_dir.proofs.Unroll.{area_in_lem, area_low, area_high}
 use Rattle.super_block.specs.declared.SuperBlock.{SuperBlock}
 use Rattle.super_block.specs.Super.{area_in, Fit}
 use Rattle.file_read.specs.Read.{chain, blocks_read, chain_read, data_of, missing, bytes_of}
 use Rattle.file_read.specs.Post.{after, Begins, WalkedIs}
 use Rattle.file_read.specs.declared.Walked.{Walked}
 use Rattle.file_read.specs.declared.Walked.TheVariants as walked
-use Rattle.file_read.proofs.Chains.{missing-none, missing-some, chain-none, chain-read, chain-over, after_none, after-out, after_in, after-split, after-lost, Split, data_append, data_length}
+use Rattle.file_read.proofs.Chains.{missing-none, missing-some, chain-none, chain_read_lem, chain-over, after_none, after_out, after_in, after-split, after_lost, Split, data_append, data_length}
 
 -- ---- block by block: b is the block, and left are to be passed
 
@@ -34,10 +34,10 @@ module _ (A : Area) (I : List ℕ) (a k b left : ℕ) (inv : after A I left b �
         sym inv ∙ ap (λ (x : ℕ). after A I x b) e ∙ g
 
     pub follow_low : b < A.first → after A I k a ≡ none
-    follow_low l = more none (after-out A I (left - 1) b (area-low A I b l))
+    follow_low l = more none (after_out A I (left - 1) b (area_low A I b l))
 
     pub follow_high : A.end ≤ b → after A I k a ≡ none
-    follow_high l = more none (after-out A I (left - 1) b (area-high A I b l))
+    follow_high l = more none (after_out A I (left - 1) b (area_high A I b l))
 
     -- z and m are the size and the address of the linked block that code makes
     pub follow_again : (z m to : ℕ) → A.first ≤ b → b < A.end → z ≡ A.size → m ≡ b → to ≡ next z I m
@@ -73,7 +73,7 @@ module _ (A : Area) (I : List ℕ) where
 
   -- a walk that does not has none
   after-none-chain : (m b : ℕ) → after A I m b ≡ none → chain A I m b ≡ none
-  after-none-chain m b e = subst (λ (k : ℕ). chain A I k b ≡ none) (add-zero m) (after-lost A I m b e 0)
+  after-none-chain m b e = subst (λ (k : ℕ). chain A I k b ≡ none) (add-zero m) (after_lost A I m b e 0)
 
 -- ---- where a read begins
 
@@ -89,7 +89,7 @@ pub begin_none : (A : Area) (I : List ℕ) (a p k : ℕ) → k ≡ 0 → Begins 
 begin_none A I a p k e = subst (λ (x : ℕ). Begins A I a p x a) (sym e) zero_begins
   where
     zero_read : chain_read A I a (blocks_read A I p 0) ≡ some []
-    zero_read = ap (chain_read A I a) (blocks-none A I p) ∙ chain-read A I a 0 (omega arith) ∙ chain-none A I a
+    zero_read = ap (chain_read A I a) (blocks-none A I p) ∙ chain_read_lem A I a 0 (omega arith) ∙ chain-none A I a
 
     zero_part : chain A I (blocks_read A I (p % (A.size - 4)) 0) a ≡ some []
     zero_part = ap (λ (m : ℕ). chain A I m a) (blocks-none A I (p % (A.size - 4))) ∙ chain-none A I a
@@ -124,8 +124,8 @@ module _ (s : SuperBlock) (I : List ℕ) (f : Fit s I) (a p k : ℕ) (z : k ≡ 
   begin_over h = missing-none A I _ (ap (chain_read A I a) count ∙ chain-over A I a m h)
 
   module _ (l : m ≤ A.end - A.first) where
-    whole-read : chain_read A I a (blocks_read A I p k) ≡ chain A I m a
-    whole-read = ap (chain_read A I a) count ∙ chain-read A I a m l
+    whole_read : chain_read A I a (blocks_read A I p k) ≡ chain A I m a
+    whole_read = ap (chain_read A I a) count ∙ chain_read_lem A I a m l
 
     parts : p / c + (m - p / c) ≡ m
     parts = omega (arith, div-split c some_data p (k - 1))
@@ -138,8 +138,8 @@ module _ (s : SuperBlock) (I : List ℕ) (f : Fit s I) (a p k : ℕ) (z : k ≡ 
       pub begin_lost : r ≡ walked.Damaged → missing A I (chain_read A I a (blocks_read A I p k)) ≡ true
       begin_lost e =
           missing-none A I _
-          (whole-read ∙ ap (λ (x : ℕ). chain A I x a) (sym parts)
-          ∙ after-lost A I (p / c) a (subst (WalkedIs (after A I (p / c) a)) e w) (m - p / c))
+          (whole_read ∙ ap (λ (x : ℕ). chain A I x a) (sym parts)
+          ∙ after_lost A I (p / c) a (subst (WalkedIs (after A I (p / c) a)) e w) (m - p / c))
 
       -- t is what the walk from there on gave
       module _ (b : Addr) (e : r ≡ walked.At b) (t : Walked) (v : WalkedIs (after A I (m - p / c) b.0) t) where
@@ -149,7 +149,7 @@ module _ (s : SuperBlock) (I : List ℕ) (f : Fit s I) (a p k : ℕ) (z : k ≡ 
         pub begin_cut : t ≡ walked.Damaged → missing A I (chain_read A I a (blocks_read A I p k)) ≡ true
         begin_cut g =
             missing-none A I _
-            (whole-read ∙ ap (λ (x : ℕ). chain A I x a) (sym parts)
+            (whole_read ∙ ap (λ (x : ℕ). chain A I x a) (sym parts)
             ∙ cut.ends (m - p / c)
             (after-none-chain A I (m - p / c) b.0 (subst (WalkedIs (after A I (m - p / c) b.0)) g v)))
 
@@ -158,7 +158,7 @@ module _ (s : SuperBlock) (I : List ℕ) (f : Fit s I) (a p k : ℕ) (z : k ≡ 
             let q = after-chain A I (m - p / c) b.0 x.0 (subst (WalkedIs (after A I (m - p / c) b.0)) g v) in
             let xs : List ℕ = q.0 in
             let all : chain_read A I a (blocks_read A I p k) ≡ some (cut.front ++ xs)
-            = whole-read ∙ ap (λ (y : ℕ). chain A I y a) (sym parts) ∙ cut.goes (m - p / c) xs q.1 in
+            = whole_read ∙ ap (λ (y : ℕ). chain A I y a) (sym parts) ∙ cut.goes (m - p / c) xs q.1 in
             let part : chain A I (blocks_read A I (p % c) k) b.0 ≡ some xs
             = ap (λ (y : ℕ). chain A I y b.0) part_count ∙ q.1 in
             record {

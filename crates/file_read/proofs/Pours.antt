@@ -11,12 +11,12 @@ use lib.Seq.{take-take, take-add, drop-drop, drop_at, take-append-le, drop-appen
 use Rattle.wire.specs.Be.{splice}
 use Rattle.wire.proofs.Numbers.{splice-append, splice-nil}
 use Rattle.block.specs.Block.{Area, next}
-use Rattle.block.proofs.Blocks.{linked-inside}
+use Rattle.block.proofs.Blocks.{linked_inside}
 use Rattle.super_block.specs.declared.SuperBlock.{SuperBlock}
 use Rattle.super_block.specs.Super.{area_in, Fit}
 use Rattle.file_read.specs.Read.{chain, blocks_read, data_of, bytes_of}
 use Rattle.file_read.specs.Post.{part_at, Whole}
-use Rattle.file_read.proofs.Chains.{missing-some, not_missing, Head, chain_head, chain_length, chain-area, block-fits, data_length}
+use Rattle.file_read.proofs.Chains.{missing-some, not_missing, Head, chain_head, chain_length, chain_area, block_fits, data_length}
 use Rattle.file_read.proofs.Follows.{blocks-none, blocks-some}
 
 -- ---- lists
@@ -29,8 +29,8 @@ drop-take o m l h k =
     ∙ drop_at (take o l) (take (m - o) (drop o l)) o (length-take-le o l (omega arith))
 
 -- j bytes from offset o of the first m bytes of l, and then of R: those in l, and the others
-run-split : (o m j r : ℕ) (l R : List ℕ) → o ≤ m → m ≤ length l → r ≡ min j (m - o) → take j (drop o (take m l ++ R)) ≡ take r (drop o l) ++ take (j - r) R
-run-split o m j r l R h k e = go (dec_lt j (m - o))
+run_split : (o m j r : ℕ) (l R : List ℕ) → o ≤ m → m ≤ length l → r ≡ min j (m - o) → take j (drop o (take m l ++ R)) ≡ take r (drop o l) ++ take (j - r) R
+run_split o m j r l R h k e = go (dec_lt j (m - o))
   where
     d : drop o (take m l ++ R) ≡ take (m - o) (drop o l) ++ R
     d = drop-append-le o (take m l) R (omega (arith, length-take-le m l k)) ∙ ap (λ (x : List ℕ). x ++ R) (drop-take o m l h k)
@@ -58,18 +58,18 @@ run-split o m j r l R h k e = go (dec_lt j (m - o))
 
 -- ---- the bytes along a chain
 
-bytes-none : (A : Area) (I : List ℕ) (c : Option (List ℕ)) (p : ℕ) → bytes_of A I c p 0 ≡ []
-bytes-none A I none p = refl
-bytes-none A I (some xs) p = refl
+bytes_none : (A : Area) (I : List ℕ) (c : Option (List ℕ)) (p : ℕ) → bytes_of A I c p 0 ≡ []
+bytes_none A I none p = refl
+bytes_none A I (some xs) p = refl
 
 -- the blocks of bytes that are there
 module _ (A : Area) (I : List ℕ) (a o k : ℕ) (w : Whole A I a o k) where
   found : List ℕ
   found = (not_missing A I (chain A I (blocks_read A I o k) a) w).0
 
-  found-is : chain A I (blocks_read A I o k) a ≡ some found
+  found_is : chain A I (blocks_read A I o k) a ≡ some found
   unfolding found
-  found-is = (not_missing A I (chain A I (blocks_read A I o k) a) w).1
+  found_is = (not_missing A I (chain A I (blocks_read A I o k) a) w).1
 
 module _ (A : Area) (I : List ℕ) (five : 5 ≤ A.size) (fits : A.size * A.end ≤ length I) where
   abbrev capacity : ℕ
@@ -86,19 +86,19 @@ module _ (A : Area) (I : List ℕ) (five : 5 ≤ A.size) (fits : A.size * A.end 
       xs = found A I a o k w
 
       e : chain A I (blocks_read A I o k) a ≡ some xs
-      e = found-is A I a o k w
+      e = found_is A I a o k w
 
       go : Dec (0 < k) → length (part_at A I a o k) ≡ k
       go (no q) =
           let z : k ≡ 0 = omega arith in
           ap (λ (x : ℕ). length (bytes_of A I (chain A I (blocks_read A I o k) a) o x)) z
-          ∙ ap length (bytes-none A I (chain A I (blocks_read A I o k) a) o)
+          ∙ ap length (bytes_none A I (chain A I (blocks_read A I o k) a) o)
           ∙ sym z
       go (yes q) =
           let u : length xs ≡ (o + (k - 1)) / capacity + 1
           = chain_length A I (blocks_read A I o k) a xs e ∙ blocks-some A I o k q in
           let v : length (data_of A I xs) ≡ capacity * ((o + (k - 1)) / capacity + 1)
-          = data_length A I four fits xs (chain-area A I (blocks_read A I o k) a xs e) ∙ ap (λ (x : ℕ). capacity * x) u in
+          = data_length A I four fits xs (chain_area A I (blocks_read A I o k) a xs e) ∙ ap (λ (x : ℕ). capacity * x) u in
           let w : o + k ≤ length (data_of A I xs)
           = rw v (omega (arith, lt-mul-div-succ (o + (k - 1)) {b = capacity} (omega arith))) in
           ap (λ (x : Option (List ℕ)). length (bytes_of A I x o k)) e
@@ -112,16 +112,16 @@ module _ (A : Area) (I : List ℕ) (five : 5 ≤ A.size) (fits : A.size * A.end 
     head : Head A I ((o + (j - 1)) / capacity) a (found A I a o j w)
     head =
         chain_head A I ((o + (j - 1)) / capacity) a (found A I a o j w)
-        (ap (λ (m : ℕ). chain A I m a) (sym blocks) ∙ found-is A I a o j w)
+        (ap (λ (m : ℕ). chain A I m a) (sym blocks) ∙ found_is A I a o j w)
 
     turn_below : a < A.end
     turn_below = head.below
 
     turn_fits : A.size * a + A.size ≤ length I
-    turn_fits = block-fits A I four fits a turn_below
+    turn_fits = block_fits A I four fits a turn_below
 
-    left-blocks : blocks_read A I 0 (j - r) ≡ (o + (j - 1)) / capacity
-    left-blocks = go (dec_lt 0 (j - r))
+    left_blocks : blocks_read A I 0 (j - r) ≡ (o + (j - 1)) / capacity
+    left_blocks = go (dec_lt 0 (j - r))
       where
         go : Dec (0 < j - r) → blocks_read A I 0 (j - r) ≡ (o + (j - 1)) / capacity
         go (yes q) =
@@ -131,11 +131,11 @@ module _ (A : Area) (I : List ℕ) (five : 5 ≤ A.size) (fits : A.size * A.end 
             let z : j - r ≡ 0 = omega arith in
             ap (blocks_read A I 0) z ∙ blocks-none A I 0 ∙ sym (div-eq_of_lt (omega arith))
 
-    rest-chain : chain A I (blocks_read A I 0 (j - r)) (next A.size I a) ≡ some head.rest
-    rest-chain = ap (λ (m : ℕ). chain A I m (next A.size I a)) left-blocks ∙ head.goes
+    rest_chain : chain A I (blocks_read A I 0 (j - r)) (next A.size I a) ≡ some head.rest
+    rest_chain = ap (λ (m : ℕ). chain A I m (next A.size I a)) left_blocks ∙ head.goes
 
     turn_whole : Whole A I (next A.size I a) 0 (j - r)
-    turn_whole = missing-some A I _ head.rest rest-chain
+    turn_whole = missing-some A I _ head.rest rest_chain
 
     turn_run : length (take r (drop (A.size * a + 4 + o) I)) ≡ r
     turn_run = simp (length-take, length-drop) (omega (arith, turn_fits))
@@ -143,12 +143,12 @@ module _ (A : Area) (I : List ℕ) (five : 5 ≤ A.size) (fits : A.size * A.end 
     turn_bytes : part_at A I a o j ≡ take r (drop (A.size * a + 4 + o) I) ++ part_at A I (next A.size I a) 0 (j - r)
     unfolding data_of
     turn_bytes =
-        ap (λ (c : Option (List ℕ)). bytes_of A I c o j) (found-is A I a o j w)
+        ap (λ (c : Option (List ℕ)). bytes_of A I c o j) (found_is A I a o j w)
         ∙ ap (λ (xs : List ℕ). take j (drop o (data_of A I xs))) head.is
-        ∙ run-split o capacity j r (drop (A.size * a + 4) I) (data_of A I head.rest) (omega arith)
+        ∙ run_split o capacity j r (drop (A.size * a + 4) I) (data_of A I head.rest) (omega arith)
         (rw length-drop (omega (arith, turn_fits))) er
         ∙ ap (λ (l : List ℕ). take r l ++ take (j - r) (data_of A I head.rest)) (drop-drop o (A.size * a + 4) I)
-        ∙ ap (λ (c : Option (List ℕ)). take r (drop (A.size * a + 4 + o) I) ++ bytes_of A I c 0 (j - r)) (sym rest-chain)
+        ∙ ap (λ (c : Option (List ℕ)). take r (drop (A.size * a + 4 + o) I) ++ bytes_of A I c 0 (j - r)) (sym rest_chain)
 
     turn_splice : (buf : List ℕ) (i : ℕ) → i + j ≤ length buf
         → splice (splice buf i (take r (drop (A.size * a + 4 + o) I))) (i + r) (part_at A I (next A.size I a) 0 (j - r))
@@ -181,7 +181,7 @@ module _ (s : SuperBlock) (I buf₀ : List ℕ) (a₀ o₀ k : ℕ) (buf : List 
       let e : k - i ≡ 0 = omega arith in
       let x : part_at (area_in s) I b at (k - i) ≡ []
       = ap (λ (j : ℕ). part_at (area_in s) I b at j) e
-      ∙ bytes-none (area_in s) I (chain (area_in s) I (blocks_read (area_in s) I at 0) b) at in
+      ∙ bytes_none (area_in s) I (chain (area_in s) I (blocks_read (area_in s) I at 0) b) at in
       sym (splice-nil buf i) ∙ ap (splice buf i) (sym x) ∙ left.same
 
   big : 5 ≤ s.size
@@ -193,7 +193,7 @@ module _ (s : SuperBlock) (I buf₀ : List ℕ) (a₀ o₀ k : ℕ) (buf : List 
 
     -- z and m are the size and the address of the linked block that code makes
     pub pour_block : (z m : ℕ) → z ≡ s.size → m ≡ b → z * m + z ≤ length I
-    pour_block z m x y = linked-inside b x y inside
+    pour_block z m x y = linked_inside b x y inside
 
     pub pour_from : (from : ℕ) → from ≡ s.size * b + 4 + at → from + r ≤ length I
     pour_from from q = omega (arith, inside)

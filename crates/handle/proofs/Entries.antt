@@ -23,22 +23,22 @@ use Rattle.read_dir.specs.Walk.{walk}
 use Rattle.read_dir.specs.Cursor.{start, cursor_walk, on_step, Stepped, at_offset, len_of, Passed}
 use Rattle.super_block.specs.declared.SuperBlock.{SuperBlock}
 use Rattle.super_block.specs.Super.{area_in, Fit}
-use Rattle.super_block.proofs.Fits.{fit-inside}
-use Rattle.read_dir.proofs.Names.{length-name}
-use Rattle.read_dir.proofs.Passes.{len-ends, pass_none, pass_more}
+use Rattle.super_block.proofs.Fits.{fit_inside}
+use Rattle.read_dir.proofs.Names.{length_name}
+use Rattle.read_dir.proofs.Passes.{len_ends, pass_none, pass_more}
 use Rattle.read_dir.proofs.Along.{start-walk}
 use Rattle.handle.specs.declared.Handle.{Handle}
 use Rattle.handle.specs.Handles.{name_of, current, current_in}
 use Rattle.handle.specs.Passing.{PassedUnlike}
-use Rattle.handle.proofs.Handles.{name-long}
+use Rattle.handle.proofs.Handles.{name_long}
 
 -- ---- entries that are not the handle's, by their length or their address
 
-pub alike-length : (n l b a : ℕ) → (n ≡ l → ⊥) → false ≡ (eqb n l && eqb b a)
-alike-length n l b a z = sym (rw (ne_eqb _ _ z))
+pub alike_length : (n l b a : ℕ) → (n ≡ l → ⊥) → false ≡ (eqb n l && eqb b a)
+alike_length n l b a z = sym (rw (ne_eqb _ _ z))
 
-pub alike-addr : (n l b b' a : ℕ) (t : Bool) → n ≡ l → b ≡ b' → t ≡ eqb b a → t ≡ (eqb n l && eqb b' a)
-alike-addr n l b b' a t z e q = rw (eq-eqb _ _ z) (q ∙ ap (λ (k : ℕ). eqb k a) e)
+pub alike_addr : (n l b b' a : ℕ) (t : Bool) → n ≡ l → b ≡ b' → t ≡ eqb b a → t ≡ (eqb n l && eqb b' a)
+alike_addr n l b b' a t z e q = rw (eq-eqb _ _ z) (q ∙ ap (λ (k : ℕ). eqb k a) e)
 
 addr_at : (I : List ℕ) (at : ℕ) (e : DirEntry) → e ≡ entry_at I at → e.addr.0 ≡ be 4 I (at + 1)
 unfolding entry_at
@@ -61,10 +61,10 @@ pub unlike_again : (s : SuperBlock) (I : List ℕ) (l a : ℕ) (c : ReadDir) (o 
     → n ≡ len_of (slot_at s.size I c.block.0 o) → (n ≡ 0 → ⊥) → at ≡ place_at s.size c.block.0 o
     → t ≡ (eqb n l && eqb (be 4 I (at + 1)) a) → t ≡ false → PassedUnlike (area_in s) I l a c (at_offset c (o + 18 + n))
 unlike_again s I l a c o n at t f p u v r z i y k =
-    let d : s.size * c.block.0 + s.size ≤ length I = fit-inside s I I c.block.0 c.block.0 f refl refl v in
-    let b : o + 18 + n ≤ s.size - 5 = len-ends s.size I c.block.0 o n r z in
+    let d : s.size * c.block.0 + s.size ≤ length I = fit_inside s I I c.block.0 c.block.0 f refl refl v in
+    let b : o + 18 + n ≤ s.size - 5 = len_ends s.size I c.block.0 o n r z in
     let j : length (name_at I (place_at s.size c.block.0 o) n) ≡ n
-    = length-name I (place_at s.size c.block.0 o) n (omega arith) in
+    = length_name I (place_at s.size c.block.0 o) n (omega arith) in
     record {
       all = λ g q.
           pass_more (area_in s) I g c o n (p.all g q) u v r z
@@ -86,10 +86,10 @@ unlike_own A I h c d l q p = p.all (current_in h) (λ e b o x w z. pick_false _ 
         let y = and_both (is_file e.kind && same x (name_of h)) (eqb e.addr.0 h.addr.0 && eqb e.size h.size) t in
         let u : x ≡ name_of h = same_eq x (name_of h) (and_both (is_file e.kind) (same x (name_of h)) y.0).1 in
         let v = (and_both (eqb e.addr.0 h.addr.0) (eqb e.size h.size) y.1).0 in
-        absurd (z (ap length u ∙ sym (name-long h l q), eqb-true _ _ v))
+        absurd (z (ap length u ∙ sym (name_long h l q), eqb-true _ _ v))
 
-pub fit-size : (s : SuperBlock) (I : List ℕ) → Fit s I → BlockSize s.size
-fit-size s I f = f.known
+pub fit_size : (s : SuperBlock) (I : List ℕ) → Fit s I → BlockSize s.size
+fit_size s I f = f.known
 
 -- ---- along the directory
 
@@ -100,24 +100,24 @@ module _ (A : Area) (I : List ℕ) (h : Handle) (c₀ c₁ c : ReadDir) (m : Ste
   finds : (x : Step) → m ≡ x → current_in h (cursor_walk A I c₀) ≡ current_in h (on_step A I x)
   finds x g = sym inv ∙ sym v.says ∙ ap (current_in h) (w.walked ∙ ap (on_step A I) g)
 
-  pub entry-again : (e : DirEntry) (p : Place) (d : ReadDir) (t : Bool) → m ≡ step.Entry e p d
+  pub entry_again : (e : DirEntry) (p : Place) (d : ReadDir) (t : Bool) → m ≡ step.Entry e p d
       → t ≡ current h e (name_at I (place_at A.size p.block.0 p.offset) e.len) → t ≡ false → current_in h (cursor_walk A I d) ≡ current_in h (cursor_walk A I c₀)
   unfolding current_in
-  entry-again e p d t g q k = sym (finds (step.Entry e p d) g ∙ pick_false _ _ (sym q ∙ k))
+  entry_again e p d t g q k = sym (finds (step.Entry e p d) g ∙ pick_false _ _ (sym q ∙ k))
 
   module _ (b : c₀ ≡ start A h.dir) where
     whole : current_in h (cursor_walk A I c₀) ≡ current_in h (walk A I h.dir.0)
     whole = ap (current_in h) (start-walk A I c₀ h.dir b)
 
-    pub entry-hit : (e : DirEntry) (p : Place) (d : ReadDir) (t : Bool) → m ≡ step.Entry e p d
+    pub entry_hit : (e : DirEntry) (p : Place) (d : ReadDir) (t : Bool) → m ≡ step.Entry e p d
         → t ≡ current h e (name_at I (place_at A.size p.block.0 p.offset) e.len) → t ≡ true → found.At e p ≡ current_in h (walk A I h.dir.0)
     unfolding current_in
-    entry-hit e p d t g q k = sym (pick_true _ _ (sym q ∙ k)) ∙ sym (finds (step.Entry e p d) g) ∙ whole
+    entry_hit e p d t g q k = sym (pick_true _ _ (sym q ∙ k)) ∙ sym (finds (step.Entry e p d) g) ∙ whole
 
-    pub entry-none : m ≡ step.End → found.Missing ≡ current_in h (walk A I h.dir.0)
+    pub entry_none : m ≡ step.End → found.Missing ≡ current_in h (walk A I h.dir.0)
     unfolding current_in
-    entry-none g = sym (finds step.End g) ∙ whole
+    entry_none g = sym (finds step.End g) ∙ whole
 
-    pub entry-bad : m ≡ step.Damaged → found.Damaged ≡ current_in h (walk A I h.dir.0)
+    pub entry_bad : m ≡ step.Damaged → found.Damaged ≡ current_in h (walk A I h.dir.0)
     unfolding current_in
-    entry-bad g = sym (finds step.Damaged g) ∙ whole
+    entry_bad g = sym (finds step.Damaged g) ∙ whole

@@ -23,7 +23,7 @@ use Rattle.read_dir.specs.Finds.{placed}
 use Rattle.read_dir.specs.declared.Found.{Found}
 use Rattle.read_dir.specs.declared.Found.TheVariants as found
 use Rattle.read_dir.specs.declared.Place.{Place}
-use Rattle.read_dir.proofs.Names.{name_longer, name-compared}
+use Rattle.read_dir.proofs.Names.{name_longer, name_compared}
 use Rattle.handle.specs.declared.Handle.{Handle}
 use Rattle.limits.specs.declared.Answer.{Answer}
 use Rattle.handle.specs.Handles.{name_of, new_handle, stale_fields, current, held_in, current_in}
@@ -36,60 +36,60 @@ unfolding splice padded
 pad_splice k x = ap (λ (l : List ℕ). x ++ l) (ap (λ (j : ℕ). drop j (zeros k)) (zero-add (length x)) ∙ drop-zeros (length x) k)
 
 -- a name that was copied whole
-pub name-is : (x r : List ℕ) → r ≡ splice (zeros 255) 0 (take (length x) (drop 0 x)) → r ≡ padded 255 x
-name-is x r e = e ∙ ap (splice (zeros 255) 0) (take-length x) ∙ pad_splice 255 x
+pub name_is : (x r : List ℕ) → r ≡ splice (zeros 255) 0 (take (length x) (drop 0 x)) → r ≡ padded 255 x
+name_is x r e = e ∙ ap (splice (zeros 255) 0) (take-length x) ∙ pad_splice 255 x
 
 pub new_is : (d a : Addr) (size : ℕ) (x name : List ℕ) → name ≡ padded 255 x
     → record { dir = d; name = name; len = length x; addr = a; size = size; position = 0 } ≡ new_handle d x a size
 new_is d a size x name e = λ i. record { dir = d; name = e i; len = length x; addr = a; size = size; position = 0 }
 
 module _ (h : Handle) (l : h.len ≤ 255) (e : length h.name ≡ 255) where
-  pub name-room : h.len ≤ length h.name
-  name-room = omega arith
+  pub name_room : h.len ≤ length h.name
+  name_room = omega arith
 
-  pub name-long : h.len ≡ length (take h.len h.name)
-  name-long = sym (length-take-le h.len h.name name-room)
+  pub name_long : h.len ≡ length (take h.len h.name)
+  name_long = sym (length-take-le h.len h.name name_room)
 
   module _ (x : List ℕ) where
-    pub name-fits : length x ≡ h.len → 0 + length (take h.len h.name) ≤ length x
-    name-fits q = omega (arith, name-long)
+    pub name_fits : length x ≡ h.len → 0 + length (take h.len h.name) ≤ length x
+    name_fits q = omega (arith, name_long)
 
     pub named_longer : (length x ≡ h.len → ⊥) → false ≡ same x (name_of h)
-    named_longer q = name_longer x x (name_of h) refl (λ p. q (p ∙ sym name-long))
+    named_longer q = name_longer x x (name_of h) refl (λ p. q (p ∙ sym name_long))
 
-    pub named-compared : (r : Bool) → length x ≡ h.len → r ≡ same (take (length (take h.len h.name)) (drop 0 x)) (take h.len h.name) → r ≡ same x (name_of h)
-    named-compared r q p = name-compared x x (name_of h) refl r (q ∙ name-long) p
+    pub named_compared : (r : Bool) → length x ≡ h.len → r ≡ same (take (length (take h.len h.name)) (drop 0 x)) (take h.len h.name) → r ≡ same x (name_of h)
+    named_compared r q p = name_compared x x (name_of h) refl r (q ∙ name_long) p
 
 -- ---- the entry
 
 module _ (h : Handle) (e : DirEntry) (x : List ℕ) (f : Bool) (k : f ≡ is_file e.kind) where
-  pub current-kind : not f ≡ true → false ≡ current h e x
+  pub current_kind : not f ≡ true → false ≡ current h e x
   unfolding current
-  current-kind q = sym (simp (sym k ∙ not-true f q))
+  current_kind q = sym (simp (sym k ∙ not-true f q))
 
   module _ (q : not f ≡ false) where
     file : is_file e.kind ≡ true
     file = sym k ∙ not-false f q
 
-    pub current-addr : (e.addr.0 ≡ h.addr.0 → ⊥) → false ≡ current h e x
+    pub current_addr : (e.addr.0 ≡ h.addr.0 → ⊥) → false ≡ current h e x
     unfolding current
-    current-addr p = sym (go (same x (name_of h)))
+    current_addr p = sym (go (same x (name_of h)))
       where
         go : (t : Bool) → (is_file e.kind && t) && (eqb e.addr.0 h.addr.0 && eqb e.size h.size) ≡ false
         go true = rw (file, ne_eqb _ _ p)
         go false = rw file
 
-    pub current-size : e.addr.0 ≡ h.addr.0 → (e.size ≡ h.size → ⊥) → false ≡ current h e x
+    pub current_size : e.addr.0 ≡ h.addr.0 → (e.size ≡ h.size → ⊥) → false ≡ current h e x
     unfolding current
-    current-size o p = sym (go (same x (name_of h)))
+    current_size o p = sym (go (same x (name_of h)))
       where
         go : (t : Bool) → (is_file e.kind && t) && (eqb e.addr.0 h.addr.0 && eqb e.size h.size) ≡ false
         go true = rw (file, eq-eqb _ _ o, ne_eqb _ _ p)
         go false = rw file
 
-    pub current-name : e.addr.0 ≡ h.addr.0 → e.size ≡ h.size → (y : List ℕ) (r : Bool) → y ≡ x → r ≡ same y (name_of h) → r ≡ current h e x
+    pub current_name : e.addr.0 ≡ h.addr.0 → e.size ≡ h.size → (y : List ℕ) (r : Bool) → y ≡ x → r ≡ same y (name_of h) → r ≡ current h e x
     unfolding current
-    current-name o p y r u v = v ∙ ap (λ (z : List ℕ). same z (name_of h)) u ∙ sym (go (same x (name_of h)))
+    current_name o p y r u v = v ∙ ap (λ (z : List ℕ). same z (name_of h)) u ∙ sym (go (same x (name_of h)))
       where
         go : (t : Bool) → (is_file e.kind && t) && (eqb e.addr.0 h.addr.0 && eqb e.size h.size) ≡ t
         go true = rw (file, eq-eqb _ _ o, eq-eqb _ _ p)
@@ -118,14 +118,14 @@ module _ (A : Area) (I : List ℕ) (h : Handle) (f : Found) (q : f ≡ current_i
   held_as : (x : Found) → f ≡ x → found_number x ≡ held_in h (walk A I h.dir.0)
   held_as x g = ap found_number (sym g ∙ q) ∙ held_number h (walk A I h.dir.0)
 
-  pub held-at : (e : DirEntry) (p : Place) → f ≡ found.At e p → 0 ≡ held_in h (walk A I h.dir.0)
-  held-at e p g = held_as (found.At e p) g
+  pub held_at_lem : (e : DirEntry) (p : Place) → f ≡ found.At e p → 0 ≡ held_in h (walk A I h.dir.0)
+  held_at_lem e p g = held_as (found.At e p) g
 
-  pub held-missing : f ≡ found.Missing → 11 ≡ held_in h (walk A I h.dir.0)
-  held-missing g = held_as found.Missing g
+  pub held_missing : f ≡ found.Missing → 11 ≡ held_in h (walk A I h.dir.0)
+  held_missing g = held_as found.Missing g
 
-  pub held-damaged : f ≡ found.Damaged → 17 ≡ held_in h (walk A I h.dir.0)
-  held-damaged g = held_as found.Damaged g
+  pub held_damaged : f ≡ found.Damaged → 17 ≡ held_in h (walk A I h.dir.0)
+  held_damaged g = held_as found.Damaged g
 
 -- ---- what refuses a handle: b is what its fields say, and r what its directory does
 
@@ -133,5 +133,5 @@ module _ (A : Area) (I : List ℕ) (h : Handle) (b : Bool) (e : b ≡ stale_fiel
   pub check_stale : b ≡ true → 11 ≡ handle_refusal A I h
   check_stale t = sym (refuses 11 _ (omega arith) (sym e ∙ t))
 
-  pub check-held : (r : Answer) → b ≡ false → answer_number r ≡ held_in h (walk A I h.dir.0) → answer_number r ≡ handle_refusal A I h
-  check-held r t p = p ∙ sym (passes 11 _ (sym e ∙ t) ∙ first_of_one (held_in h (walk A I h.dir.0)))
+  pub check_held : (r : Answer) → b ≡ false → answer_number r ≡ held_in h (walk A I h.dir.0) → answer_number r ≡ handle_refusal A I h
+  check_held r t p = p ∙ sym (passes 11 _ (sym e ∙ t) ∙ first_of_one (held_in h (walk A I h.dir.0)))

@@ -54,8 +54,8 @@ fresh h e =
     let z : h.len ≡ 0 → ⊥ = eqb-false _ _ r.0 in
     record { place = ltb-false _ _ p.0; limit = ltb-false _ _ q.0; some_name = omega arith; few = ltb-false _ _ r.1 }
 
-pub short-name : (h : Handle) (b : Bool) → b ≡ stale_fields h → b ≡ false → h.len ≤ 255
-short-name h b e t = (fresh h (sym e ∙ t)).few
+pub short_name : (h : Handle) (b : Bool) → b ≡ stale_fields h → b ≡ false → h.len ≤ 255
+short_name h b e t = (fresh h (sym e ∙ t)).few
 
 -- ---- the target, in 64 bits
 
@@ -71,12 +71,12 @@ module _ (a : ℕ) (i : ℤ) (p : a < 4294967296) (q : mag i < 2147483648) where
   back : to_z w32 (of_z w32 i) ≡ i
   back = to_z-of_z {w = w32} (record { sfits = q })
 
-  pub offset-fits : SFits w64 (to_z w32 (of_z w32 i))
-  offset-fits = subst (SFits w64) (sym back) (record { sfits = omega arith })
+  pub offset_fits : SFits w64 (to_z w32 (of_z w32 i))
+  offset_fits = subst (SFits w64) (sym back) (record { sfits = omega arith })
 
   terms : to_z w64 a +ℤ to_z w64 (of_z w64 (to_z w32 (of_z w32 i))) ≡ pos a +ℤ i
   terms =
-      ap (λ (x : ℤ). to_z w64 a +ℤ x) (to_z-of_z {w = w64} offset-fits ∙ back)
+      ap (λ (x : ℤ). to_z w64 a +ℤ x) (to_z-of_z {w = w64} offset_fits ∙ back)
       ∙ ap (λ (x : ℤ). x +ℤ i) (to_z_pos w64 (omega arith))
 
   pub sum_fits : SFits w64 (to_z w64 a +ℤ to_z w64 (of_z w64 (to_z w32 (of_z w32 i))))
@@ -95,10 +95,10 @@ module _ (h : Handle) (f : SeekFrom) where
   unfolding target
   target-current i p q e = sum_is h.position i p q ∙ sym (ap (target h) e)
 
-  pub target-end : (i : ℤ) → h.size < 4294967296 → mag i < 2147483648 → f ≡ End i
+  pub target_end : (i : ℤ) → h.size < 4294967296 → mag i < 2147483648 → f ≡ End i
       → to_z w64 (of_z w64 (to_z w64 h.size +ℤ to_z w64 (of_z w64 (to_z w32 (of_z w32 i))))) ≡ target h f
   unfolding target
-  target-end i p q e = sum_is h.size i p q ∙ sym (ap (target h) e)
+  target_end i p q e = sum_is h.size i p q ∙ sym (ap (target h) e)
 
 -- ---- in the file or not
 
@@ -110,29 +110,29 @@ from_zero : (s : ℕ) (z : ℤ) → lt_z z (pos 0) ≡ false → le_z z (pos s) 
 from_zero s (pos a) e = refl
 from_zero s (negsuc a) e = absurd (not_both refl e)
 
-within-place : (s : ℕ) (z : ℤ) → s < 4294967296 → within s z ≡ true → (T (non_neg z) × Fits w32 (nat_abs z)) × (nat_abs z ≡ place_in z)
-within-place s (pos a) p e = let q : a ≤ s = leb-true a s e in ((tt, record { fits = omega arith }), refl)
-within-place s (negsuc a) p e = absurd (not_both e refl)
+within_place : (s : ℕ) (z : ℤ) → s < 4294967296 → within s z ≡ true → (T (non_neg z) × Fits w32 (nat_abs z)) × (nat_abs z ≡ place_in z)
+within_place s (pos a) p e = let q : a ≤ s = leb-true a s e in ((tt, record { fits = omega arith }), refl)
+within_place s (negsuc a) p e = absurd (not_both e refl)
 
 -- as code has them: a signed number stands in its bits
 module _ (s : ℕ) (z : ℤ) (p : s < 4294967296) (q : mag z < 9223372036854775808) where
   read : to_z w64 (of_z w64 z) ≡ z
   read = to_z-of_z {w = w64} (record { sfits = q })
 
-  pub inside-below : lt_z (to_z w64 (of_z w64 z)) (pos 0) ≡ true → false ≡ within s z
-  inside-below e = sym (below_zero s z (subst (λ (x : ℤ). lt_z x (pos 0) ≡ true) read e))
+  pub inside_below : lt_z (to_z w64 (of_z w64 z)) (pos 0) ≡ true → false ≡ within s z
+  inside_below e = sym (below_zero s z (subst (λ (x : ℤ). lt_z x (pos 0) ≡ true) read e))
 
-  pub inside-last : lt_z (to_z w64 (of_z w64 z)) (pos 0) ≡ false → le_z (to_z w64 (of_z w64 z)) (to_z w64 s) ≡ within s z
-  inside-last e =
+  pub inside_last : lt_z (to_z w64 (of_z w64 z)) (pos 0) ≡ false → le_z (to_z w64 (of_z w64 z)) (to_z w64 s) ≡ within s z
+  inside_last e =
       ap (λ (x : ℤ). le_z x (to_z w64 s)) read
       ∙ ap (le_z z) (to_z_pos w64 (omega arith))
       ∙ from_zero s z (subst (λ (x : ℤ). lt_z x (pos 0) ≡ false) read e)
 
-  pub place-fits : within s z ≡ true → T (non_neg (to_z w64 (of_z w64 z))) × Fits w32 (nat_abs (to_z w64 (of_z w64 z)))
-  place-fits e = subst (λ (x : ℤ). T (non_neg x) × Fits w32 (nat_abs x)) (sym read) (within-place s z p e).0
+  pub place_fits : within s z ≡ true → T (non_neg (to_z w64 (of_z w64 z))) × Fits w32 (nat_abs (to_z w64 (of_z w64 z)))
+  place_fits e = subst (λ (x : ℤ). T (non_neg x) × Fits w32 (nat_abs x)) (sym read) (within_place s z p e).0
 
   pub place_is : within s z ≡ true → nat_abs (to_z w64 (of_z w64 z)) ≡ place_in z
-  place_is e = ap nat_abs read ∙ (within-place s z p e).1
+  place_is e = ap nat_abs read ∙ (within_place s z p e).1
 
 -- ---- the answer: b is what the fields say, z the target and d whether it lies in the file
 
@@ -169,6 +169,6 @@ seek_passed h f e =
     let q = passed 12 (not (within h.size (target h f))) [] (omega arith) p.1 in
     (p.0, not-false _ q.0)
 
-within-size : (s : ℕ) (z : ℤ) → within s z ≡ true → place_in z ≤ s
-within-size s (pos t) e = leb-true t s e
-within-size s (negsuc t) e = omega arith
+within_size : (s : ℕ) (z : ℤ) → within s z ≡ true → place_in z ≤ s
+within_size s (pos t) e = leb-true t s e
+within_size s (negsuc t) e = omega arith

@@ -1,6 +1,7 @@
 // lsmfs: lists the root directory of the MFS volume on standard input, 65,536 bytes at most. What it writes is made by
 // lsmfs_pages::say.
 #![tactic(auto)]
+
 const K: u32 = 8;
 
 // Writes the first n bytes.

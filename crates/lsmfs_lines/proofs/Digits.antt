@@ -14,9 +14,9 @@ use Rattle.lsmfs_lines.specs.Decimal.{value_from, Decimal}
 
 -- ---- the two cases
 
-within-last : (k n : ℕ) → n < 10 → digits_within (suc k) n ≡ decimal n ∷ []
+within_last : (k n : ℕ) → n < 10 → digits_within (suc k) n ≡ decimal n ∷ []
 unfolding digits_within
-within-last k n h = pick_true (decimal n ∷ []) (digits_within k (n / 10) ++ (decimal (n % 10) ∷ [])) (lt-ltb n 10 h)
+within_last k n h = pick_true (decimal n ∷ []) (digits_within k (n / 10) ++ (decimal (n % 10) ∷ [])) (lt-ltb n 10 h)
 
 within_more : (k n : ℕ) → 10 ≤ n → digits_within (suc k) n ≡ digits_within k (n / 10) ++ (decimal (n % 10) ∷ [])
 unfolding digits_within
@@ -29,13 +29,13 @@ within_same (suc k) zero n p q = absurd (omega arith)
 within_same (suc k) (suc m) n p q = go (dec_lt n 10) (within_same k m (n / 10))
   where
     go : Dec (n < 10) → (n / 10 < k → n / 10 < m → digits_within k (n / 10) ≡ digits_within m (n / 10)) → digits_within (suc k) n ≡ digits_within (suc m) n
-    go (yes h) i = within-last k n h ∙ sym (within-last m n h)
+    go (yes h) i = within_last k n h ∙ sym (within_last m n h)
     go (no h) i =
         within_more k n (omega arith) ∙ ap (λ (l : List ℕ). l ++ (decimal (n % 10) ∷ [])) (i (omega arith) (omega arith)) ∙ sym (within_more m n (omega arith))
 
 pub digits_last : (n : ℕ) → n < 10 → digits n ≡ decimal n ∷ []
 unfolding digits
-digits_last n h = within-last n n h
+digits_last n h = within_last n n h
 
 pub digits_more : (n : ℕ) → 10 ≤ n → digits n ≡ digits (n / 10) ++ (decimal (n % 10) ∷ [])
 unfolding digits
@@ -67,9 +67,9 @@ length_more n h = ap length (digits_more n h) ∙ length-append (digits (n / 10)
 pub digits-some : (n : ℕ) → 1 ≤ length (digits n)
 digits-some = by_tens (λ (n : ℕ). 1 ≤ length (digits n)) (λ n h. omega (arith, length_last n h)) (λ n h i. omega (arith, length_more n h))
 
-digits-short : (k n : ℕ) → n < 10 ^ suc k → length (digits n) ≤ suc k
-digits-short zero n h = omega (arith, length_last n (omega arith))
-digits-short (suc k) n h = go (dec_lt n 10) (digits-short k (n / 10))
+digits_short : (k n : ℕ) → n < 10 ^ suc k → length (digits n) ≤ suc k
+digits_short zero n h = omega (arith, length_last n (omega arith))
+digits_short (suc k) n h = go (dec_lt n 10) (digits_short k (n / 10))
   where
     t : n < 10 ^ suc k * 10
     t = rw pow-suc at h
@@ -79,35 +79,35 @@ digits-short (suc k) n h = go (dec_lt n 10) (digits-short k (n / 10))
     go (no q) i = omega (arith, t, length_more n (omega arith), i (omega (arith, t)))
 
 -- any bound that its digits keep to gives the number, which then can be computed
-pub digits-within : (k n : ℕ) → n < 10 ^ suc k → digits_within (suc k) n ≡ digits n
-digits-within zero n h = within-last zero n (omega arith) ∙ sym (digits_last n (omega arith))
-digits-within (suc k) n h = go (dec_lt n 10) (digits-within k (n / 10))
+pub digits_within_lem : (k n : ℕ) → n < 10 ^ suc k → digits_within (suc k) n ≡ digits n
+digits_within_lem zero n h = within_last zero n (omega arith) ∙ sym (digits_last n (omega arith))
+digits_within_lem (suc k) n h = go (dec_lt n 10) (digits_within_lem k (n / 10))
   where
     t : n < 10 ^ suc k * 10
     t = rw pow-suc at h
 
     go : Dec (n < 10) → (n / 10 < 10 ^ suc k → digits_within (suc k) (n / 10) ≡ digits (n / 10)) → digits_within (suc (suc k)) n ≡ digits n
-    go (yes q) i = within-last (suc k) n q ∙ sym (digits_last n q)
+    go (yes q) i = within_last (suc k) n q ∙ sym (digits_last n q)
     go (no q) i =
         within_more (suc k) n (omega arith) ∙ ap (λ (l : List ℕ). l ++ (decimal (n % 10) ∷ [])) (i (omega (arith, t))) ∙ sym (digits_more n (omega arith))
 
 -- the widths that code has
 pub digits_32 : (n : ℕ) → n < 4294967296 → length (digits n) ≤ 10
-digits_32 n h = digits-short 9 n (omega arith)
+digits_32 n h = digits_short 9 n (omega arith)
 
 pub digits_64 : (n : ℕ) → n < 18446744073709551616 → length (digits n) ≤ 20
-digits_64 n h = digits-short 19 n (omega arith)
+digits_64 n h = digits_short 19 n (omega arith)
 
 -- ---- they are the decimal of the number
 
-value-more : (v : ℕ) (l : List ℕ) (c : ℕ) → value_from v (l ++ (c ∷ [])) ≡ value_from v l * 10 + (c - 48)
+value_more : (v : ℕ) (l : List ℕ) (c : ℕ) → value_from v (l ++ (c ∷ [])) ≡ value_from v l * 10 + (c - 48)
 unfolding value_from
-value-more v [] c = refl
-value-more v (b ∷ l) c = value-more (v * 10 + (b - 48)) l c
+value_more v [] c = refl
+value_more v (b ∷ l) c = value_more (v * 10 + (b - 48)) l c
 
-decimal-last : (n : ℕ) → n < 10 → Decimal n (digits n)
+decimal_last : (n : ℕ) → n < 10 → Decimal n (digits n)
 unfolding value_from
-decimal-last n h =
+decimal_last n h =
     let e = digits_last n h in
     rw e (record { value = omega arith; low = λ i p. one i p; high = λ i p. two i p; lead = λ p. omega arith; nought = λ p. refl })
   where
@@ -123,9 +123,9 @@ decimal-more : (n : ℕ) → 10 ≤ n → Decimal (n / 10) (digits (n / 10)) →
 decimal-more n h d =
     rw (digits_more n h)
     (record {
-      value = value-more 0 (digits (n / 10)) (decimal (n % 10)) ∙ omega (arith, d.value);
-      low = λ i p. low-at i p (dec_lt i (length l));
-      high = λ i p. high-at i p (dec_lt i (length l));
+      value = value_more 0 (digits (n / 10)) (decimal (n % 10)) ∙ omega (arith, d.value);
+      low = λ i p. low_at i p (dec_lt i (length l));
+      high = λ i p. high_at i p (dec_lt i (length l));
       lead = λ p. rw (get_or-append l (c ∷ []) 0 0 (digits-some (n / 10))) (d.lead (omega arith));
       nought = λ p. absurd (omega arith);
     })
@@ -136,13 +136,13 @@ decimal-more n h d =
     c : ℕ
     c = decimal (n % 10)
 
-    low-at : (i : ℕ) → i < length (l ++ (c ∷ [])) → Dec (i < length l) → 48 ≤ get_or (l ++ (c ∷ [])) i 0
-    low-at i p (yes q) = rw (get_or-append l (c ∷ []) 0 i q) (d.low i q)
-    low-at i p (no q) = rw (get_or_at l c [] 0 i (omega (arith, length-append l (c ∷ [])))) (omega arith)
+    low_at : (i : ℕ) → i < length (l ++ (c ∷ [])) → Dec (i < length l) → 48 ≤ get_or (l ++ (c ∷ [])) i 0
+    low_at i p (yes q) = rw (get_or-append l (c ∷ []) 0 i q) (d.low i q)
+    low_at i p (no q) = rw (get_or_at l c [] 0 i (omega (arith, length-append l (c ∷ [])))) (omega arith)
 
-    high-at : (i : ℕ) → i < length (l ++ (c ∷ [])) → Dec (i < length l) → get_or (l ++ (c ∷ [])) i 0 ≤ 57
-    high-at i p (yes q) = rw (get_or-append l (c ∷ []) 0 i q) (d.high i q)
-    high-at i p (no q) = rw (get_or_at l c [] 0 i (omega (arith, length-append l (c ∷ [])))) (omega arith)
+    high_at : (i : ℕ) → i < length (l ++ (c ∷ [])) → Dec (i < length l) → get_or (l ++ (c ∷ [])) i 0 ≤ 57
+    high_at i p (yes q) = rw (get_or-append l (c ∷ []) 0 i q) (d.high i q)
+    high_at i p (no q) = rw (get_or_at l c [] 0 i (omega (arith, length-append l (c ∷ [])))) (omega arith)
 
 pub digits_decimal : (n : ℕ) → Decimal n (digits n)
-digits_decimal = by_tens (λ (n : ℕ). Decimal n (digits n)) decimal-last decimal-more
+digits_decimal = by_tens (λ (n : ℕ). Decimal n (digits n)) decimal_last decimal-more

@@ -15,13 +15,13 @@ use Rattle.dir_entry.specs.declared.Kind.{Kind}
 use Rattle.dir_entry.specs.Entry.{kind_at}
 use Rattle.lsmfs_lines.specs.Line.{line_of}
 use Rattle.lsmfs_lines.specs.Text.{next_at, line_at, text_from, text_of}
-use Rattle.lsmfs_lines.proofs.Words.{Stored, stored-both}
+use Rattle.lsmfs_lines.proofs.Words.{Stored, stored_both}
 
 -- ---- as code tests and stores them
 
 -- fewer bytes are left than the fixed part has
-pub whole-short : (l : List ℕ) (at : ℕ) → length l - at < 14 → false ≡ leb (next_at l at) (length l)
-whole-short l at h = sym (lt-leb (next_at l at) (length l) (omega arith))
+pub whole_short : (l : List ℕ) (at : ℕ) → length l - at < 14 → false ≡ leb (next_at l at) (length l)
+whole_short l at h = sym (lt-leb (next_at l at) (length l) (omega arith))
 
 -- the name's length k is tested against what is left
 pub whole_room : (at k n : ℕ) → at + 14 ≤ n → leb k (n - at - 14) ≡ leb (at + 14 + k) n
@@ -32,18 +32,18 @@ whole_room at k n h = go (either (leb k (n - at - 14)))
     go (inr t) = t ∙ sym (lt-leb (at + 14 + k) n (omega (arith, leb-false k (n - at - 14) t)))
 
 module _ (l : List ℕ) (at end : ℕ) (e : end ≡ next_at l at) (h : next_at l at ≤ length l) where
-  name-taken : take (end - (at + 14)) (drop (at + 14) l) ≡ take (get_or l (at + 13) 0) (drop (at + 14) l)
-  name-taken =
+  name_taken : take (end - (at + 14)) (drop (at + 14) l) ≡ take (get_or l (at + 13) 0) (drop (at + 14) l)
+  name_taken =
       let q : end - (at + 14) ≡ get_or l (at + 13) 0 = omega arith in
       ap (λ (k : ℕ). take k (drop (at + 14) l)) q
 
-  pub name-short : length (take (end - (at + 14)) (drop (at + 14) l)) ≡ get_or l (at + 13) 0
-  name-short = simp (length-take, length-drop) (omega arith)
+  pub name_short : length (take (end - (at + 14)) (drop (at + 14) l)) ≡ get_or l (at + 13) 0
+  name_short = simp (length-take, length-drop) (omega arith)
 
   pub record_lined : (o o₁ : List ℕ) (to r size time : ℕ) (k : Kind) → k ≡ kind_at (get_or l at 0) → size ≡ be 4 l (at + 1) → time ≡ be 8 l (at + 5)
       → Stored o o₁ to (line_of k size time (take (end - (at + 14)) (drop (at + 14) l))) r → Stored o o₁ to (line_at l at) r
   unfolding line_at
-  record_lined o o₁ to r size time k ek es et s = rw (ek, es, et, name-taken) at s
+  record_lined o o₁ to r size time k ek es et s = rw (ek, es, et, name_taken) at s
 
 -- ---- one after the other
 
@@ -52,9 +52,9 @@ unfolding text_from
 text_stop zero l at f = refl
 text_stop (suc k) l at f = pick_false (line_at l at ++ text_from k l (next_at l at)) [] f
 
-text-go : (k : ℕ) (l : List ℕ) (at : ℕ) → leb (next_at l at) (length l) ≡ true → text_from (suc k) l at ≡ line_at l at ++ text_from k l (next_at l at)
+text_go : (k : ℕ) (l : List ℕ) (at : ℕ) → leb (next_at l at) (length l) ≡ true → text_from (suc k) l at ≡ line_at l at ++ text_from k l (next_at l at)
 unfolding text_from
-text-go k l at t = pick_true (line_at l at ++ text_from k l (next_at l at)) [] t
+text_go k l at t = pick_true (line_at l at ++ text_from k l (next_at l at)) [] t
 
 -- any bound does that reaches the end
 text_same : (k m : ℕ) (l : List ℕ) (at : ℕ) → length l ≤ at + k → length l ≤ at + m → text_from k l at ≡ text_from m l at
@@ -68,22 +68,22 @@ text_same (suc k) (suc m) l at p q = go (either (leb (next_at l at) (length l)))
   where
     go : (leb (next_at l at) (length l) ≡ true) ⊎ (leb (next_at l at) (length l) ≡ false) → text_from k l (next_at l at) ≡ text_from m l (next_at l at)
         → text_from (suc k) l at ≡ text_from (suc m) l at
-    go (inl t) i = text-go k l at t ∙ ap (λ (y : List ℕ). line_at l at ++ y) i ∙ sym (text-go m l at t)
+    go (inl t) i = text_go k l at t ∙ ap (λ (y : List ℕ). line_at l at ++ y) i ∙ sym (text_go m l at t)
     go (inr f) i = text_stop (suc k) l at f ∙ sym (text_stop (suc m) l at f)
 
 -- the lines from byte `at` on
 abbrev pub text_at : List ℕ → ℕ → List ℕ
 text_at l at = text_from (length l - at) l at
 
-pub text-end : (l : List ℕ) (at : ℕ) → leb (next_at l at) (length l) ≡ false → text_at l at ≡ []
-text-end l at f = text_stop (length l - at) l at f
+pub text_end : (l : List ℕ) (at : ℕ) → leb (next_at l at) (length l) ≡ false → text_at l at ≡ []
+text_end l at f = text_stop (length l - at) l at f
 
-pub text-more : (l : List ℕ) (at : ℕ) → leb (next_at l at) (length l) ≡ true → text_at l at ≡ line_at l at ++ text_at l (next_at l at)
-text-more l at t =
+pub text_more : (l : List ℕ) (at : ℕ) → leb (next_at l at) (length l) ≡ true → text_at l at ≡ line_at l at ++ text_at l (next_at l at)
+text_more l at t =
     let h : next_at l at ≤ length l = leb-true (next_at l at) (length l) t in
     let j : ℕ = length l - at - 1 in
     let e : length l - at ≡ suc j = omega arith in
-    ap (λ (k : ℕ). text_from k l at) e ∙ text-go j l at t
+    ap (λ (k : ℕ). text_from k l at) e ∙ text_go j l at t
     ∙ ap (λ (y : List ℕ). line_at l at ++ y) (text_same j (length l - next_at l at) l (next_at l at) (omega arith) (omega arith))
 
 -- ---- the loop: what is stored, and what is left, make up the whole
@@ -112,12 +112,12 @@ done_more o₀ o o₁ l at used r p h d t k s b e =
       lines = d.lines ++ line_at l at;
       rest =
           append_assoc d.lines (line_at l at) (text_at l p) ∙ ap (λ (y : ℕ). d.lines ++ (line_at l at ++ text_at l y)) e
-          ∙ ap (λ (y : List ℕ). d.lines ++ y) (sym (text-more l at t)) ∙ d.rest;
-      stored = stored-both o₀ o o₁ 0 used r d.lines (line_at l at) (omega (arith, d.stored.1, s.1)) d.stored s;
+          ∙ ap (λ (y : List ℕ). d.lines ++ y) (sym (text_more l at t)) ∙ d.rest;
+      stored = stored_both o₀ o o₁ 0 used r d.lines (line_at l at) (omega (arith, d.stored.1, s.1)) d.stored s;
     }
 
 pub done_all : (o₀ o l : List ℕ) (at used : ℕ) → Done o₀ o l at used → leb (next_at l at) (length l) ≡ false
     → (o ≡ splice o₀ 0 (text_of l)) × ((used ≡ length (text_of l)) × (used ≤ 3 * length l))
 done_all o₀ o l at used d f =
-    let q : d.lines ≡ text_of l = sym (append-nil d.lines) ∙ ap (λ (y : List ℕ). d.lines ++ y) (sym (text-end l at f)) ∙ d.rest in
+    let q : d.lines ≡ text_of l = sym (append-nil d.lines) ∙ ap (λ (y : List ℕ). d.lines ++ y) (sym (text_end l at f)) ∙ d.rest in
     (d.stored.0 ∙ ap (splice o₀ 0) q, (omega (arith, d.stored.1, ap length q), omega (arith, d.inside, d.short)))

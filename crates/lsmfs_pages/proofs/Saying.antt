@@ -8,7 +8,7 @@ use lib.ListN.{length}
 use Rattle.wire.specs.Be.{splice}
 use Rattle.model.specs.Answers.{Reply, accepted}
 use Rattle.model.specs.Geometry.{Mount, open_refusal}
-use Rattle.model.proofs.Replies.{given-accepted}
+use Rattle.model.proofs.Replies.{given_accepted}
 use Rattle.limits.specs.Refusals.{refusal_number}
 use Rattle.limits.specs.declared.Refusal.{Refusal}
 use Rattle.limits.specs.declared.Refusal.TheVariants.{BadImage}
@@ -27,11 +27,11 @@ use Rattle.lsmfs_pages.specs.Page.{root_from, page_text, text_counts, page_reply
 use Rattle.lsmfs_pages.specs.Says.{Told, PageTold, OnPage, Says}
 
 -- the bytes that a page's answer tells are those of its text
-text-bytes : (x : Listed) (t : List ℕ) (n j : ℕ) → text_counts x t ≡ accepted (record { bytes = n; next = j }) → n ≡ length t
-text-bytes (listed.Records b k) t n j e =
+text_bytes : (x : Listed) (t : List ℕ) (n j : ℕ) → text_counts x t ≡ accepted (record { bytes = n; next = j }) → n ≡ length t
+text_bytes (listed.Records b k) t n j e =
     let q : ◌≡◌ {A = Counts} (record { bytes = length t; next = k }) (record { bytes = n; next = j }) = cc in
     sym (ap (λ (c : Counts). c.bytes) q)
-text-bytes listed.Damaged t n j e = absurd (let z : ◌≡◌ {A = ℕ} 0 1 = cc in omega arith)
+text_bytes listed.Damaged t n j e = absurd (let z : ◌≡◌ {A = ℕ} 0 1 = cc in omega arith)
 
 page_bytes : (M : Mount) (I : List ℕ) (i cap n j : ℕ) → accepted (record { bytes = n; next = j }) ≡ page_reply M I i cap
     → n ≡ length (page_text M I i cap)
@@ -39,7 +39,7 @@ unfolding page_reply
 page_bytes M I i cap n j e =
     let x : Listed = list_from cap 0 i (root_from M I i) in
     let t : List ℕ = page_text M I i cap in
-    text-bytes x t n j (given-accepted (open_refusal M I) (text_counts x t) (record { bytes = n; next = j }) (sym e)).1
+    text_bytes x t n j (given_accepted (open_refusal M I) (text_counts x t) (record { bytes = n; next = j }) (sym e)).1
 
 module _ (M : Mount) (I : List ℕ) (i : ℕ) (buf out : List ℕ) (s : Said) where
   page_told : (mid : List ℕ) (q : Listing) → Pages M I i 1024 buf mid q → PageTold mid out i q s
@@ -54,9 +54,9 @@ module _ (M : Mount) (I : List ℕ) (i : ℕ) (buf out : List ℕ) (s : Said) wh
       let w : List ℕ = refused_line (refusal_number r) in
       subst (λ (y : Reply Counts). OnPage y buf out t i s) p.answer (e ∙ ap (λ (y : List ℕ). splice y 0 w) m, l, x)
 
-  pub says-long : (more : Bool) → more ≡ true → Told buf out (refused_line (refusal_number BadImage)) i s
+  pub says_long : (more : Bool) → more ≡ true → Told buf out (refused_line (refusal_number BadImage)) i s
       → Says M I more i buf out s
-  says-long more e t = record {
+  says_long more e t = record {
     long = λ _. t;
     refuses = λ f _. absurd (let z : ◌≡◌ {A = ℕ} 0 1 = cc in omega arith);
     lists = λ f _ _. absurd (let z : ◌≡◌ {A = ℕ} 0 1 = cc in omega arith);
@@ -87,9 +87,9 @@ module _ (M : Mount) (I : List ℕ) (i : ℕ) (buf out : List ℕ) (s : Said) wh
         }
 
 -- the line of a refusal, by its number
-pub refused-told : (buf out : List ℕ) (m n len i : ℕ) → n ≡ m → out ≡ splice buf 0 (refused_line n) → len ≡ length (refused_line n)
+pub refused_told : (buf out : List ℕ) (m n len i : ℕ) → n ≡ m → out ≡ splice buf 0 (refused_line n) → len ≡ length (refused_line n)
     → Told buf out (refused_line m) i (record { len = len; next = i })
-refused-told buf out m n len i e p q =
+refused_told buf out m n len i e p q =
     (p ∙ ap (λ (k : ℕ). splice buf 0 (refused_line k)) e, q ∙ ap (λ (k : ℕ). length (refused_line k)) e, refl)
 
 -- the arms of a match on a page's answer

@@ -14,7 +14,7 @@ use Rattle.dir_entry.specs.declared.DirEntry.{DirEntry}
 use Rattle.read_dir.specs.declared.Listed.TheVariants as listed
 use Rattle.read_dir.specs.Walk.{Walk, item, finished, damaged}
 use Rattle.read_dir.specs.Finds.{skip, list_from}
-use Rattle.read_dir.proofs.Records.{skip-item, skip-none, skip-finished, skip-damaged}
+use Rattle.read_dir.proofs.Records.{skip_item, skip-none, skip_finished, skip_damaged}
 use Rattle.read_dir.proofs.Items.{Each}
 use Rattle.lsmfs_lines.specs.Line.{line_of}
 use Rattle.lsmfs_lines.specs.Text.{lines_from}
@@ -26,12 +26,12 @@ skip-add : (i k : ℕ) (w : Walk) → skip (i + k) w ≡ skip k (skip i w)
 unfolding skip
 skip-add zero k w = ap (λ (j : ℕ). skip j w) (zero-add k)
 skip-add (suc i) k (item e a o x w) = ap (λ (j : ℕ). skip j (item e a o x w)) (suc-add i k) ∙ skip-add i k w
-skip-add (suc i) k finished = ap (λ (j : ℕ). skip j finished) (suc-add i k) ∙ sym (skip-finished k)
-skip-add (suc i) k damaged = ap (λ (j : ℕ). skip j damaged) (suc-add i k) ∙ sym (skip-damaged k)
+skip-add (suc i) k finished = ap (λ (j : ℕ). skip j finished) (suc-add i k) ∙ sym (skip_finished k)
+skip-add (suc i) k damaged = ap (λ (j : ℕ). skip j damaged) (suc-add i k) ∙ sym (skip_damaged k)
 
-lines-item : (e : DirEntry) (a o : ℕ) (x : List ℕ) (w : Walk) → all_lines (item e a o x w) ≡ line_of e.kind e.size e.time x ++ all_lines w
+lines_item : (e : DirEntry) (a o : ℕ) (x : List ℕ) (w : Walk) → all_lines (item e a o x w) ≡ line_of e.kind e.size e.time x ++ all_lines w
 unfolding all_lines
-lines-item e a o x w = refl
+lines_item e a o x w = refl
 
 -- A listing that ends at number j gives the lines before it, and the others are those from j on.
 rest_of : (cap b i : ℕ) (w : Walk) (c j : ℕ) → list_from cap b i w ≡ listed.Records c j → (i ≤ j) × (all_lines w ≡ lines_from cap b w ++ all_lines (skip (j - i) w))
@@ -52,7 +52,7 @@ rest_of cap b i (item e a o x w) c j q = go (either (ltb (b + (14 + e.len)) cap)
         let h = ih (sym (pick_true (list_from cap (b + (14 + e.len)) (i + 1) w) (listed.Records b i) t) ∙ q) in
         let left : Walk = skip (j - (i + 1)) w in
         let d : j - i - 1 ≡ j - (i + 1) = omega arith in
-        let s : skip (j - i) (item e a o x w) ≡ left = skip-item (j - i) e a o x w (omega (arith, h.0)) ∙ ap (λ (k : ℕ). skip k w) d in (
+        let s : skip (j - i) (item e a o x w) ≡ left = skip_item (j - i) e a o x w (omega (arith, h.0)) ∙ ap (λ (k : ℕ). skip k w) d in (
           omega (arith, h.0),
           ap (λ (y : List ℕ). line ++ y) h.1 ∙ sym (append_assoc line more (all_lines left)) ∙ ap (λ (y : List ℕ). y ++ all_lines left) (sym (pick_true (line ++ more) [] t))
               ∙ ap (λ (y : Walk). pick (ltb (b + (14 + e.len)) cap) (line ++ more) [] ++ all_lines y) (sym s),
@@ -62,9 +62,9 @@ rest_of cap b i (item e a o x w) c j q = go (either (ltb (b + (14 + e.len)) cap)
         let d : i ≡ j = cc in
         let s : skip (j - i) (item e a o x w) ≡ item e a o x w = skip-none (j - i) (item e a o x w) (omega arith) in (
           omega arith,
-          sym (ap (λ (y : List ℕ). y ++ all_lines (skip (j - i) (item e a o x w))) (pick_false (line ++ more) [] f) ∙ ap all_lines s ∙ lines-item e a o x w),
+          sym (ap (λ (y : List ℕ). y ++ all_lines (skip (j - i) (item e a o x w))) (pick_false (line ++ more) [] f) ∙ ap all_lines s ∙ lines_item e a o x w),
         )
-rest_of cap b i finished c j q = let d : i ≡ j = cc in (omega arith, sym (ap all_lines (skip-finished (j - i))))
+rest_of cap b i finished c j q = let d : i ≡ j = cc in (omega arith, sym (ap all_lines (skip_finished (j - i))))
 rest_of cap b i damaged c j q = absurd (let z : ◌≡◌ {A = ℕ} 0 1 = cc in omega arith)
 
 -- Where it ends at its own number, and the buffer takes the longest record, there is no entry.

@@ -19,11 +19,11 @@ use Rattle.model.specs.Volume.{blocks_for}
 use Rattle.model.specs.Tree.{any, on_first, used, weight, insert}
 use Rattle.model.specs.Calls.{to_create, has_room, file_entry}
 use Rattle.model.proofs.Areas.{size_large}
-use Rattle.model.proofs.Commit.{shows-one}
+use Rattle.model.proofs.Commit.{shows_one}
 use Rattle.model.proofs.Demand.{whole_super}
-use Rattle.model.proofs.Entries.{be-shown}
-use Rattle.model.proofs.OneVolume.{TopReads, top-reads, shown-part}
-use Rattle.model.proofs.Opens.{Marked, code-good, image-good, mark-good, open_2, open_3, open_code}
+use Rattle.model.proofs.Entries.{be_shown}
+use Rattle.model.proofs.OneVolume.{TopReads, top_reads, shown_part}
+use Rattle.model.proofs.Opens.{Marked, code_good, image_good, mark_good, open_2, open_3, open_code}
 use Rattle.dir_entry.specs.Entry.{head_bytes, slot_at, entry_at, kind_at}
 use Rattle.read_dir.specs.Walk.{on_slot, shown, entries_from, chain_from}
 use Rattle.read_dir.specs.Finds.{find_in, skip, list_from}
@@ -41,9 +41,9 @@ last_true true b e = refl
 last_true false true e = refl
 last_true false false e = e
 
-mark-bad : (M : Mount) (I : List ℕ) → bad_version (version_at M I) M.code ≡ true → bad_mark M I ≡ true
+mark_bad : (M : Mount) (I : List ℕ) → bad_version (version_at M I) M.code ≡ true → bad_mark M I ≡ true
 unfolding bad_mark
-mark-bad M I e = last_true (not (same (take 8 (drop (code_size M.code * M.K) I)) signature)) (not (eqb (code_at M I) M.code)) e
+mark_bad M I e = last_true (not (same (take 8 (drop (code_size M.code * M.K) I)) signature)) (not (eqb (code_at M I) M.code)) e
 
 -- what is asked of the numbers, each a fact of numbers in digits
 record Plain (g : Geo) : Type 0 where
@@ -64,55 +64,55 @@ module _ (g : Geo) (p : Plain g) where
   abbrev clear : List ℕ
   clear = zeros (block_size g * g.n)
 
-  clear-long : length clear ≡ block_size g * g.n
-  clear-long = length-replicate (block_size g * g.n) 0
+  clear_long : length clear ≡ block_size g * g.n
+  clear_long = length-replicate (block_size g * g.n) 0
 
   fits : from + length block ≤ length clear
-  fits = omega (arith, clear-long, whole_super g (data_at g), p.top)
+  fits = omega (arith, clear_long, whole_super g (data_at g), p.top)
 
-  image-long : length (image_of g) ≡ block_size g * g.n
-  image-long = length-splice clear from block fits ∙ clear-long
+  image_long : length (image_of g) ≡ block_size g * g.n
+  image_long = length-splice clear from block fits ∙ clear_long
 
   reads : TopReads (image_of g) from g (data_at g)
-  reads = top-reads (image_of g) from g (data_at g) (splice_in clear from block fits)
+  reads = top_reads (image_of g) from g (data_at g) (splice_in clear from block fits)
 
-  count-is : count_at (mounted g) (image_of g) ≡ g.n
+  count_is : count_at (mounted g) (image_of g) ≡ g.n
   unfolding count_at
-  count-is = be-shown (image_of g) (from + 10) 4 g.n p.few reads.count
+  count_is = be_shown (image_of g) (from + 10) 4 g.n p.few reads.count
 
-  version-is : version_at (mounted g) (image_of g) ≡ g.version
+  version_is : version_at (mounted g) (image_of g) ≡ g.version
   unfolding version_at
-  version-is = reads.mark 8 (omega arith)
+  version_is = reads.mark 8 (omega arith)
 
   code_is : code_at (mounted g) (image_of g) ≡ g.code
   unfolding code_at
   code_is = reads.mark 9 (omega arith)
 
-  geo-is : geo_at (mounted g) (image_of g) ≡ g
-  geo-is = λ i. record { K = g.K; n = count-is i; version = version-is i; code = g.code }
+  geo_is : geo_at (mounted g) (image_of g) ≡ g
+  geo_is = λ i. record { K = g.K; n = count_is i; version = version_is i; code = g.code }
 
   marked : Marked (mounted g) (image_of g)
   marked =
-      let m : Shows (image_of g) from signature = shows-one (image_of g) from signature (g.version ∷ (g.code ∷ [])) reads.mark in
+      let m : Shows (image_of g) from signature = shows_one (image_of g) from signature (g.version ∷ (g.code ∷ [])) reads.mark in
       let s : take 8 (drop from (image_of g)) ≡ signature
-      = shown-part (image_of g) from signature (omega (arith, image-long, p.top, size_large g)) m in
+      = shown_part (image_of g) from signature (omega (arith, image_long, p.top, size_large g)) m in
       record { letters = ap (λ (x : List ℕ). same x signature) s ∙ same_refl signature; code = code_is }
 
-  image-is : bad_image (mounted g) (length (image_of g)) ≡ false
-  image-is = ap (bad_image (mounted g)) image-long ∙ image-good (mounted g) (block_size g * g.n) p.whole p.limit p.more
+  image_is : bad_image (mounted g) (length (image_of g)) ≡ false
+  image_is = ap (bad_image (mounted g)) image_long ∙ image_good (mounted g) (block_size g * g.n) p.whole p.limit p.more
 
   -- It is refused by 2 where no volume of its size code has its version,
   open_other : bad_version g.version g.code ≡ true → opening g ≡ 2
   open_other b =
-      open_2 (mounted g) (image_of g) (code-good (mounted g) p.code) image-is
-      (mark-bad (mounted g) (image_of g) (ap (λ (v : ℕ). bad_version v g.code) version-is ∙ b))
+      open_2 (mounted g) (image_of g) (code_good (mounted g) p.code) image_is
+      (mark_bad (mounted g) (image_of g) (ap (λ (v : ℕ). bad_version v g.code) version_is ∙ b))
 
   -- and by 3 where that is known and the count is bad.
   open_bad : bad_version g.version g.code ≡ false → bad_count g (block_size g * g.n) ≡ true → opening g ≡ 3
   open_bad v b =
-      open_3 (mounted g) (image_of g) (code-good (mounted g) p.code) image-is
-      (mark-good (mounted g) (image_of g) marked (ap (λ (x : ℕ). bad_version x g.code) version-is ∙ v))
-      (ap (λ (h : Geo). bad_count h (length (image_of g))) geo-is ∙ ap (bad_count g) image-long ∙ b)
+      open_3 (mounted g) (image_of g) (code_good (mounted g) p.code) image_is
+      (mark_good (mounted g) (image_of g) marked (ap (λ (x : ℕ). bad_version x g.code) version_is ∙ v))
+      (ap (λ (h : Geo). bad_count h (length (image_of g))) geo_is ∙ ap (bad_count g) image_long ∙ b)
 
 opens_11 : opening (geo narrow 11) ≡ 3
 unfolding bad_version bad_count pick
@@ -122,21 +122,21 @@ opens_4108 : opening (geo narrow 4108) ≡ 3
 unfolding bad_version bad_count pick
 opens_4108 = open_bad (geo narrow 4108) (record { code = omega arith; whole = refl; limit = omega arith; more = omega arith; top = omega arith; few = omega arith }) refl refl
 
-opens-wide_11 : opening (geo wide 11) ≡ 3
+opens_wide_11 : opening (geo wide 11) ≡ 3
 unfolding bad_version bad_count pick
-opens-wide_11 = open_bad (geo wide 11) (record { code = omega arith; whole = refl; limit = omega arith; more = omega arith; top = omega arith; few = omega arith }) refl refl
+opens_wide_11 = open_bad (geo wide 11) (record { code = omega arith; whole = refl; limit = omega arith; more = omega arith; top = omega arith; few = omega arith }) refl refl
 
-opens-wide_8204 : opening (geo wide 8204) ≡ 3
+opens_wide_8204 : opening (geo wide 8204) ≡ 3
 unfolding bad_version bad_count pick
-opens-wide_8204 = open_bad (geo wide 8204) (record { code = omega arith; whole = refl; limit = omega arith; more = omega arith; top = omega arith; few = omega arith }) refl refl
+opens_wide_8204 = open_bad (geo wide 8204) (record { code = omega arith; whole = refl; limit = omega arith; more = omega arith; top = omega arith; few = omega arith }) refl refl
 
-opens-wide-old : opening (numbered wide 1 8203) ≡ 2
+opens_wide_old : opening (numbered wide 1 8203) ≡ 2
 unfolding bad_version
-opens-wide-old = open_other (numbered wide 1 8203) (record { code = omega arith; whole = refl; limit = omega arith; more = omega arith; top = omega arith; few = omega arith }) refl
+opens_wide_old = open_other (numbered wide 1 8203) (record { code = omega arith; whole = refl; limit = omega arith; more = omega arith; top = omega arith; few = omega arith }) refl
 
-opens-old_4106 : opening (numbered narrow 1 4106) ≡ 3
+opens_old_4106 : opening (numbered narrow 1 4106) ≡ 3
 unfolding bad_version bad_count pick
-opens-old_4106 = open_bad (numbered narrow 1 4106) (record { code = omega arith; whole = refl; limit = omega arith; more = omega arith; top = omega arith; few = omega arith }) refl refl
+opens_old_4106 = open_bad (numbered narrow 1 4106) (record { code = omega arith; whole = refl; limit = omega arith; more = omega arith; top = omega arith; few = omega arith }) refl refl
 
 -- ---- `/a//b`
 
@@ -189,13 +189,13 @@ marked_examples_lem =
                           (
                             refl,
                             (
-                              ap both opens-wide_11,
+                              ap both opens_wide_11,
                               (
                                 refl,
                                 (
                                   refl,
                                   (
-                                    ap both opens-wide_8204,
+                                    ap both opens_wide_8204,
                                     (
                                       refl,
                                       (
@@ -205,8 +205,8 @@ marked_examples_lem =
                                           (
                                             ap coded (open_code (mount 8 2) [] (omega arith)),
                                             (
-                                              ap one opens-wide-old,
-                                              (ap one opens-old_4106, (refl, tt)),
+                                              ap one opens_wide_old,
+                                              (ap one opens_old_4106, (refl, tt)),
                                             ),
                                           ),
                                         ),

@@ -34,14 +34,14 @@ handed : (a : Answer) (h : Handle) (ns x : List ℕ) (len c : ℕ) (ns' x' : Lis
 handed answer.Success h ns x len c ns' x' len' e o = parts h ns' x' len' o.numbers (sym o.name) (sym o.long)
 handed (answer.Refused r) h ns x len c ns' x' len' e o = let z : ◌≡◌ {A = ℕ} 0 1 = cc in absurd (omega arith)
 
-pub open_c-handle : (M : Mount) (I cwd p ns x : List ℕ) (len c : ℕ) (ns' x' : List ℕ) (len' : ℕ) (a : OpensC M I cwd p ns x len c ns' x' len')
+pub open_c_handle : (M : Mount) (I cwd p ns x : List ℕ) (len c : ℕ) (ns' x' : List ℕ) (len' : ℕ) (a : OpensC M I cwd p ns x len c ns' x' len')
     → a.answer.answer ≡ answer.Success → handle_of ns' x' len' ≡ a.answer.handle
-open_c-handle M I cwd p ns x len c ns' x' len' a e = handed a.answer.answer a.answer.handle ns x len c ns' x' len' e a.out
+open_c_handle M I cwd p ns x len c ns' x' len' a e = handed a.answer.answer a.answer.handle ns x len c ns' x' len' e a.out
 
-pub create-file-c-handle : (M : Mount) (I W cwd p : List ℕ) (time : ℕ) (ns x : List ℕ) (len c : ℕ) (J Z ns' x' : List ℕ) (len' : ℕ)
+pub create_file_c_handle : (M : Mount) (I W cwd p : List ℕ) (time : ℕ) (ns x : List ℕ) (len c : ℕ) (J Z ns' x' : List ℕ) (len' : ℕ)
     (a : CreatesFileC M I W cwd p time ns x len c J Z ns' x' len')
     → a.answer.answer ≡ answer.Success → handle_of ns' x' len' ≡ a.answer.handle
-create-file-c-handle M I W cwd p time ns x len c J Z ns' x' len' a e = handed a.answer.answer a.answer.handle ns x len c ns' x' len' e a.out
+create_file_c_handle M I W cwd p time ns x len c J Z ns' x' len' a e = handed a.answer.answer a.answer.handle ns x len c ns' x' len' e a.out
 
 -- ---- a handle given and handed back, refused or not: the name is the one given
 
@@ -51,38 +51,38 @@ module _ (ns x : List ℕ) (len : ℕ) where
   read_back k g vs buf out ns' (counted.Bytes j) r e = parts g ns' x len e (ap (λ (h : Handle). h.name) r.handle) (ap (λ (h : Handle). h.len) r.handle)
   read_back k g vs buf out ns' (counted.Refused y) r e = ap (λ (z : List ℕ). handle_of z x len) e ∙ sym r.handle
 
-  pub read-c-handle : (M : Mount) (I buf : List ℕ) (bytes c : ℕ) (ns' out : List ℕ) (bytes' : ℕ) (a : ReadsC M I ns x len buf bytes c ns' out bytes')
+  pub read_c_handle : (M : Mount) (I buf : List ℕ) (bytes c : ℕ) (ns' out : List ℕ) (bytes' : ℕ) (a : ReadsC M I ns x len buf bytes c ns' out bytes')
       → handle_of ns' x len ≡ a.answer.handle
-  read-c-handle M I buf bytes c ns' out bytes' a = read_back _ a.answer.handle _ buf out ns' a.answer.answer a.call a.told.numbers
+  read_c_handle M I buf bytes c ns' out bytes' a = read_back _ a.answer.handle _ buf out ns' a.answer.answer a.call a.told.numbers
 
   seek_back : (from : SeekFrom) (g : Handle) (ns' : List ℕ) (a : Answer)
       → MovedIs (handle_of ns x len) from g a → ns' ≡ out_of (says a) (λ (u : Unit {0}). numbers_of g) ns → handle_of ns' x len ≡ g
   seek_back from g ns' answer.Success r e = parts g ns' x len e (ap (λ (h : Handle). h.name) r.1) (ap (λ (h : Handle). h.len) r.1)
   seek_back from g ns' (answer.Refused y) r e = ap (λ (z : List ℕ). handle_of z x len) e ∙ sym r.1
 
-  pub seek_c-handle : (from : SeekFrom) (c : ℕ) (ns' : List ℕ) (a : SeeksC ns x len from c ns') → handle_of ns' x len ≡ a.answer.handle
-  seek_c-handle from c ns' a = seek_back from a.answer.handle ns' a.answer.answer a.call a.numbers
+  pub seek_c_handle : (from : SeekFrom) (c : ℕ) (ns' : List ℕ) (a : SeeksC ns x len from c ns') → handle_of ns' x len ≡ a.answer.handle
+  seek_c_handle from c ns' a = seek_back from a.answer.handle ns' a.answer.answer a.call a.numbers
 
-  write-back : (k : ℕ) (t : Reply Target) (g : Handle) (ns' : List ℕ) (a : Counted)
+  write_back : (k : ℕ) (t : Reply Target) (g : Handle) (ns' : List ℕ) (a : Counted)
       → counted_says a ≡ count_of k t → g ≡ handle_after (handle_of ns x len) k t → ns' ≡ out_of (counted_says a) (λ (n : ℕ). numbers_of g) ns → handle_of ns' x len ≡ g
   unfolding count_of and_then
-  write-back k (accepted t) g ns' (counted.Bytes j) s r e = parts g ns' x len e (ap (λ (h : Handle). h.name) r) (ap (λ (h : Handle). h.len) r)
-  write-back k (accepted t) g ns' (counted.Refused y) s r e = let z : ◌≡◌ {A = ℕ} 0 1 = cc in absurd (omega arith)
-  write-back k (refused i) g ns' (counted.Bytes j) s r e = let z : ◌≡◌ {A = ℕ} 0 1 = cc in absurd (omega arith)
-  write-back k (refused i) g ns' (counted.Refused y) s r e = ap (λ (z : List ℕ). handle_of z x len) e ∙ sym r
+  write_back k (accepted t) g ns' (counted.Bytes j) s r e = parts g ns' x len e (ap (λ (h : Handle). h.name) r) (ap (λ (h : Handle). h.len) r)
+  write_back k (accepted t) g ns' (counted.Refused y) s r e = let z : ◌≡◌ {A = ℕ} 0 1 = cc in absurd (omega arith)
+  write_back k (refused i) g ns' (counted.Bytes j) s r e = let z : ◌≡◌ {A = ℕ} 0 1 = cc in absurd (omega arith)
+  write_back k (refused i) g ns' (counted.Refused y) s r e = ap (λ (z : List ℕ). handle_of z x len) e ∙ sym r
 
-  pub write-c-handle : (M : Mount) (I W buf : List ℕ) (time bytes c : ℕ) (J Z ns' : List ℕ) (bytes' : ℕ) (a : WritesC M I W ns x len buf time bytes c J Z ns' bytes')
+  pub write_c_handle : (M : Mount) (I W buf : List ℕ) (time bytes c : ℕ) (J Z ns' : List ℕ) (bytes' : ℕ) (a : WritesC M I W ns x len buf time bytes c J Z ns' bytes')
       → handle_of ns' x len ≡ a.answer.handle
-  write-c-handle M I W buf time bytes c J Z ns' bytes' a = write-back _ _ a.answer.handle ns' a.answer.answer a.call.answer a.call.handle a.told.numbers
+  write_c_handle M I W buf time bytes c J Z ns' bytes' a = write_back _ _ a.answer.handle ns' a.answer.answer a.call.answer a.call.handle a.told.numbers
 
-  patch-back : (k : ℕ) (t : Reply Target) (g : Handle) (ns' : List ℕ) (a : Counted)
+  patch_back : (k : ℕ) (t : Reply Target) (g : Handle) (ns' : List ℕ) (a : Counted)
       → counted_says a ≡ count_of k t → g ≡ handle_behind (handle_of ns x len) k t → ns' ≡ out_of (counted_says a) (λ (n : ℕ). numbers_of g) ns → handle_of ns' x len ≡ g
   unfolding count_of and_then
-  patch-back k (accepted t) g ns' (counted.Bytes j) s r e = parts g ns' x len e (ap (λ (h : Handle). h.name) r) (ap (λ (h : Handle). h.len) r)
-  patch-back k (accepted t) g ns' (counted.Refused y) s r e = let z : ◌≡◌ {A = ℕ} 0 1 = cc in absurd (omega arith)
-  patch-back k (refused i) g ns' (counted.Bytes j) s r e = let z : ◌≡◌ {A = ℕ} 0 1 = cc in absurd (omega arith)
-  patch-back k (refused i) g ns' (counted.Refused y) s r e = ap (λ (z : List ℕ). handle_of z x len) e ∙ sym r
+  patch_back k (accepted t) g ns' (counted.Bytes j) s r e = parts g ns' x len e (ap (λ (h : Handle). h.name) r) (ap (λ (h : Handle). h.len) r)
+  patch_back k (accepted t) g ns' (counted.Refused y) s r e = let z : ◌≡◌ {A = ℕ} 0 1 = cc in absurd (omega arith)
+  patch_back k (refused i) g ns' (counted.Bytes j) s r e = let z : ◌≡◌ {A = ℕ} 0 1 = cc in absurd (omega arith)
+  patch_back k (refused i) g ns' (counted.Refused y) s r e = ap (λ (z : List ℕ). handle_of z x len) e ∙ sym r
 
-  pub patch-c-handle : (M : Mount) (I W buf : List ℕ) (time bytes c : ℕ) (J Z ns' : List ℕ) (bytes' : ℕ) (a : PatchesC M I W ns x len buf time bytes c J Z ns' bytes')
+  pub patch_c_handle : (M : Mount) (I W buf : List ℕ) (time bytes c : ℕ) (J Z ns' : List ℕ) (bytes' : ℕ) (a : PatchesC M I W ns x len buf time bytes c J Z ns' bytes')
       → handle_of ns' x len ≡ a.answer.handle
-  patch-c-handle M I W buf time bytes c J Z ns' bytes' a = patch-back _ _ a.answer.handle ns' a.answer.answer a.call.answer a.call.handle a.told.numbers
+  patch_c_handle M I W buf time bytes c J Z ns' bytes' a = patch_back _ _ a.answer.handle ns' a.answer.answer a.call.answer a.call.handle a.told.numbers

@@ -41,8 +41,8 @@ use Rattle.call_patch.specs.Patches.{Patches}
 use Rattle.mfs_c.specs.Exports.{told, handle_of, numbers_of, UsesC, AsksC, HandleOut, InformsC, ListsC, CountOut, ReadsC, SeeksC, WritesC, PatchesC}
 
 -- a plain answer that is refused
-pub code-refused : (a : Answer) (r : Refusal) (c : ℕ) → a ≡ answer.Refused r → c ≡ refusal_number r → c ≡ told (says a)
-code-refused a r c e f = rw e f
+pub code_refused : (a : Answer) (r : Refusal) (c : ℕ) → a ≡ answer.Refused r → c ≡ refusal_number r → c ≡ told (says a)
+code_refused a r c e f = rw e f
 
 -- ---- the values of an answer, each into its out parameter; a refusal leaves them
 
@@ -60,18 +60,18 @@ pub flag_no : (b : Bool) → b ≡ false → ◌≡◌ {A = ℕ} 0 (pick b 1 0)
 flag_no b e = sym (pick_false 1 0 e)
 
 module _ (M : Mount) (I : List ℕ) (k enough bytes : ℕ) (a : RoomOut) (call : Asks M I k a) where
-  pub room-refused : (r : Refusal) (c : ℕ) → a ≡ room.Refused r → c ≡ refusal_number r → AsksC M I k enough bytes c enough bytes
-  room-refused r c e f = record { answer = room.Refused r; call = rw e at call; code = f; enoughs = refl; reads = refl }
+  pub room_refused : (r : Refusal) (c : ℕ) → a ≡ room.Refused r → c ≡ refusal_number r → AsksC M I k enough bytes c enough bytes
+  room_refused r c e f = record { answer = room.Refused r; call = rw e at call; code = f; enoughs = refl; reads = refl }
 
-  pub room-told : (t : Told) (n : ℕ) → a ≡ room.Known t → n ≡ pick t.enough 1 0 → AsksC M I k enough bytes 0 n t.bytes
-  room-told t n e f = record { answer = room.Known t; call = rw e at call; code = refl; enoughs = f; reads = refl }
+  pub room_told : (t : Told) (n : ℕ) → a ≡ room.Known t → n ≡ pick t.enough 1 0 → AsksC M I k enough bytes 0 n t.bytes
+  room_told t n e f = record { answer = room.Known t; call = rw e at call; code = refl; enoughs = f; reads = refl }
 
 module _ (o : OpenOut) (ns x : List ℕ) (len : ℕ) where
-  pub handle-refused : (r : Refusal) (c : ℕ) → o.answer ≡ answer.Refused r → c ≡ refusal_number r → HandleOut (open_says o) ns x len c ns x len
-  handle-refused r c e f = rw e (record { code = f; numbers = refl; name = refl; long = refl })
+  pub handle_refused : (r : Refusal) (c : ℕ) → o.answer ≡ answer.Refused r → c ≡ refusal_number r → HandleOut (open_says o) ns x len c ns x len
+  handle_refused r c e f = rw e (record { code = f; numbers = refl; name = refl; long = refl })
 
-  pub handle-given : (ms : List ℕ) → o.answer ≡ answer.Success → ms ≡ numbers_of o.handle → HandleOut (open_says o) ns x len 0 ms o.handle.name o.handle.len
-  handle-given ms e f = rw e (record { code = refl; numbers = f; name = refl; long = refl })
+  pub handle_given : (ms : List ℕ) → o.answer ≡ answer.Success → ms ≡ numbers_of o.handle → HandleOut (open_says o) ns x len 0 ms o.handle.name o.handle.len
+  handle_given ms e f = rw e (record { code = refl; numbers = f; name = refl; long = refl })
 
 module _ (M : Mount) (I cwd p : List ℕ) (kind size time : ℕ) (x : List ℕ) (len : ℕ) (o : InfoOut) (call : Informs M I cwd p o) where
   pub info_refused : (r : Refusal) (c : ℕ) → o.answer ≡ answer.Refused r → c ≡ refusal_number r → InformsC M I cwd p kind size time x len c kind size time x len
@@ -109,26 +109,26 @@ module _ (M : Mount) (I cwd p : List ℕ) (i : ℕ) (buf : List ℕ) (bytes next
   list_told b n e = record { answer = a; call = call; code = rw e refl; counts = rw e refl; nexts = rw e refl }
 
 module _ (a : Counted) (h : Handle) (ns : List ℕ) (bytes : ℕ) where
-  pub count-refused : (r : Refusal) (c : ℕ) → a ≡ counted.Refused r → c ≡ refusal_number r → CountOut (counted_says a) h ns bytes c ns bytes
-  count-refused r c e f = rw e (record { code = f; numbers = refl; counts = refl })
+  pub count_refused : (r : Refusal) (c : ℕ) → a ≡ counted.Refused r → c ≡ refusal_number r → CountOut (counted_says a) h ns bytes c ns bytes
+  count_refused r c e f = rw e (record { code = f; numbers = refl; counts = refl })
 
-  pub count-given : (ms : List ℕ) (b : ℕ) → a ≡ counted.Bytes b → ms ≡ numbers_of h → CountOut (counted_says a) h ns bytes 0 ms b
-  count-given ms b e f = rw e (record { code = refl; numbers = f; counts = refl })
+  pub count_given : (ms : List ℕ) (b : ℕ) → a ≡ counted.Bytes b → ms ≡ numbers_of h → CountOut (counted_says a) h ns bytes 0 ms b
+  count_given ms b e f = rw e (record { code = refl; numbers = f; counts = refl })
 
 -- ---- the calls through a handle, which is made of its numbers and its name
 
 module _ (ns x : List ℕ) (len : ℕ) (h : Handle) (made : h ≡ handle_of ns x len) where
-  pub reads-c : (M : Mount) (I buf : List ℕ) (bytes : ℕ) (o : CountedOut) (c : ℕ) (ms out : List ℕ) (b : ℕ)
+  pub reads_c : (M : Mount) (I buf : List ℕ) (bytes : ℕ) (o : CountedOut) (c : ℕ) (ms out : List ℕ) (b : ℕ)
       → Reads M I h buf out o → CountOut (counted_says o.answer) o.handle ns bytes c ms b → ReadsC M I ns x len buf bytes c ms out b
-  reads-c M I buf bytes o c ms out b call given = record { answer = o; call = rw made at call; told = given }
+  reads_c M I buf bytes o c ms out b call given = record { answer = o; call = rw made at call; told = given }
 
-  pub writes-c : (M : Mount) (I W buf : List ℕ) (time bytes : ℕ) (o : CountedOut) (c : ℕ) (J Z ms : List ℕ) (b : ℕ)
+  pub writes_c : (M : Mount) (I W buf : List ℕ) (time bytes : ℕ) (o : CountedOut) (c : ℕ) (J Z ms : List ℕ) (b : ℕ)
       → Writes M I W h buf time o J Z → CountOut (counted_says o.answer) o.handle ns bytes c ms b → WritesC M I W ns x len buf time bytes c J Z ms b
-  writes-c M I W buf time bytes o c J Z ms b call given = record { answer = o; call = rw made at call; told = given }
+  writes_c M I W buf time bytes o c J Z ms b call given = record { answer = o; call = rw made at call; told = given }
 
-  pub patches-c : (M : Mount) (I W buf : List ℕ) (time bytes : ℕ) (o : CountedOut) (c : ℕ) (J Z ms : List ℕ) (b : ℕ)
+  pub patches_c : (M : Mount) (I W buf : List ℕ) (time bytes : ℕ) (o : CountedOut) (c : ℕ) (J Z ms : List ℕ) (b : ℕ)
       → Patches M I W h buf time o J Z → CountOut (counted_says o.answer) o.handle ns bytes c ms b → PatchesC M I W ns x len buf time bytes c J Z ms b
-  patches-c M I W buf time bytes o c J Z ms b call given = record { answer = o; call = rw made at call; told = given }
+  patches_c M I W buf time bytes o c J Z ms b call given = record { answer = o; call = rw made at call; told = given }
 
   module _ (from : SeekFrom) (o : Sought) (call : SoughtIs h from o) where
     pub seek_refused : (r : Refusal) (c : ℕ) → o.answer ≡ answer.Refused r → c ≡ refusal_number r → SeeksC ns x len from c ns

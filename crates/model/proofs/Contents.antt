@@ -11,13 +11,13 @@ use lib.Seq.{length-take-le, take-append-le, take_at, take-add, take-take, get_o
 use Rattle.wire.specs.Be.{splice, zeros}
 use Rattle.wire.proofs.Numbers.{length-splice, splice-after}
 use Rattle.block.specs.Block.{BlockSize}
-use Rattle.block.proofs.Blocks.{block-below}
+use Rattle.block.proofs.Blocks.{block_below}
 use Rattle.model.specs.Tree.{Name, Cell, Node, file, device, sub, Entry, Block, Tree, then, lookup, change, Edit, renewed, renew, at_end, edit, inside}
 use Rattle.model.specs.Volume.{All, file_limit, blocks_for, GoodCell, GoodFile}
 use Rattle.model.specs.Calls.{file_of, file_at, stream, contents, places, chop, rewrite, refiled, rewritten}
 use Rattle.model.proofs.Lists.{not_some, then_some}
 use Rattle.model.proofs.Dirs.{Keeps, lookup-change}
-use Rattle.model.proofs.Edits.{refiled-name, renewed-name}
+use Rattle.model.proofs.Edits.{refiled_name, renewed_name}
 
 -- ---- bytes laid into blocks, and read again
 
@@ -40,13 +40,13 @@ length-chop w [] l = refl
 length-chop w (a ∷ xs) l = ap suc (length-chop w xs (drop w l))
 
 -- Each is full where there are bytes enough.
-good-chop : (B : ℕ) (xs l : List ℕ) → (B - 4) * length xs ≤ length l → All (GoodCell B) (chop (B - 4) xs l)
+good_chop : (B : ℕ) (xs l : List ℕ) → (B - 4) * length xs ≤ length l → All (GoodCell B) (chop (B - 4) xs l)
 unfolding chop
-good-chop B [] l h = tt
-good-chop B (a ∷ xs) l h =
+good_chop B [] l h = tt
+good_chop B (a ∷ xs) l h =
     let e : (B - 4) * suc (length xs) ≡ (B - 4) * length xs + (B - 4) = mul-suc (B - 4) (length xs) in
     let k : (B - 4) * length xs + (B - 4) ≤ length l = rw e at h in
-    (record { whole = length-take-le (B - 4) l (omega arith) }, good-chop B xs (drop (B - 4) l) (rw length-drop (omega arith)))
+    (record { whole = length-take-le (B - 4) l (omega arith) }, good_chop B xs (drop (B - 4) l) (rw length-drop (omega arith)))
 
 -- A chain of k blocks has k times their data bytes.
 pub length-stream : (B : ℕ) (cs : List Cell) → All (GoodCell B) cs → length (stream cs) ≡ (B - 4) * length cs
@@ -88,22 +88,22 @@ module _ (B : ℕ) (five : 5 ≤ B) where
   blocks-some s = le-max_left 1 ((s + (B - 5)) / (B - 4))
 
   -- they have room for the bytes
-  pub blocks-enough : (s : ℕ) → s ≤ (B - 4) * blocks_for B s
+  pub blocks_enough : (s : ℕ) → s ≤ (B - 4) * blocks_for B s
   unfolding blocks_for
-  blocks-enough s =
+  blocks_enough s =
       let r : (s + (B - 5)) % (B - 4) < B - 4 = mod-lt (s + (B - 5)) (omega arith) in
       omega (arith, div-add-mod (s + (B - 5)) (B - 4), mul-le-mul_left (B - 4) (le-max_right 1 ((s + (B - 5)) / (B - 4))))
 
   -- no fewer do
-  pub blocks-least : (s k : ℕ) → 1 ≤ k → s ≤ (B - 4) * k → blocks_for B s ≤ k
+  pub blocks_least : (s k : ℕ) → 1 ≤ k → s ≤ (B - 4) * k → blocks_for B s ≤ k
   unfolding blocks_for
-  blocks-least s k h r =
+  blocks_least s k h r =
       let q : (s + (B - 5)) / (B - 4) < suc k = (div-lt_iff_lt-mul {k = B - 4} {x = s + (B - 5)} {y = suc k} (omega arith)).1 (omega (arith, mul-suc (B - 4) k, mul_comm (suc k) (B - 4))) in
       max-le h (omega arith)
 
   -- a file's chain has room for its bytes
   size_fits : (s : ℕ) (cs : List Cell) → GoodFile B s cs → s ≤ length (stream cs)
-  size_fits s cs g = rw (length-stream B cs g.cells, g.long) (blocks-enough s)
+  size_fits s cs g = rw (length-stream B cs g.cells, g.long) (blocks_enough s)
 
 -- ---- a write of buf at c, in a file of s bytes in the blocks cs, with `free` to take new blocks from
 
@@ -124,11 +124,11 @@ module _ (B s c : ℕ) (free buf : List ℕ) (cs : List Cell) (five : 5 ≤ B) (
   wide : (B - 4) * blocks_for B (c + length buf) ≤ length grown
   wide = rw (length-grown, ← mul-add (B - 4) (length cs) (blocks_for B (c + length buf) - length cs)) (mul-le-mul_left (B - 4) (omega arith))
 
-  inside-grown : c + length buf ≤ length grown
-  inside-grown = omega (arith, wide, blocks-enough B five (c + length buf))
+  inside_grown : c + length buf ≤ length grown
+  inside_grown = omega (arith, wide, blocks_enough B five (c + length buf))
 
   length-after : length (splice grown c buf) ≡ length grown
-  length-after = length-splice grown c buf inside-grown
+  length-after = length-splice grown c buf inside_grown
 
   stream-rewrite : stream (rewrite B free c buf cs) ≡ take ((B - 4) * blocks_for B (c + length buf)) (splice grown c buf)
   unfolding rewrite grown
@@ -145,18 +145,18 @@ module _ (B s c : ℕ) (free buf : List ℕ) (cs : List Cell) (five : 5 ≤ B) (
   rewrite-length = length-chop (B - 4) _ _ ∙ long
 
   -- It is a well-formed file again.
-  pub rewrite-good : c + length buf ≤ file_limit → GoodFile B (c + length buf) (rewrite B free c buf cs)
+  pub rewrite_good : c + length buf ≤ file_limit → GoodFile B (c + length buf) (rewrite B free c buf cs)
   unfolding rewrite grown
-  rewrite-good limit = record { limit = limit; long = rewrite-length; cells = good-chop B _ (splice grown c buf) (rw (long, length-after) wide) }
+  rewrite_good limit = record { limit = limit; long = rewrite-length; cells = good_chop B _ (splice grown c buf) (rw (long, length-after) wide) }
 
   -- An accepted write leaves the bytes before the position, then the buffer, and the file ends there.
   pub contents-rewrite : contents (c + length buf) (rewrite B free c buf cs) ≡ take c (contents s cs) ++ buf
   unfolding contents splice grown
   contents-rewrite =
       ap (take (c + length buf)) stream-rewrite
-      ∙ take-take (c + length buf) ((B - 4) * blocks_for B (c + length buf)) (splice grown c buf) (blocks-enough B five (c + length buf))
+      ∙ take-take (c + length buf) ((B - 4) * blocks_for B (c + length buf)) (splice grown c buf) (blocks_enough B five (c + length buf))
       ∙ ap (take (c + length buf)) (sym (append_assoc (take c grown) buf (drop (c + length buf) grown)))
-      ∙ take_at (take c grown ++ buf) (drop (c + length buf) grown) (c + length buf) (rw (length-append, length-take-le c grown (omega (arith, inside-grown))))
+      ∙ take_at (take c grown ++ buf) (drop (c + length buf) grown) (c + length buf) (rw (length-append, length-take-le c grown (omega (arith, inside_grown))))
       ∙ ap (λ (l : List ℕ). l ++ buf) (take-append-le c (stream cs) _ (omega (arith, size_fits B five s cs good)) ∙ sym (take-take c s (stream cs) position))
 
   -- Past the end no byte of a kept block changes, and those of a new block are 0 (as `get_or` gives past the old bytes).
@@ -165,7 +165,7 @@ module _ (B s c : ℕ) (free buf : List ℕ) (cs : List Cell) (five : 5 ≤ B) (
   rewrite-past k h l =
       ap (λ (z : List ℕ). get_or z k 0) stream-rewrite
       ∙ get_or-take ((B - 4) * blocks_for B (c + length buf)) (splice grown c buf) k 0 l
-      ∙ splice-after grown c buf inside-grown k h
+      ∙ splice-after grown c buf inside_grown k h
       ∙ old_or_zero (dec_lt k (length (stream cs)))
     where
       more : ℕ
@@ -183,39 +183,39 @@ module _ (B s c : ℕ) (free buf : List ℕ) (cs : List Cell) (five : 5 ≤ B) (
   -- C12: what stands behind the end in a kept block stays: byte j of block i.
   stale_stay : (i j : ℕ) → i < blocks_for B (c + length buf) → j < B - 4 → c + length buf ≤ (B - 4) * i + j
       → get_or (stream (rewrite B free c buf cs)) ((B - 4) * i + j) 0 ≡ get_or (stream cs) ((B - 4) * i + j) 0
-  stale_stay i j h k l = rewrite-past ((B - 4) * i + j) l (block-below (B - 4) i (blocks_for B (c + length buf)) j h k)
+  stale_stay i j h k l = rewrite-past ((B - 4) * i + j) l (block_below (B - 4) i (blocks_for B (c + length buf)) j h k)
 
 -- ---- the file in the tree
 
 module _ {X R : Type 0} (v w : R) where
   -- what is read of the entry of that name, where the change makes w of v
-  lookup-becomes : (n : Name) (h : Entry X → Entry X) → Keeps h → (o : Entry X → Option R) → ((e : Entry X) → o e ≡ some v → o (h e) ≡ some w)
+  lookup_becomes : (n : Name) (h : Entry X → Entry X) → Keeps h → (o : Entry X → Option R) → ((e : Entry X) → o e ≡ some v → o (h e) ≡ some w)
       → (bs : List (Block X)) → then (lookup n bs) o ≡ some v → then (lookup n (change n h bs)) o ≡ some w
   unfolding then
-  lookup-becomes n h k o f bs e = go (lookup n bs) refl
+  lookup_becomes n h k o f bs e = go (lookup n bs) refl
     where
       go : (r : Option (Entry X)) → lookup n bs ≡ r → then (lookup n (change n h bs)) o ≡ some w
       go none l = absurd (not_some (ap (λ (z : Option (Entry X)). then z o) l) e)
       go (some x) l = then_some o (lookup-change n h k bs x l) ∙ f x (sym (then_some o l) ∙ e)
 
   -- the same of an entry on the way
-  renew-becomes : (o : X → Option R) (f : X → X) → ((x : X) → o x ≡ some v → o (f x) ≡ some w) → (g : ℕ → ℕ) (n : Name) (k : ℕ) (x : Node X)
+  renew_becomes : (o : X → Option R) (f : X → X) → ((x : X) → o x ≡ some v → o (f x) ≡ some w) → (g : ℕ → ℕ) (n : Name) (k : ℕ) (x : Node X)
       → inside o x ≡ some v → inside o (renew f g n k x).node ≡ some w
   unfolding renew inside
-  renew-becomes o f r g n k (file z ds) e = absurd (not_some refl e)
-  renew-becomes o f r g n k (device z ds) e = absurd (not_some refl e)
-  renew-becomes o f r g n k (sub x) e = r x e
+  renew_becomes o f r g n k (file z ds) e = absurd (not_some refl e)
+  renew_becomes o f r g n k (device z ds) e = absurd (not_some refl e)
+  renew_becomes o f r g n k (sub x) e = r x e
 
 -- size, time and blocks of a file
 abbrev Facts : Type 0
 Facts = ℕ × ℕ × List Cell
 
-refiled-file : {X : Type 0} (v : Facts) (now s : ℕ) (cs : List Cell) (n : Name) (k : ℕ) (x : Node X) → file_of k x ≡ some v
+refiled_file : {X : Type 0} (v : Facts) (now s : ℕ) (cs : List Cell) (n : Name) (k : ℕ) (x : Node X) → file_of k x ≡ some v
     → file_of (refiled now s cs n k x).time (refiled now s cs n k x).node ≡ some (s, now, cs)
 unfolding refiled file_of
-refiled-file v now s cs n k (file z ds) e = refl
-refiled-file v now s cs n k (device z ds) e = absurd (not_some refl e)
-refiled-file v now s cs n k (sub x) e = absurd (not_some refl e)
+refiled_file v now s cs n k (file z ds) e = refl
+refiled_file v now s cs n k (device z ds) e = absurd (not_some refl e)
+refiled_file v now s cs n k (sub x) e = absurd (not_some refl e)
 
 module _ (n : Name) (now s : ℕ) (cs : List Cell) (v : Facts) where
   write : Edit
@@ -224,8 +224,8 @@ module _ (n : Name) (now s : ℕ) (cs : List Cell) (v : Facts) where
   in_directory : {X : Type 0} (bs : List (Block X)) → then (lookup n bs) (λ e. file_of e.time e.node) ≡ some v
       → then (lookup n (change n (λ x. refiled now s cs x.name x.time x.node) bs)) (λ e. file_of e.time e.node) ≡ some (s, now, cs)
   in_directory bs h =
-      lookup-becomes v (s, now, cs) n (λ x. refiled now s cs x.name x.time x.node) (λ x. refiled-name now s cs x.name x.time x.node)
-      (λ e. file_of e.time e.node) (λ e. refiled-file v now s cs e.name e.time e.node) bs h
+      lookup_becomes v (s, now, cs) n (λ x. refiled now s cs x.name x.time x.node) (λ x. refiled_name now s cs x.name x.time x.node)
+      (λ e. file_of e.time e.node) (λ e. refiled_file v now s cs e.name e.time e.node) bs h
 
   written : (d : ℕ) (p : List Name) (t : Tree d) → file_at d p n t ≡ some v → file_at d p n (edit d p (λ k. k) write t) ≡ some (s, now, cs)
   unfolding file_at edit write renewed
@@ -233,11 +233,11 @@ module _ (n : Name) (now s : ℕ) (cs : List Cell) (v : Facts) where
   written (suc d) [] t h = in_directory t h
   written zero (a ∷ p) t h = absurd (not_some refl h)
   written (suc d) (a ∷ p) t h =
-      lookup-becomes v (s, now, cs) a (renewed (edit d p (λ k. k) write) (at_end p (λ k. k))) (renewed-name _ _) (λ e. inside (file_at d p n) e.node)
-      (λ e. renew-becomes v (s, now, cs) (file_at d p n) (edit d p (λ k. k) write) (λ u. written d p u) (at_end p (λ k. k)) e.name e.time e.node) t h
+      lookup_becomes v (s, now, cs) a (renewed (edit d p (λ k. k) write) (at_end p (λ k. k))) (renewed_name _ _) (λ e. inside (file_at d p n) e.node)
+      (λ e. renew_becomes v (s, now, cs) (file_at d p n) (edit d p (λ k. k) write) (λ u. written d p u) (at_end p (λ k. k)) e.name e.time e.node) t h
 
--- A write gives the file at the path its new size, time and blocks. (By `other-file` it changes no other.)
-pub file-written : (d : ℕ) (p : List Name) (n : Name) (now s k s' : ℕ) (cs cs' : List Cell) (t : Tree d) → file_at d p n t ≡ some (s, k, cs)
+-- A write gives the file at the path its new size, time and blocks. (By `other_file` it changes no other.)
+pub file_written : (d : ℕ) (p : List Name) (n : Name) (now s k s' : ℕ) (cs cs' : List Cell) (t : Tree d) → file_at d p n t ≡ some (s, k, cs)
     → file_at d p n (rewritten d p n now s' cs' t) ≡ some (s', now, cs')
 unfolding rewritten write
-file-written d p n now s k s' cs cs' t h = written n now s' cs' (s, k, cs) d p t h
+file_written d p n now s k s' cs cs' t h = written n now s' cs' (s, k, cs) d p t h

@@ -11,10 +11,10 @@ use Rattle.wire.specs.Be.{bytes}
 use Rattle.wire.proofs.Picks.{either, pick_true, pick_false}
 use Rattle.model.specs.Tree.{Name, Node, file, device, sub, Entry, Block, Tree, first, on_first, then, called, holds, lookup, weight, used, sum, fill, change, Edit, renew, renewed, at_end, edit, inside, Some, find}
 use Rattle.model.specs.Render.{Piece, View, blocks_at, padded, entry_bytes, entries_bytes, node_pieces, entry_pieces, dir_pieces, view, render, offset, place_of, own_time}
-use Rattle.model.proofs.Alike.{change-at, change-sum, entry-above}
-use Rattle.model.proofs.Edits.{renewed-name, find-sub}
-use Rattle.model.proofs.Lists.{then_some, not_some, first-here, first-there, on_first-here, on_first-there}
-use Rattle.model.proofs.Full.{length-entries}
+use Rattle.model.proofs.Alike.{change_at, change-sum, entry_above}
+use Rattle.model.proofs.Edits.{renewed_name, find-sub}
+use Rattle.model.proofs.Lists.{then_some, not_some, first_here, first_there, on_first_here, on_first_there}
+use Rattle.model.proofs.Full.{length_entries}
 
 -- ---- the place of an entry in a list of entries, and of its block in a directory
 
@@ -32,22 +32,22 @@ spot {X} n h (x ∷ es) e f = go (either (called n x)) (spot n h es e)
   where
     go : (called n x ≡ true) ⊎ (called n x ≡ false) → (first (called n) es ≡ some e → Spot n h es e) → Spot n h (x ∷ es) e
     go (inl c) r =
-        let both : some x ≡ some e = sym (first-here (called n) x es c) ∙ f in
+        let both : some x ≡ some e = sym (first_here (called n) x es c) ∙ f in
         let k : x ≡ e = cc in
         record {
           left = [];
           right = es;
           is = ap (λ (z : Entry X). z ∷ es) k;
-          becomes = on_first-here (called n) x es c h ∙ ap (λ (z : Entry X). h z ∷ es) k;
+          becomes = on_first_here (called n) x es c h ∙ ap (λ (z : Entry X). h z ∷ es) k;
           place = pick_true 0 (weight x + offset n es) c;
         }
     go (inr c) r =
-        let s = r (sym (first-there (called n) x es c) ∙ f) in
+        let s = r (sym (first_there (called n) x es c) ∙ f) in
         record {
           left = x ∷ s.left;
           right = s.right;
           is = ap (λ (l : List (Entry X)). x ∷ l) s.is;
-          becomes = on_first-there (called n) x es c h ∙ ap (λ (l : List (Entry X)). x ∷ l) s.becomes;
+          becomes = on_first_there (called n) x es c h ∙ ap (λ (l : List (Entry X)). x ∷ l) s.becomes;
           place = pick_false 0 (weight x + offset n es) c ∙ ap (λ (z : ℕ). weight x + z) s.place;
         }
 
@@ -71,7 +71,7 @@ site {X} B n h (b ∷ bs) e l = go (either (holds n b)) (site B n h bs e)
 
     go : (holds n b ≡ true) ⊎ (holds n b ≡ false) → (lookup n bs ≡ some e → Site B n h bs e) → Site B n h (b ∷ bs) e
     go (inl c) r =
-        let s = spot n h b.entries e (sym (then_some (λ x. first (called n) x.entries) (first-here (holds n) b bs c)) ∙ l) in
+        let s = spot n h b.entries e (sym (then_some (λ x. first (called n) x.entries) (first_here (holds n) b bs c)) ∙ l) in
         record {
           earlier = [];
           at = b.at;
@@ -79,11 +79,11 @@ site {X} B n h (b ∷ bs) e l = go (either (holds n b)) (site B n h bs e)
           right = s.right;
           later = bs;
           is = ap (λ (es : List (Entry X)). block b.at es ∷ bs) s.is;
-          becomes = on_first-here (holds n) b bs c (fill (on_first (called n) h)) ∙ ap (λ (es : List (Entry X)). block b.at es ∷ bs) s.becomes;
+          becomes = on_first_here (holds n) b bs c (fill (on_first (called n) h)) ∙ ap (λ (es : List (Entry X)). block b.at es ∷ bs) s.becomes;
           place = pick_true (B * b.at + 4 + offset n b.entries) (place_of B n bs) c ∙ ap (λ (z : ℕ). B * b.at + 4 + z) s.place;
         }
     go (inr c) r =
-        let s = r (sym (ap (λ (o : Option (Block X)). then o (λ x. first (called n) x.entries)) (first-there (holds n) b bs c)) ∙ l) in
+        let s = r (sym (ap (λ (o : Option (Block X)). then o (λ x. first (called n) x.entries)) (first_there (holds n) b bs c)) ∙ l) in
         record {
           earlier = b ∷ s.earlier;
           at = s.at;
@@ -91,7 +91,7 @@ site {X} B n h (b ∷ bs) e l = go (either (holds n b)) (site B n h bs e)
           right = s.right;
           later = s.later;
           is = ap (λ (z : List (Block X)). b ∷ z) s.is;
-          becomes = on_first-there (holds n) b bs c (fill (on_first (called n) h)) ∙ ap (λ (z : List (Block X)). b ∷ z) s.becomes;
+          becomes = on_first_there (holds n) b bs c (fill (on_first (called n) h)) ∙ ap (λ (z : List (Block X)). b ∷ z) s.becomes;
           place = pick_false (B * b.at + 4 + offset n b.entries) (place_of B n bs) c ∙ s.place;
         }
 
@@ -118,28 +118,28 @@ module _ {X : Type 0} (B : ℕ) (v : View X) where
   at_split [] b ys = refl
   at_split (x ∷ xs) b ys = refl
 
-  pub dir-split : (xs : List (Block X)) (b : Block X) (ys : List (Block X)) → dir_pieces B v (xs ++ (b ∷ ys)) ≡ up_to B v b.at xs ++ dir_pieces B v (b ∷ ys)
+  pub dir_split : (xs : List (Block X)) (b : Block X) (ys : List (Block X)) → dir_pieces B v (xs ++ (b ∷ ys)) ≡ up_to B v b.at xs ++ dir_pieces B v (b ∷ ys)
   unfolding dir_pieces up_to block_full
-  dir-split [] b ys = refl
-  dir-split (x ∷ xs) b ys = rw (at_split xs b ys, dir-split xs b ys, append_assoc)
+  dir_split [] b ys = refl
+  dir_split (x ∷ xs) b ys = rw (at_split xs b ys, dir_split xs b ys, append_assoc)
 
-  pub pieces-both : (l r : List (Entry X)) → entry_pieces v (l ++ r) ≡ entry_pieces v l ++ entry_pieces v r
+  pub pieces_both : (l r : List (Entry X)) → entry_pieces v (l ++ r) ≡ entry_pieces v l ++ entry_pieces v r
   unfolding entry_pieces
-  pieces-both [] r = refl
-  pieces-both (x ∷ l) r = rw (pieces-both l r, append_assoc)
+  pieces_both [] r = refl
+  pieces_both (x ∷ l) r = rw (pieces_both l r, append_assoc)
 
-  pub entries-split : (l : List (Entry X)) (e : Entry X) (r : List (Entry X)) → entry_pieces v (l ++ (e ∷ r)) ≡ entry_pieces v l ++ (node_pieces v e.node ++ entry_pieces v r)
+  pub entries_split : (l : List (Entry X)) (e : Entry X) (r : List (Entry X)) → entry_pieces v (l ++ (e ∷ r)) ≡ entry_pieces v l ++ (node_pieces v e.node ++ entry_pieces v r)
   unfolding entry_pieces
-  entries-split l e r = unfold entry_pieces in pieces-both l (e ∷ r)
+  entries_split l e r = unfold entry_pieces in pieces_both l (e ∷ r)
 
-  pub bytes-both : (l r : List (Entry X)) → entries_bytes v (l ++ r) ≡ entries_bytes v l ++ entries_bytes v r
+  pub bytes_both : (l r : List (Entry X)) → entries_bytes v (l ++ r) ≡ entries_bytes v l ++ entries_bytes v r
   unfolding entries_bytes
-  bytes-both [] r = refl
-  bytes-both (x ∷ l) r = rw (bytes-both l r, append_assoc)
+  bytes_both [] r = refl
+  bytes_both (x ∷ l) r = rw (bytes_both l r, append_assoc)
 
-  pub bytes-split : (l : List (Entry X)) (e : Entry X) (r : List (Entry X)) → entries_bytes v (l ++ (e ∷ r)) ≡ entries_bytes v l ++ (entry_bytes v e ++ entries_bytes v r)
+  pub bytes_split : (l : List (Entry X)) (e : Entry X) (r : List (Entry X)) → entries_bytes v (l ++ (e ∷ r)) ≡ entries_bytes v l ++ (entry_bytes v e ++ entries_bytes v r)
   unfolding entries_bytes
-  bytes-split l e r = unfold entries_bytes in bytes-both l (e ∷ r)
+  bytes_split l e r = unfold entries_bytes in bytes_both l (e ∷ r)
 
 -- The pieces xs become ys: us become vs, and in one block the entry E, which begins at byte `place` of the image, becomes E'.
 pub record Cut (B : ℕ) (xs ys us vs : List Piece) (place : ℕ) (E E' : List ℕ) : Type 0 where
@@ -170,18 +170,18 @@ cut_in B xs ys us vs q E E' A C c = record {
 }
 
 module _ {X : Type 0} (B : ℕ) (v : View X) where
-  dir-at : (xs : List (Block X)) (a : ℕ) (l : List (Entry X)) (e : Entry X) (r : List (Entry X)) (ys : List (Block X))
+  dir_at : (xs : List (Block X)) (a : ℕ) (l : List (Entry X)) (e : Entry X) (r : List (Entry X)) (ys : List (Block X))
       → dir_pieces B v (xs ++ (record { at = a; entries = l ++ (e ∷ r) } ∷ ys))
       ≡ up_to B v a xs ++ (record { at = a; full = bytes 4 (blocks_at ys) ++ padded (B - 4) (entries_bytes v l ++ (entry_bytes v e ++ entries_bytes v r)) }
       ∷ (entry_pieces v l ++ (node_pieces v e.node ++ (entry_pieces v r ++ dir_pieces B v ys))))
   unfolding dir_pieces
-  dir-at xs a l e r ys =
-      dir-split B v xs (record { at = a; entries = l ++ (e ∷ r) }) ys
-      ∙ ap (λ (z : List Piece). up_to B v a xs ++ z) (rw (bytes-split B v l e r, entries-split B v l e r) (simp append_assoc))
+  dir_at xs a l e r ys =
+      dir_split B v xs (record { at = a; entries = l ++ (e ∷ r) }) ys
+      ∙ ap (λ (z : List Piece). up_to B v a xs ++ z) (rw (bytes_split B v l e r, entries_split B v l e r) (simp append_assoc))
 
-  pub cut-here : (n : Name) (h : Entry X → Entry X) (bs : List (Block X)) (e : Entry X) → lookup n bs ≡ some e
+  pub cut_here : (n : Name) (h : Entry X → Entry X) (bs : List (Block X)) (e : Entry X) → lookup n bs ≡ some e
       → Cut B (dir_pieces B v bs) (dir_pieces B v (change n h bs)) (node_pieces v e.node) (node_pieces v (h e).node) (place_of B n bs) (entry_bytes v e) (entry_bytes v (h e))
-  cut-here n h bs e l =
+  cut_here n h bs e l =
       let s = site B n h bs e l in
       record {
         before = up_to B v s.at s.earlier;
@@ -191,9 +191,9 @@ module _ {X : Type 0} (B : ℕ) (v : View X) where
         next = blocks_at s.later;
         low = entries_bytes v s.left;
         high = entries_bytes v s.right;
-        old = ap (dir_pieces B v) s.is ∙ dir-at s.earlier s.at s.left e s.right s.later;
-        new = ap (dir_pieces B v) s.becomes ∙ dir-at s.earlier s.at s.left (h e) s.right s.later;
-        stands = s.place ∙ omega (arith, length-entries v s.left);
+        old = ap (dir_pieces B v) s.is ∙ dir_at s.earlier s.at s.left e s.right s.later;
+        new = ap (dir_pieces B v) s.becomes ∙ dir_at s.earlier s.at s.left (h e) s.right s.later;
+        stands = s.place ∙ omega (arith, length_entries v s.left);
       }
 
 -- An edit at a path below the root: the directory's pieces are replaced, and its own entry is renewed.
@@ -206,25 +206,25 @@ pub record OwnCut (B d : ℕ) (p : List Name) (g : ℕ → ℕ) (f : Edit) (t : 
       (entry_bytes (view B (suc s.0)) (record { name = name; time = time; node = sub s.1 }))
       (entry_bytes (view B (suc s.0)) (record { name = name; time = g time; node = sub (f s.0 s.1) }))
 
-pub cut-to : (B : ℕ) (xs ys xs' ys' us vs : List Piece) (q : ℕ) (E E' : List ℕ) → xs ≡ xs' → ys ≡ ys' → Cut B xs' ys' us vs q E E' → Cut B xs ys us vs q E E'
-cut-to B xs ys xs' ys' us vs q E E' a b c =
+pub cut_to : (B : ℕ) (xs ys xs' ys' us vs : List Piece) (q : ℕ) (E E' : List ℕ) → xs ≡ xs' → ys ≡ ys' → Cut B xs' ys' us vs q E E' → Cut B xs ys us vs q E E'
+cut_to B xs ys xs' ys' us vs q E E' a b c =
     subst (λ (z : List Piece). Cut B z ys us vs q E E') (sym a) (subst (λ (z : List Piece). Cut B xs' z us vs q E E') (sym b) c)
 
-pub edit-below-at : (d : ℕ) (m : Name) (p : List Name) (g : ℕ → ℕ) (f : Edit) (t : Tree d) → blocks_at (edit d (m ∷ p) g f t) ≡ blocks_at t
+pub edit_below_at : (d : ℕ) (m : Name) (p : List Name) (g : ℕ → ℕ) (f : Edit) (t : Tree d) → blocks_at (edit d (m ∷ p) g f t) ≡ blocks_at t
 unfolding edit
-edit-below-at zero m p g f t = refl
-edit-below-at (suc d) m p g f t = change-at m _ t
+edit_below_at zero m p g f t = refl
+edit_below_at (suc d) m p g f t = change_at m _ t
 
-edit-below-sum : (d : ℕ) (m : Name) (p : List Name) (g : ℕ → ℕ) (f : Edit) (t : Tree d) → sum (edit d (m ∷ p) g f t) ≡ sum t
+edit_below_sum : (d : ℕ) (m : Name) (p : List Name) (g : ℕ → ℕ) (f : Edit) (t : Tree d) → sum (edit d (m ∷ p) g f t) ≡ sum t
 unfolding edit
-edit-below-sum zero m p g f t = refl
-edit-below-sum (suc d) m p g f t = change-sum m _ (renewed-name _ _) t
+edit_below_sum zero m p g f t = refl
+edit_below_sum (suc d) m p g f t = change-sum m _ (renewed_name _ _) t
 
 -- on the way down, and at the end of the path
 module _ (B d : ℕ) (n : Name) (g : ℕ → ℕ) (f : Edit) (t : Tree (suc d)) (e : Entry (Tree d)) (l : lookup n t ≡ some e) where
-  cut-last : (x : Tree d) → e.node ≡ sub x → OwnCut B (suc d) (n ∷ []) g f t (d, x)
+  cut_last : (x : Tree d) → e.node ≡ sub x → OwnCut B (suc d) (n ∷ []) g f t (d, x)
   unfolding edit own_time render renewed renew at_end node_pieces view
-  cut-last x k = record {
+  cut_last x k = record {
     name = e.name;
     time = e.time;
     place = place_of B n t;
@@ -233,7 +233,7 @@ module _ (B d : ℕ) (n : Name) (g : ℕ → ℕ) (f : Edit) (t : Tree (suc d)) 
         (λ (z : Node (Tree d)). Cut B (dir_pieces B (view B (suc d)) t) (dir_pieces B (view B (suc d)) (change n (renewed (edit d [] g f) (at_end [] g)) t))
         (node_pieces (view B (suc d)) z) (node_pieces (view B (suc d)) (renew (f d) g e.name e.time z).node) (place_of B n t)
         (entry_bytes (view B (suc d)) (record { name = e.name; time = e.time; node = z })) (entry_bytes (view B (suc d)) (renew (f d) g e.name e.time z)))
-        k (cut-here B (view B (suc d)) n (renewed (edit d [] g f) (at_end [] g)) t e l);
+        k (cut_here B (view B (suc d)) n (renewed (edit d [] g f) (at_end [] g)) t e l);
   }
 
   cut_down : (m : Name) (p : List Name) (x : Tree d) (s : Some) → e.node ≡ sub x → OwnCut B d (m ∷ p) g f x s → OwnCut B (suc d) (n ∷ m ∷ p) g f t s
@@ -247,7 +247,7 @@ module _ (B d : ℕ) (n : Name) (g : ℕ → ℕ) (f : Edit) (t : Tree (suc d)) 
         (λ (z : Node (Tree d)). Cut B (dir_pieces B (view B (suc d)) t) (dir_pieces B (view B (suc d)) (change n (renewed (edit d (m ∷ p) g f) (at_end (m ∷ p) g)) t))
         (node_pieces (view B (suc d)) z) (node_pieces (view B (suc d)) (renew (edit d (m ∷ p) g f) (λ c. c) e.name e.time z).node) (place_of B n t)
         (entry_bytes (view B (suc d)) (record { name = e.name; time = e.time; node = z })) (entry_bytes (view B (suc d)) (renew (edit d (m ∷ p) g f) (λ c. c) e.name e.time z)))
-        k (cut-here B (view B (suc d)) n (renewed (edit d (m ∷ p) g f) (at_end (m ∷ p) g)) t e l));
+        k (cut_here B (view B (suc d)) n (renewed (edit d (m ∷ p) g f) (at_end (m ∷ p) g)) t e l));
   }
     where
       E : List ℕ
@@ -256,8 +256,8 @@ module _ (B d : ℕ) (n : Name) (g : ℕ → ℕ) (f : Edit) (t : Tree (suc d)) 
       E' : List ℕ
       E' = entry_bytes (view B (suc d)) (renew (edit d (m ∷ p) g f) (λ c. c) e.name e.time (sub x))
 
-      same-entry : E ≡ E'
-      same-entry = entry-above (λ _. ⊥) B d (edit d (m ∷ p) g f) (λ c. c) (edit-below-at d m p g f) (edit-below-sum d m p g f) (λ c. refl) e.name e.time (sub x)
+      same_entry : E ≡ E'
+      same_entry = entry_above (λ _. ⊥) B d (edit d (m ∷ p) g f) (λ c. c) (edit_below_at d m p g f) (edit_below_sum d m p g f) (λ c. refl) e.name e.time (sub x)
 
       whole : Cut B (dir_pieces B (view B (suc d)) t) (dir_pieces B (view B (suc d)) (change n (renewed (edit d (m ∷ p) g f) (at_end (m ∷ p) g)) t))
           (render B d x) (render B d (edit d (m ∷ p) g f x)) (place_of B n t) E E'
@@ -268,9 +268,9 @@ module _ (B d : ℕ) (n : Name) (g : ℕ → ℕ) (f : Edit) (t : Tree (suc d)) 
       whole c =
           let P : List ℕ → Piece = λ z. record { at = c.at; full = bytes 4 c.next ++ padded (B - 4) (c.low ++ (z ++ c.high)) } in
           let A : List Piece = c.before ++ (P E ∷ c.between) in
-          cut-to B _ _ _ _ _ _ _ _ _
+          cut_to B _ _ _ _ _ _ _ _ _
           (c.old ∙ sym (append_assoc c.before (P E ∷ c.between) (render B d x ++ c.after)))
-          (c.new ∙ ap (λ (z : List ℕ). c.before ++ (P z ∷ (c.between ++ (render B d (edit d (m ∷ p) g f x) ++ c.after)))) (sym same-entry)
+          (c.new ∙ ap (λ (z : List ℕ). c.before ++ (P z ∷ (c.between ++ (render B d (edit d (m ∷ p) g f x) ++ c.after)))) (sym same_entry)
           ∙ sym (append_assoc c.before (P E ∷ c.between) (render B d (edit d (m ∷ p) g f x) ++ c.after)))
           (cut_in B _ _ _ _ _ _ _ A c.after o.cut)
 
@@ -290,15 +290,15 @@ found d n p t s f = go (lookup n t) refl
     go (some e) l = (e, l, find-sub d n p t s e l f)
 
 -- Every edit at a path below the root.
-pub own-cut : (B d : ℕ) (n : Name) (p : List Name) (g : ℕ → ℕ) (f : Edit) (t : Tree d) (s : Some) → find d (n ∷ p) t ≡ some s → OwnCut B d (n ∷ p) g f t s
+pub own_cut : (B d : ℕ) (n : Name) (p : List Name) (g : ℕ → ℕ) (f : Edit) (t : Tree d) (s : Some) → find d (n ∷ p) t ≡ some s → OwnCut B d (n ∷ p) g f t s
 unfolding find
-own-cut B zero n p g f t s h = absurd (not_some refl h)
-own-cut B (suc d) n [] g f t s h =
+own_cut B zero n p g f t s h = absurd (not_some refl h)
+own_cut B (suc d) n [] g f t s h =
     let z = found d n [] t s h in
     let y = sub_of_lem d (find d []) s z.0.node z.2 in
     let k : (d, y.0) ≡ s = let q = y.2 in cc in
-    subst (OwnCut B (suc d) (n ∷ []) g f t) k (cut-last B d n g f t z.0 z.1 y.0 y.1)
-own-cut B (suc d) n (m ∷ p) g f t s h =
+    subst (OwnCut B (suc d) (n ∷ []) g f t) k (cut_last B d n g f t z.0 z.1 y.0 y.1)
+own_cut B (suc d) n (m ∷ p) g f t s h =
     let z = found d n (m ∷ p) t s h in
     let y = sub_of_lem d (find d (m ∷ p)) s z.0.node z.2 in
-    cut_down B d n g f t z.0 z.1 m p y.0 s y.1 (own-cut B d m p g f y.0 s y.2)
+    cut_down B d n g f t z.0 z.1 m p y.0 s y.1 (own_cut B d m p g f y.0 s y.2)

@@ -11,7 +11,7 @@ use lib.ListN.{length}
 use Rattle.wire.specs.Pick.{same}
 use Rattle.wire.proofs.Picks.{either, pick_true, pick_false}
 use Rattle.model.specs.Tree.{Name, Entry, Block, any, first, on_first, less_first, then, called, holds, Absent, lookup, weight, used, Filled, Packed, fill, insert, change, unless_bare, delete_later, delete}
-use Rattle.model.proofs.Lists.{not_some, then_some, any_here, any-there, any_last, any-on_first, first_passes, first-on_first, on_first-here, on_first-there, on_first-none, on_first-last, on_first_twice, on_first_ext, on_first-same, less_first-here, less_first-last, none-head, none_tail}
+use Rattle.model.proofs.Lists.{not_some, then_some, any_here, any_there, any_last, any-on_first, first_passes, first_on_first, on_first_here, on_first_there, on_first-none, on_first_last, on_first_twice, on_first_ext, on_first_same, less_first_here, less_first_last, none_head, none_tail}
 
 module _ {X : Type 0} where
   -- a change that keeps the name
@@ -42,12 +42,12 @@ module _ {X : Type 0} where
       (λ b f. ap (λ (es : List (Entry X)). let r : Block X = record { at = b.at; entries = es } in r)
       (on_first_ext (called n) h k b.entries (λ e g. s e (then_some (λ c. first (called n) c.entries) f ∙ g))))
 
-  pub change-same : (n : Name) (h : Entry X → Entry X) (bs : List (Block X)) → ((e : Entry X) → lookup n bs ≡ some e → h e ≡ e) → change n h bs ≡ bs
+  pub change_same : (n : Name) (h : Entry X → Entry X) (bs : List (Block X)) → ((e : Entry X) → lookup n bs ≡ some e → h e ≡ e) → change n h bs ≡ bs
   unfolding change lookup
-  change-same n h bs s =
-      on_first-same (holds n) (fill (on_first (called n) h)) bs
+  change_same n h bs s =
+      on_first_same (holds n) (fill (on_first (called n) h)) bs
       (λ b f. ap (λ (es : List (Entry X)). let r : Block X = record { at = b.at; entries = es } in r)
-      (on_first-same (called n) h b.entries (λ e g. s e (then_some (λ c. first (called n) c.entries) f ∙ g))))
+      (on_first_same (called n) h b.entries (λ e g. s e (then_some (λ c. first (called n) c.entries) f ∙ g))))
 
   pub lookup-change : (n : Name) (h : Entry X → Entry X) → Keeps h → (bs : List (Block X)) (e : Entry X) → lookup n bs ≡ some e → lookup n (change n h bs) ≡ some (h e)
   unfolding change lookup then
@@ -58,8 +58,8 @@ module _ {X : Type 0} where
       go (some b) f =
           let i : first (called n) b.entries ≡ some e = sym (then_some (λ c. first (called n) c.entries) f) ∙ l in
           then_some (λ c. first (called n) c.entries)
-          (first-on_first (holds n) (fill (on_first (called n) h)) bs b f (holds-change n h k b (first_passes (holds n) bs b f)))
-          ∙ first-on_first (called n) h b.entries e i (called_keep n h k e (first_passes (called n) b.entries e i))
+          (first_on_first (holds n) (fill (on_first (called n) h)) bs b f (holds-change n h k b (first_passes (holds n) bs b f)))
+          ∙ first_on_first (called n) h b.entries e i (called_keep n h k e (first_passes (called n) b.entries e i))
 
   -- nothing of that name
   pub change_absent : (n : Name) (h : Entry X → Entry X) (bs : List (Block X)) → Absent n bs → change n h bs ≡ bs
@@ -69,12 +69,12 @@ module _ {X : Type 0} where
   later_absent : (n : Name) (bs : List (Block X)) → Absent n bs → delete_later n bs ≡ bs
   unfolding delete_later
   later_absent n [] a = refl
-  later_absent n (b ∷ bs) a = pick_false _ _ (none-head (holds n) b bs a) ∙ ap (λ (l : List (Block X)). b ∷ l) (later_absent n bs (none_tail (holds n) b bs a))
+  later_absent n (b ∷ bs) a = pick_false _ _ (none_head (holds n) b bs a) ∙ ap (λ (l : List (Block X)). b ∷ l) (later_absent n bs (none_tail (holds n) b bs a))
 
   pub delete_absent : (n : Name) (bs : List (Block X)) → Absent n bs → delete n bs ≡ bs
   unfolding delete
   delete_absent n [] a = refl
-  delete_absent n (b ∷ bs) a = pick_false _ _ (none-head (holds n) b bs a) ∙ ap (λ (l : List (Block X)). b ∷ l) (later_absent n bs (none_tail (holds n) b bs a))
+  delete_absent n (b ∷ bs) a = pick_false _ _ (none_head (holds n) b bs a) ∙ ap (λ (l : List (Block X)). b ∷ l) (later_absent n bs (none_tail (holds n) b bs a))
 
   -- a block that keeps an entry stays
   pub not_bare : (a : ℕ) (es : List (Entry X)) (bs : List (Block X)) → 1 ≤ length es → unless_bare a es bs ≡ record { at = a; entries = es } ∷ bs
@@ -87,37 +87,37 @@ module _ {X : Type 0} where
     with : Block X → Block X
     with b = fill (λ es. es ++ (e ∷ [])) b
 
-    holds-with : (b : Block X) → holds n (with b) ≡ true
+    holds_with : (b : Block X) → holds n (with b) ≡ true
     unfolding holds with
-    holds-with b = any_last (called n) e c b.entries
+    holds_with b = any_last (called n) e c b.entries
 
-    holds-new : holds n (record { at = w; entries = e ∷ [] }) ≡ true
+    holds_new : holds n (record { at = w; entries = e ∷ [] }) ≡ true
     unfolding holds
-    holds-new = any_here (called n) e [] c
+    holds_new = any_here (called n) e [] c
 
-    pub insert-there : (bs : List (Block X)) → any (holds n) (insert cap w e bs) ≡ true
+    pub insert_there : (bs : List (Block X)) → any (holds n) (insert cap w e bs) ≡ true
     unfolding insert with
-    insert-there [] = any_here (holds n) _ [] holds-new
-    insert-there (b ∷ bs) = go (either (leb (used b.entries + weight e) cap)) (insert-there bs)
+    insert_there [] = any_here (holds n) _ [] holds_new
+    insert_there (b ∷ bs) = go (either (leb (used b.entries + weight e) cap)) (insert_there bs)
       where
         go : (leb (used b.entries + weight e) cap ≡ true) ⊎ (leb (used b.entries + weight e) cap ≡ false) → any (holds n) (insert cap w e bs) ≡ true → any (holds n) (insert cap w e (b ∷ bs)) ≡ true
-        go (inl r) i = ap (any (holds n)) (pick_true (with b ∷ bs) (b ∷ insert cap w e bs) r) ∙ any_here (holds n) (with b) bs (holds-with b)
+        go (inl r) i = ap (any (holds n)) (pick_true (with b ∷ bs) (b ∷ insert cap w e bs) r) ∙ any_here (holds n) (with b) bs (holds_with b)
         go (inr r) i = ap (any (holds n)) (pick_false (with b ∷ bs) (b ∷ insert cap w e bs) r) ∙ in_tail (either (holds n b))
           where
             in_tail : (holds n b ≡ true) ⊎ (holds n b ≡ false) → any (holds n) (b ∷ insert cap w e bs) ≡ true
             in_tail (inl y) = any_here (holds n) b _ y
-            in_tail (inr y) = any-there (holds n) b _ y ∙ i
+            in_tail (inr y) = any_there (holds n) b _ y ∙ i
 
     -- changed at once
     pub change-insert : (h : Entry X → Entry X) → Keeps h → (bs : List (Block X)) → Absent n bs → change n h (insert cap w e bs) ≡ insert cap w (h e) bs
     unfolding change insert weight with
     change-insert h k [] a =
-        on_first-here (holds n) _ [] holds-new (fill (on_first (called n) h))
-        ∙ ap (λ (es : List (Entry X)). let r : Block X = record { at = w; entries = es } in r ∷ []) (on_first-here (called n) e [] c h)
+        on_first_here (holds n) _ [] holds_new (fill (on_first (called n) h))
+        ∙ ap (λ (es : List (Entry X)). let r : Block X = record { at = w; entries = es } in r ∷ []) (on_first_here (called n) e [] c h)
     change-insert h k (b ∷ bs) a = go (either (leb (used b.entries + weight e) cap)) (change-insert h k bs (none_tail (holds n) b bs a))
       where
         no : holds n b ≡ false
-        no = none-head (holds n) b bs a
+        no = none_head (holds n) b bs a
 
         wt : weight (h e) ≡ weight e
         wt = ap (λ (m : Name). 18 + length m) (k e)
@@ -129,33 +129,33 @@ module _ {X : Type 0} where
             → change n h (insert cap w e bs) ≡ insert cap w (h e) bs → change n h (insert cap w e (b ∷ bs)) ≡ insert cap w (h e) (b ∷ bs)
         go (inl r) i =
             ap (change n h) (pick_true (with b ∷ bs) (b ∷ insert cap w e bs) r)
-            ∙ on_first-here (holds n) (with b) bs (holds-with b) (fill (on_first (called n) h))
-            ∙ ap (λ (es : List (Entry X)). let x : Block X = record { at = b.at; entries = es } in x ∷ bs) (on_first-last (called n) e c h b.entries (unfold holds in no))
+            ∙ on_first_here (holds n) (with b) bs (holds_with b) (fill (on_first (called n) h))
+            ∙ ap (λ (es : List (Entry X)). let x : Block X = record { at = b.at; entries = es } in x ∷ bs) (on_first_last (called n) e c h b.entries (unfold holds in no))
             ∙ sym (put r)
         go (inr r) i =
             ap (change n h) (pick_false (with b ∷ bs) (b ∷ insert cap w e bs) r)
-            ∙ on_first-there (holds n) b (insert cap w e bs) no (fill (on_first (called n) h))
+            ∙ on_first_there (holds n) b (insert cap w e bs) no (fill (on_first (called n) h))
             ∙ ap (λ (l : List (Block X)). b ∷ l) i
             ∙ sym (pick_false _ _ (ap (λ (z : ℕ). leb (used b.entries + z) cap) wt ∙ r))
 
     -- taken out again
     less : (b : Block X) → holds n b ≡ false → less_first (called n) (b.entries ++ (e ∷ [])) ≡ b.entries
     unfolding holds
-    less b a = less_first-last (called n) e c b.entries a
+    less b a = less_first_last (called n) e c b.entries a
 
-    later-insert : (bs : List (Block X)) → Absent n bs → Filled bs → delete_later n (insert cap w e bs) ≡ bs
+    later_insert : (bs : List (Block X)) → Absent n bs → Filled bs → delete_later n (insert cap w e bs) ≡ bs
     unfolding delete_later insert unless_bare with
-    later-insert [] a f = pick_true _ _ holds-new ∙ ap (λ (es : List (Entry X)). unless_bare w es []) (less_first-here (called n) e [] c)
-    later-insert (b ∷ bs) a f = go (either (leb (used b.entries + weight e) cap)) (later-insert bs (none_tail (holds n) b bs a) f.1)
+    later_insert [] a f = pick_true _ _ holds_new ∙ ap (λ (es : List (Entry X)). unless_bare w es []) (less_first_here (called n) e [] c)
+    later_insert (b ∷ bs) a f = go (either (leb (used b.entries + weight e) cap)) (later_insert bs (none_tail (holds n) b bs a) f.1)
       where
         no : holds n b ≡ false
-        no = none-head (holds n) b bs a
+        no = none_head (holds n) b bs a
 
         go : (leb (used b.entries + weight e) cap ≡ true) ⊎ (leb (used b.entries + weight e) cap ≡ false)
             → delete_later n (insert cap w e bs) ≡ bs → delete_later n (insert cap w e (b ∷ bs)) ≡ b ∷ bs
         go (inl r) i =
             ap (delete_later n) (pick_true (with b ∷ bs) (b ∷ insert cap w e bs) r)
-            ∙ pick_true _ _ (holds-with b)
+            ∙ pick_true _ _ (holds_with b)
             ∙ ap (λ (es : List (Entry X)). unless_bare b.at es bs) (less b no)
             ∙ not_bare b.at b.entries bs f.0
         go (inr r) i =
@@ -169,14 +169,14 @@ module _ {X : Type 0} where
     delete-insert (b ∷ bs) a f = go (either (leb (used b.entries + weight e) cap))
       where
         no : holds n b ≡ false
-        no = none-head (holds n) b bs a
+        no = none_head (holds n) b bs a
 
         go : (leb (used b.entries + weight e) cap ≡ true) ⊎ (leb (used b.entries + weight e) cap ≡ false) → delete n (insert cap w e (b ∷ bs)) ≡ b ∷ bs
         go (inl r) =
             ap (delete n) (pick_true (with b ∷ bs) (b ∷ insert cap w e bs) r)
-            ∙ pick_true _ _ (holds-with b)
+            ∙ pick_true _ _ (holds_with b)
             ∙ ap (λ (es : List (Entry X)). let x : Block X = record { at = b.at; entries = es } in x ∷ bs) (less b no)
         go (inr r) =
             ap (delete n) (pick_false (with b ∷ bs) (b ∷ insert cap w e bs) r)
             ∙ pick_false _ _ no
-            ∙ ap (λ (l : List (Block X)). b ∷ l) (later-insert bs (none_tail (holds n) b bs a) f)
+            ∙ ap (λ (l : List (Block X)). b ∷ l) (later_insert bs (none_tail (holds n) b bs a) f)

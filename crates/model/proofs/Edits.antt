@@ -5,19 +5,19 @@ use mathlib.Core.List.{List, [], ◌∷◌}
 use Prim.Native.Nat.{ℕ, zero, suc}
 use Rattle.model.specs.Tree.{Cell, Name, Node, file, device, sub, Entry, Tree, then, lookup, Edit, renew, renewed, at_end, edit, Some, inside, find}
 use Rattle.model.specs.Calls.{refiled}
-use Rattle.model.proofs.Dirs.{Keeps, change_twice, change_ext, change-same, lookup-change}
+use Rattle.model.proofs.Dirs.{Keeps, change_twice, change_ext, change_same, lookup-change}
 use Rattle.model.proofs.Lists.{not_some, then_some}
 
 module _ {X : Type 0} where
-  renew-name : (f : X → X) (g : ℕ → ℕ) (n : Name) (k : ℕ) (x : Node X) → (renew f g n k x).name ≡ n
+  renew_name : (f : X → X) (g : ℕ → ℕ) (n : Name) (k : ℕ) (x : Node X) → (renew f g n k x).name ≡ n
   unfolding renew
-  renew-name f g n k (file s c) = refl
-  renew-name f g n k (device s c) = refl
-  renew-name f g n k (sub x) = refl
+  renew_name f g n k (file s c) = refl
+  renew_name f g n k (device s c) = refl
+  renew_name f g n k (sub x) = refl
 
-  pub renewed-name : (f : X → X) (g : ℕ → ℕ) → Keeps (renewed f g)
+  pub renewed_name : (f : X → X) (g : ℕ → ℕ) → Keeps (renewed f g)
   unfolding renewed
-  renewed-name f g e = renew-name f g e.name e.time e.node
+  renewed_name f g e = renew_name f g e.name e.time e.node
 
   -- twice is once, where the parts say so
   module _ (f f' f'' : X → X) (g g' g'' : ℕ → ℕ) (p : (x : X) → f (f' x) ≡ f'' x) (q : (k : ℕ) → g (g' k) ≡ g'' k) where
@@ -45,7 +45,7 @@ edit_twice zero [] g g' f f' t = refl
 edit_twice (suc d) [] g g' f f' t = refl
 edit_twice zero (n ∷ p) g g' f f' t = refl
 edit_twice (suc d) (n ∷ p) g g' f f' t =
-    change_twice n (renewed (edit d p g f) (at_end p g)) (renewed (edit d p g' f') (at_end p g')) (renewed-name _ _) t
+    change_twice n (renewed (edit d p g f) (at_end p g)) (renewed (edit d p g' f') (at_end p g')) (renewed_name _ _) t
     ∙ change_ext n _ (renewed (edit d p (λ k. g (g' k)) (λ e s. f e (f' e s))) (at_end p (λ k. g (g' k)))) t
     (λ e _. renewed_twice (edit d p g f) (edit d p g' f') _ (at_end p g) (at_end p g') _ (λ s. edit_twice d p g g' f f' s) (at_end_twice p g g') e)
 
@@ -98,33 +98,33 @@ find-edit (suc d) (n ∷ p) g f t s e = go (lookup n t) refl
         → find (suc d) (n ∷ p) (edit (suc d) (n ∷ p) g f t) ≡ some (s.0, f s.0 s.1)
     go none l r = absurd (not_some (ap (λ (o : Option (Entry (Tree d))). then o (λ x. inside (find d p) x.node)) l) e)
     go (some x) l r =
-        then_some (λ y. inside (find d p) y.node) (lookup-change n (renewed (edit d p g f) (at_end p g)) (renewed-name _ _) t x l)
+        then_some (λ y. inside (find d p) y.node) (lookup-change n (renewed (edit d p g f) (at_end p g)) (renewed_name _ _) t x l)
         ∙ r x (find-sub d n p t s x l e)
 
 -- An edit that does nothing.
-renew-same : (d : ℕ) (f : Tree d → Tree d) (g : ℕ → ℕ) → ((t : Tree d) → f t ≡ t) → ((k : ℕ) → g k ≡ k) → (n : Name) (k : ℕ) (x : Node (Tree d))
+renew_same : (d : ℕ) (f : Tree d → Tree d) (g : ℕ → ℕ) → ((t : Tree d) → f t ≡ t) → ((k : ℕ) → g k ≡ k) → (n : Name) (k : ℕ) (x : Node (Tree d))
     → renew f g n k x ≡ record { name = n; time = k; node = x }
 unfolding renew
-renew-same d f g p q n k (file s c) = refl
-renew-same d f g p q n k (device s c) = refl
-renew-same d f g p q n k (sub x) = λ i. record { name = n; time = q k i; node = sub (p x i) }
+renew_same d f g p q n k (file s c) = refl
+renew_same d f g p q n k (device s c) = refl
+renew_same d f g p q n k (sub x) = λ i. record { name = n; time = q k i; node = sub (p x i) }
 
-pub edit-same : (d : ℕ) (p : List Name) (t : Tree d) → edit d p (λ k. k) (λ e s. s) t ≡ t
+pub edit_same : (d : ℕ) (p : List Name) (t : Tree d) → edit d p (λ k. k) (λ e s. s) t ≡ t
 unfolding edit renewed at_end
-edit-same zero [] t = refl
-edit-same (suc d) [] t = refl
-edit-same zero (n ∷ p) t = refl
-edit-same (suc d) (n ∷ p) t =
-    change-same n (renewed (edit d p (λ k. k) (λ e s. s)) (at_end p (λ k. k))) t
-    (λ e _. renew-same d (edit d p (λ k. k) (λ e s. s)) (at_end p (λ k. k)) (λ s. edit-same d p s) (at_same p) e.name e.time e.node)
+edit_same zero [] t = refl
+edit_same (suc d) [] t = refl
+edit_same zero (n ∷ p) t = refl
+edit_same (suc d) (n ∷ p) t =
+    change_same n (renewed (edit d p (λ k. k) (λ e s. s)) (at_end p (λ k. k))) t
+    (λ e _. renew_same d (edit d p (λ k. k) (λ e s. s)) (at_end p (λ k. k)) (λ s. edit_same d p s) (at_same p) e.name e.time e.node)
   where
     at_same : (p : List Name) (k : ℕ) → at_end p (λ j. j) k ≡ k
     at_same [] k = refl
     at_same (m ∷ p) k = refl
 
 -- A write keeps the name.
-pub refiled-name : {X : Type 0} (now s : ℕ) (cs : List Cell) (n : Name) (k : ℕ) (x : Node X) → (refiled now s cs n k x).name ≡ n
+pub refiled_name : {X : Type 0} (now s : ℕ) (cs : List Cell) (n : Name) (k : ℕ) (x : Node X) → (refiled now s cs n k x).name ≡ n
 unfolding refiled
-refiled-name now s cs n k (file z ds) = refl
-refiled-name now s cs n k (device z ds) = refl
-refiled-name now s cs n k (sub x) = refl
+refiled_name now s cs n k (file z ds) = refl
+refiled_name now s cs n k (device z ds) = refl
+refiled_name now s cs n k (sub x) = refl

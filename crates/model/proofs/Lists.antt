@@ -52,56 +52,56 @@ module _ {A : Type 0} (q : A → Bool) (x : A) (xs : List A) where
     unfolding any
     any_here = pick_true _ _ e
 
-    pub first-here : first q (x ∷ xs) ≡ some x
+    pub first_here : first q (x ∷ xs) ≡ some x
     unfolding first
-    first-here = pick_true _ _ e
+    first_here = pick_true _ _ e
 
-    pub on_first-here : (h : A → A) → on_first q h (x ∷ xs) ≡ h x ∷ xs
+    pub on_first_here : (h : A → A) → on_first q h (x ∷ xs) ≡ h x ∷ xs
     unfolding on_first
-    on_first-here h = pick_true _ _ e
+    on_first_here h = pick_true _ _ e
 
-    pub less_first-here : less_first q (x ∷ xs) ≡ xs
+    pub less_first_here : less_first q (x ∷ xs) ≡ xs
     unfolding less_first
-    less_first-here = pick_true _ _ e
+    less_first_here = pick_true _ _ e
 
   module _ (e : q x ≡ false) where
-    pub any-there : any q (x ∷ xs) ≡ any q xs
+    pub any_there : any q (x ∷ xs) ≡ any q xs
     unfolding any
-    any-there = pick_false _ _ e
+    any_there = pick_false _ _ e
 
-    pub first-there : first q (x ∷ xs) ≡ first q xs
+    pub first_there : first q (x ∷ xs) ≡ first q xs
     unfolding first
-    first-there = pick_false _ _ e
+    first_there = pick_false _ _ e
 
-    pub on_first-there : (h : A → A) → on_first q h (x ∷ xs) ≡ x ∷ on_first q h xs
+    pub on_first_there : (h : A → A) → on_first q h (x ∷ xs) ≡ x ∷ on_first q h xs
     unfolding on_first
-    on_first-there h = pick_false _ _ e
+    on_first_there h = pick_false _ _ e
 
-    pub less_first-there : less_first q (x ∷ xs) ≡ x ∷ less_first q xs
+    pub less_first_there : less_first q (x ∷ xs) ≡ x ∷ less_first q xs
     unfolding less_first
-    less_first-there = pick_false _ _ e
+    less_first_there = pick_false _ _ e
 
-  pub none-head : any q (x ∷ xs) ≡ false → q x ≡ false
-  none-head n = go (either (q x))
+  pub none_head : any q (x ∷ xs) ≡ false → q x ≡ false
+  none_head n = go (either (q x))
     where
       go : (q x ≡ true) ⊎ (q x ≡ false) → q x ≡ false
       go (inl e) = absurd (not_both (any_here e) n)
       go (inr e) = e
 
   pub none_tail : any q (x ∷ xs) ≡ false → any q xs ≡ false
-  none_tail n = sym (any-there (none-head n)) ∙ n
+  none_tail n = sym (any_there (none_head n)) ∙ n
 
 module _ {A : Type 0} (q : A → Bool) where
   -- where none passes
   pub on_first-none : (h : A → A) (l : List A) → any q l ≡ false → on_first q h l ≡ l
   unfolding on_first
   on_first-none h [] n = refl
-  on_first-none h (x ∷ xs) n = on_first-there q x xs (none-head q x xs n) h ∙ ap (λ (l : List A). x ∷ l) (on_first-none h xs (none_tail q x xs n))
+  on_first-none h (x ∷ xs) n = on_first_there q x xs (none_head q x xs n) h ∙ ap (λ (l : List A). x ∷ l) (on_first-none h xs (none_tail q x xs n))
 
-  pub first-none : (l : List A) → any q l ≡ false → first q l ≡ none
+  pub first_none : (l : List A) → any q l ≡ false → first q l ≡ none
   unfolding first
-  first-none [] n = refl
-  first-none (x ∷ xs) n = first-there q x xs (none-head q x xs n) ∙ first-none xs (none_tail q x xs n)
+  first_none [] n = refl
+  first_none (x ∷ xs) n = first_there q x xs (none_head q x xs n) ∙ first_none xs (none_tail q x xs n)
 
   -- one that passes, after others that do not
   module _ (x : A) (e : q x ≡ true) where
@@ -111,15 +111,15 @@ module _ {A : Type 0} (q : A → Bool) where
       where
         go : (q y ≡ true) ⊎ (q y ≡ false) → any q (l ++ (x ∷ [])) ≡ true → any q (y ∷ (l ++ (x ∷ []))) ≡ true
         go (inl f) r = any_here q y _ f
-        go (inr f) r = any-there q y _ f ∙ r
+        go (inr f) r = any_there q y _ f ∙ r
 
-    pub on_first-last : (h : A → A) (l : List A) → any q l ≡ false → on_first q h (l ++ (x ∷ [])) ≡ l ++ (h x ∷ [])
-    on_first-last h [] n = on_first-here q x [] e h
-    on_first-last h (y ∷ l) n = on_first-there q y (l ++ (x ∷ [])) (none-head q y l n) h ∙ ap (λ (m : List A). y ∷ m) (on_first-last h l (none_tail q y l n))
+    pub on_first_last : (h : A → A) (l : List A) → any q l ≡ false → on_first q h (l ++ (x ∷ [])) ≡ l ++ (h x ∷ [])
+    on_first_last h [] n = on_first_here q x [] e h
+    on_first_last h (y ∷ l) n = on_first_there q y (l ++ (x ∷ [])) (none_head q y l n) h ∙ ap (λ (m : List A). y ∷ m) (on_first_last h l (none_tail q y l n))
 
-    pub less_first-last : (l : List A) → any q l ≡ false → less_first q (l ++ (x ∷ [])) ≡ l
-    less_first-last [] n = less_first-here q x [] e
-    less_first-last (y ∷ l) n = less_first-there q y (l ++ (x ∷ [])) (none-head q y l n) ∙ ap (λ (m : List A). y ∷ m) (less_first-last l (none_tail q y l n))
+    pub less_first_last : (l : List A) → any q l ≡ false → less_first q (l ++ (x ∷ [])) ≡ l
+    less_first_last [] n = less_first_here q x [] e
+    less_first_last (y ∷ l) n = less_first_there q y (l ++ (x ∷ [])) (none_head q y l n) ∙ ap (λ (m : List A). y ∷ m) (less_first_last l (none_tail q y l n))
 
   -- the first passes
   pub first_passes : (l : List A) (x : A) → first q l ≡ some x → q x ≡ true
@@ -128,8 +128,8 @@ module _ {A : Type 0} (q : A → Bool) where
   first_passes (y ∷ l) x f = go (either (q y)) (first_passes l x)
     where
       go : (q y ≡ true) ⊎ (q y ≡ false) → (first q l ≡ some x → q x ≡ true) → q x ≡ true
-      go (inl e) r = let both : some y ≡ some x = sym (first-here q y l e) ∙ f in let k : y ≡ x = cc in subst (λ (z : A). q z ≡ true) k e
-      go (inr e) r = r (sym (first-there q y l e) ∙ f)
+      go (inl e) r = let both : some y ≡ some x = sym (first_here q y l e) ∙ f in let k : y ≡ x = cc in subst (λ (z : A). q z ≡ true) k e
+      go (inr e) r = r (sym (first_there q y l e) ∙ f)
 
   -- two changes of the first are one
   pub on_first_twice : (h k : A → A) → ((x : A) → q x ≡ true → q (k x) ≡ true) → (l : List A) → on_first q h (on_first q k l) ≡ on_first q (λ x. h (k x)) l
@@ -139,10 +139,10 @@ module _ {A : Type 0} (q : A → Bool) where
     where
       go : (q x ≡ true) ⊎ (q x ≡ false) → on_first q h (on_first q k xs) ≡ on_first q (λ y. h (k y)) xs
           → on_first q h (on_first q k (x ∷ xs)) ≡ on_first q (λ y. h (k y)) (x ∷ xs)
-      go (inl e) r = ap (on_first q h) (on_first-here q x xs e k) ∙ on_first-here q (k x) xs (s x e) h ∙ sym (on_first-here q x xs e (λ y. h (k y)))
+      go (inl e) r = ap (on_first q h) (on_first_here q x xs e k) ∙ on_first_here q (k x) xs (s x e) h ∙ sym (on_first_here q x xs e (λ y. h (k y)))
       go (inr e) r =
-          ap (on_first q h) (on_first-there q x xs e k) ∙ on_first-there q x (on_first q k xs) e h ∙ ap (λ (l : List A). x ∷ l) r
-          ∙ sym (on_first-there q x xs e (λ y. h (k y)))
+          ap (on_first q h) (on_first_there q x xs e k) ∙ on_first_there q x (on_first q k xs) e h ∙ ap (λ (l : List A). x ∷ l) r
+          ∙ sym (on_first_there q x xs e (λ y. h (k y)))
 
   -- what is done to the first alone counts
   pub on_first_ext : (h k : A → A) (l : List A) → ((x : A) → first q l ≡ some x → h x ≡ k x) → on_first q h l ≡ on_first q k l
@@ -151,31 +151,31 @@ module _ {A : Type 0} (q : A → Bool) where
   on_first_ext h k (x ∷ xs) s = go (either (q x)) (on_first_ext h k xs)
     where
       go : (q x ≡ true) ⊎ (q x ≡ false) → (((y : A) → first q xs ≡ some y → h y ≡ k y) → on_first q h xs ≡ on_first q k xs) → on_first q h (x ∷ xs) ≡ on_first q k (x ∷ xs)
-      go (inl e) r = on_first-here q x xs e h ∙ ap (λ (y : A). y ∷ xs) (s x (first-here q x xs e)) ∙ sym (on_first-here q x xs e k)
+      go (inl e) r = on_first_here q x xs e h ∙ ap (λ (y : A). y ∷ xs) (s x (first_here q x xs e)) ∙ sym (on_first_here q x xs e k)
       go (inr e) r =
-          on_first-there q x xs e h ∙ ap (λ (l : List A). x ∷ l) (r (λ y f. s y (first-there q x xs e ∙ f))) ∙ sym (on_first-there q x xs e k)
+          on_first_there q x xs e h ∙ ap (λ (l : List A). x ∷ l) (r (λ y f. s y (first_there q x xs e ∙ f))) ∙ sym (on_first_there q x xs e k)
 
-  pub on_first-same : (h : A → A) (l : List A) → ((x : A) → first q l ≡ some x → h x ≡ x) → on_first q h l ≡ l
+  pub on_first_same : (h : A → A) (l : List A) → ((x : A) → first q l ≡ some x → h x ≡ x) → on_first q h l ≡ l
   unfolding on_first
-  on_first-same h [] s = refl
-  on_first-same h (x ∷ xs) s = go (either (q x)) (on_first-same h xs)
+  on_first_same h [] s = refl
+  on_first_same h (x ∷ xs) s = go (either (q x)) (on_first_same h xs)
     where
       go : (q x ≡ true) ⊎ (q x ≡ false) → (((y : A) → first q xs ≡ some y → h y ≡ y) → on_first q h xs ≡ xs) → on_first q h (x ∷ xs) ≡ x ∷ xs
-      go (inl e) r = on_first-here q x xs e h ∙ ap (λ (y : A). y ∷ xs) (s x (first-here q x xs e))
-      go (inr e) r = on_first-there q x xs e h ∙ ap (λ (l : List A). x ∷ l) (r (λ y f. s y (first-there q x xs e ∙ f)))
+      go (inl e) r = on_first_here q x xs e h ∙ ap (λ (y : A). y ∷ xs) (s x (first_here q x xs e))
+      go (inr e) r = on_first_there q x xs e h ∙ ap (λ (l : List A). x ∷ l) (r (λ y f. s y (first_there q x xs e ∙ f)))
 
   -- the first after it was changed
-  pub first-on_first : (h : A → A) (l : List A) (x : A) → first q l ≡ some x → q (h x) ≡ true → first q (on_first q h l) ≡ some (h x)
+  pub first_on_first : (h : A → A) (l : List A) (x : A) → first q l ≡ some x → q (h x) ≡ true → first q (on_first q h l) ≡ some (h x)
   unfolding first
-  first-on_first h [] x f t = absurd (not_some refl f)
-  first-on_first h (y ∷ l) x f t = go (either (q y)) (first-on_first h l x)
+  first_on_first h [] x f t = absurd (not_some refl f)
+  first_on_first h (y ∷ l) x f t = go (either (q y)) (first_on_first h l x)
     where
       go : (q y ≡ true) ⊎ (q y ≡ false) → (first q l ≡ some x → q (h x) ≡ true → first q (on_first q h l) ≡ some (h x)) → first q (on_first q h (y ∷ l)) ≡ some (h x)
       go (inl e) r =
-          let both : some y ≡ some x = sym (first-here q y l e) ∙ f in let k : y ≡ x = cc in
-          ap (first q) (on_first-here q y l e h ∙ ap (λ (z : A). h z ∷ l) k) ∙ first-here q (h x) l t
+          let both : some y ≡ some x = sym (first_here q y l e) ∙ f in let k : y ≡ x = cc in
+          ap (first q) (on_first_here q y l e h ∙ ap (λ (z : A). h z ∷ l) k) ∙ first_here q (h x) l t
       go (inr e) r =
-          ap (first q) (on_first-there q y l e h) ∙ first-there q y (on_first q h l) e ∙ r (sym (first-there q y l e) ∙ f) t
+          ap (first q) (on_first_there q y l e h) ∙ first_there q y (on_first q h l) e ∙ r (sym (first_there q y l e) ∙ f) t
 
   pub any-on_first : (h : A → A) → ((x : A) → q x ≡ true → q (h x) ≡ true) → (l : List A) → any q l ≡ true → any q (on_first q h l) ≡ true
   unfolding any
@@ -183,5 +183,5 @@ module _ {A : Type 0} (q : A → Bool) where
   any-on_first h s (x ∷ xs) a = go (either (q x)) (any-on_first h s xs)
     where
       go : (q x ≡ true) ⊎ (q x ≡ false) → (any q xs ≡ true → any q (on_first q h xs) ≡ true) → any q (on_first q h (x ∷ xs)) ≡ true
-      go (inl e) r = ap (any q) (on_first-here q x xs e h) ∙ any_here q (h x) xs (s x e)
-      go (inr e) r = ap (any q) (on_first-there q x xs e h) ∙ any-there q x (on_first q h xs) e ∙ r (sym (any-there q x xs e) ∙ a)
+      go (inl e) r = ap (any q) (on_first_here q x xs e h) ∙ any_here q (h x) xs (s x e)
+      go (inr e) r = ap (any q) (on_first_there q x xs e h) ∙ any_there q x (on_first q h xs) e ∙ r (sym (any_there q x xs e) ∙ a)

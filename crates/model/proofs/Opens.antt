@@ -80,26 +80,26 @@ passed k b ks h e = let z = first_of_zero (when k b) ks e in (when-none k b h z.
 -- ---- what the tests say
 
 -- The size code is known exactly where 2 does not hold of it.
-good-code : (M : Mount) → bad_code M ≡ false → M.code ≤ last_code
+good_code : (M : Mount) → bad_code M ≡ false → M.code ≤ last_code
 unfolding bad_code
-good-code M e = ltb-false last_code M.code e
+good_code M e = ltb-false last_code M.code e
 
-pub code-good : (M : Mount) → M.code ≤ last_code → bad_code M ≡ false
+pub code_good : (M : Mount) → M.code ≤ last_code → bad_code M ≡ false
 unfolding bad_code
-code-good M e = le-ltb last_code M.code e
+code_good M e = le-ltb last_code M.code e
 
-code-bad : (M : Mount) → last_code < M.code → bad_code M ≡ true
+code_bad : (M : Mount) → last_code < M.code → bad_code M ≡ true
 unfolding bad_code
-code-bad M h = lt-ltb last_code M.code h
+code_bad M h = lt-ltb last_code M.code h
 
 -- a block has bytes, whatever its size code
 some_size : (c : ℕ) → 0 < code_size c
 some_size c = omega (arith, one-le-pow c 2 (lit< tt))
 
 -- 1 does not hold: the image has bytes, in whole blocks, within the limit, and a block after K+1.
-pub good-image : (M : Mount) (len : ℕ) → bad_image M len ≡ false → (1 ≤ len) × (len % code_size M.code ≡ 0) × (len ≤ image_limit) × (M.K + 2 < len / code_size M.code)
+pub good_image : (M : Mount) (len : ℕ) → bad_image M len ≡ false → (1 ≤ len) × (len % code_size M.code ≡ 0) × (len ≤ image_limit) × (M.K + 2 < len / code_size M.code)
 unfolding bad_image
-good-image M len e =
+good_image M len e =
     let a = or_false _ _ e in
     let b = or_false _ _ a.1 in
     let c = or_false _ _ b.1 in
@@ -110,49 +110,49 @@ good-image M len e =
     some_bytes zero h = absurd (h refl)
     some_bytes (suc k) h = omega arith
 
-pub image-good : (M : Mount) (len : ℕ) → len % code_size M.code ≡ 0 → len ≤ image_limit → M.K + 2 < len / code_size M.code
+pub image_good : (M : Mount) (len : ℕ) → len % code_size M.code ≡ 0 → len ≤ image_limit → M.K + 2 < len / code_size M.code
     → bad_image M len ≡ false
 unfolding bad_image
-image-good M len w l b =
+image_good M len w l b =
     false_or (ne_eqb len 0 (λ z. omega (arith, b, div-le_self len (code_size M.code))))
     (false_or (ap not (eq-eqb (len % code_size M.code) 0 w)) (false_or (le-ltb image_limit len l) (lt-leb (len / code_size M.code) (M.K + 2) b)))
 
 -- The version is known exactly where 2 does not hold of it.
-good-version : (M : Mount) (v n : ℕ) → bad_code M ≡ false → bad_version v M.code ≡ false → Known (numbered M v n)
+good_version : (M : Mount) (v n : ℕ) → bad_code M ≡ false → bad_version v M.code ≡ false → Known (numbered M v n)
 unfolding bad_version
-good-version M v n z e = go (either (eqb v 2))
+good_version M v n z e = go (either (eqb v 2))
   where
     go : (eqb v 2 ≡ true) ⊎ (eqb v 2 ≡ false) → Known (numbered M v n)
-    go (inl t) = inr (eqb-true v 2 t, good-code M z)
+    go (inl t) = inr (eqb-true v 2 t, good_code M z)
     go (inr f) =
         let w : (eqb v 2 || (eqb v 1 && eqb M.code 0)) ≡ true = not-false _ e in
         let h = and_both (eqb v 1) (eqb M.code 0) (sym (ap (λ (b : Bool). b || (eqb v 1 && eqb M.code 0)) f) ∙ w) in
         inl (eqb-true v 1 h.0, eqb-true M.code 0 h.1)
 
-version-good : (g : Geo) → Known g → bad_version g.version g.code ≡ false
+version_good : (g : Geo) → Known g → bad_version g.version g.code ≡ false
 unfolding bad_version
-version-good g (inl k) = let e = k.0 in let z = k.1 in rw (e, z)
-version-good g (inr k) = let e = k.0 in rw e
+version_good g (inl k) = let e = k.0 in let z = k.1 in rw (e, z)
+version_good g (inr k) = let e = k.0 in rw e
 
-known-code : (g : Geo) → Known g → g.code ≤ last_code
-known-code g (inl k) = omega (arith, k.1)
-known-code g (inr k) = k.1
+known_code : (g : Geo) → Known g → g.code ≤ last_code
+known_code g (inl k) = omega (arith, k.1)
+known_code g (inr k) = k.1
 
 -- 2 does not hold: the signature and the mount's size code stand at block M, and the version between them is known.
 pub record Marked (M : Mount) (I : List ℕ) : Type 0 where
   pub letters : same (take 8 (drop (code_size M.code * M.K) I)) signature ≡ true
   pub code : code_at M I ≡ M.code
 
-good-mark : (M : Mount) (I : List ℕ) → bad_mark M I ≡ false → Marked M I × (bad_version (version_at M I) M.code ≡ false)
+good_mark : (M : Mount) (I : List ℕ) → bad_mark M I ≡ false → Marked M I × (bad_version (version_at M I) M.code ≡ false)
 unfolding bad_mark
-good-mark M I e =
+good_mark M I e =
     let a = or_false _ _ e in
     let b = or_false _ _ a.1 in
     (record { letters = not-false _ a.0; code = eqb-true _ _ (not-false _ b.0) }, b.1)
 
-pub mark-good : (M : Mount) (I : List ℕ) → Marked M I → bad_version (version_at M I) M.code ≡ false → bad_mark M I ≡ false
+pub mark_good : (M : Mount) (I : List ℕ) → Marked M I → bad_version (version_at M I) M.code ≡ false → bad_mark M I ≡ false
 unfolding bad_mark
-mark-good M I m v = false_or (ap not m.letters) (false_or (ap not (eq-eqb _ _ m.code)) v)
+mark_good M I m v = false_or (ap not m.letters) (false_or (ap not (eq-eqb _ _ m.code)) v)
 
 -- 3 does not hold: n is inside the image, and N is large enough for the version: that of one bitmap block and its bits, or 2 with a
 -- remainder that is not 1.
@@ -162,9 +162,9 @@ record Counted (g : Geo) (len : ℕ) : Type 0 where
   one_map : g.version ≡ 1 → map_size g + 1 ≤ rest g
   remainder : (g.version ≡ 1 → ⊥) → rest g % (map_size g + 1) ≡ 1 → ⊥
 
-good-count : (g : Geo) (len : ℕ) → bad_count g len ≡ false → Counted g len
+good_count : (g : Geo) (len : ℕ) → bad_count g len ≡ false → Counted g len
 unfolding bad_count
-good-count g len e = go (either (eqb g.version 1))
+good_count g len e = go (either (eqb g.version 1))
   where
     both : (ltb (len / block_size g) g.n ≡ false)
         × (pick (eqb g.version 1) (ltb (rest g) (map_size g + 1)) (ltb (rest g) 2 || eqb (rest g % (map_size g + 1)) 1) ≡ false)
@@ -188,9 +188,9 @@ good-count g len e = go (either (eqb g.version 1))
           remainder = λ _. eqb-false _ _ h.1;
         }
 
-count-good : (g : Geo) (len : ℕ) → Counted g len → bad_count g len ≡ false
+count_good : (g : Geo) (len : ℕ) → Counted g len → bad_count g len ≡ false
 unfolding bad_count
-count-good g len c = false_or (le-ltb _ _ c.inside) (go (either (eqb g.version 1)))
+count_good g len c = false_or (le-ltb _ _ c.inside) (go (either (eqb g.version 1)))
   where
     go : (eqb g.version 1 ≡ true) ⊎ (eqb g.version 1 ≡ false)
         → pick (eqb g.version 1) (ltb (rest g) (map_size g + 1)) (ltb (rest g) 2 || eqb (rest g % (map_size g + 1)) 1) ≡ false
@@ -202,11 +202,11 @@ count-good g len c = false_or (le-ltb _ _ c.inside) (go (either (eqb g.version 1
 -- A size code that is not known is refused before anything of the image is looked at, by every call and so by format.
 pub open_code : (M : Mount) (I : List ℕ) → last_code < M.code → open_refusal M I ≡ 2
 unfolding open_refusal
-open_code M I h = refuses 2 _ (omega arith) (code-bad M h)
+open_code M I h = refuses 2 _ (omega arith) (code_bad M h)
 
-pub format-code : (M : Mount) (len : ℕ) → last_code < M.code → format_refusal M len ≡ 2
+pub format_code : (M : Mount) (len : ℕ) → last_code < M.code → format_refusal M len ≡ 2
 unfolding format_refusal
-format-code M len h = refuses 2 _ (omega arith) (code-bad M h)
+format_code M len h = refuses 2 _ (omega arith) (code_bad M h)
 
 module _ (M : Mount) (I : List ℕ) (z : bad_code M ≡ false) where
   pub open_1 : bad_image M (length I) ≡ true → open_refusal M I ≡ 1
@@ -244,13 +244,13 @@ opened M I e =
 -- ---- sound numbers
 
 -- The tests of the numbers pass exactly where the numbers are sound.
-tests-sound : (M : Mount) (v n len : ℕ) → bad_code M ≡ false → bad_image M len ≡ false → bad_version v M.code ≡ false
+tests_sound : (M : Mount) (v n len : ℕ) → bad_code M ≡ false → bad_image M len ≡ false → bad_version v M.code ≡ false
     → bad_count (numbered M v n) len ≡ false → Sound (numbered M v n) len
-tests-sound M v n len z a w b =
-    let i = good-image M len a in
-    let c = good-count (numbered M v n) len b in
+tests_sound M v n len z a w b =
+    let i = good_image M len a in
+    let c = good_count (numbered M v n) len b in
     record {
-      known = good-version M v n z w;
+      known = good_version M v n z w;
       whole = i.1;
       limit = i.2;
       inside_image = (le-div_iff_mul-le (some_size M.code)).0 c.inside;
@@ -259,28 +259,28 @@ tests-sound M v n len z a w b =
       remainder = c.remainder;
     }
 
-sound-inside : (M : Mount) (v n len : ℕ) → Sound (numbered M v n) len → n ≤ len / code_size M.code
-sound-inside M v n len s = (le-div_iff_mul-le (some_size M.code)).1 s.inside_image
+sound_inside : (M : Mount) (v n len : ℕ) → Sound (numbered M v n) len → n ≤ len / code_size M.code
+sound_inside M v n len s = (le-div_iff_mul-le (some_size M.code)).1 s.inside_image
 
-sound-image : (M : Mount) (v n len : ℕ) → Sound (numbered M v n) len → bad_image M len ≡ false
-sound-image M v n len s = image-good M len s.whole s.limit (omega (arith, sound-inside M v n len s, s.room))
+sound_image : (M : Mount) (v n len : ℕ) → Sound (numbered M v n) len → bad_image M len ≡ false
+sound_image M v n len s = image_good M len s.whole s.limit (omega (arith, sound_inside M v n len s, s.room))
 
-sound-count : (M : Mount) (v n len : ℕ) → Sound (numbered M v n) len → bad_count (numbered M v n) len ≡ false
-sound-count M v n len s =
-    count-good (numbered M v n) len
-    (record { inside = sound-inside M v n len s; room = s.room; one_map = s.one_map; remainder = s.remainder })
+sound_count : (M : Mount) (v n len : ℕ) → Sound (numbered M v n) len → bad_count (numbered M v n) len ≡ false
+sound_count M v n len s =
+    count_good (numbered M v n) len
+    (record { inside = sound_inside M v n len s; room = s.room; one_map = s.one_map; remainder = s.remainder })
 
 -- A call on a volume gives none of 1, 2, 3 exactly where the numbers of the mount are sound and the mark stands there.
-pub opens-sound : (M : Mount) (I : List ℕ) → open_refusal M I ≡ 0 → Sound (geo_at M I) (length I) × Marked M I
-opens-sound M I e =
+pub opens_sound : (M : Mount) (I : List ℕ) → open_refusal M I ≡ 0 → Sound (geo_at M I) (length I) × Marked M I
+opens_sound M I e =
     let t = opened M I e in
-    let m = good-mark M I t.mark in
-    (tests-sound M (version_at M I) (count_at M I) (length I) t.code t.image m.1 t.count, m.0)
+    let m = good_mark M I t.mark in
+    (tests_sound M (version_at M I) (count_at M I) (length I) t.code t.image m.1 t.count, m.0)
 
-pub sound-opens : (M : Mount) (I : List ℕ) → Sound (geo_at M I) (length I) → Marked M I → open_refusal M I ≡ 0
-sound-opens M I s m =
-    open_0 M I (code-good M (known-code (geo_at M I) s.known)) (sound-image M (version_at M I) (count_at M I) (length I) s)
-    (mark-good M I m (version-good (geo_at M I) s.known)) (sound-count M (version_at M I) (count_at M I) (length I) s)
+pub sound_opens : (M : Mount) (I : List ℕ) → Sound (geo_at M I) (length I) → Marked M I → open_refusal M I ≡ 0
+sound_opens M I s m =
+    open_0 M I (code_good M (known_code (geo_at M I) s.known)) (sound_image M (version_at M I) (count_at M I) (length I) s)
+    (mark_good M I m (version_good (geo_at M I) s.known)) (sound_count M (version_at M I) (count_at M I) (length I) s)
 
 -- ---- format
 
@@ -299,16 +299,16 @@ module _ (M : Mount) (len : ℕ) where
     format_0 a b = passes 2 _ z ∙ passes 1 _ a ∙ passes 3 _ b ∙ first_of_none
 
   -- None of the three tests holds where there is no refusal.
-  format-passed : format_refusal M len ≡ 0 → (bad_code M ≡ false) × (bad_image M len ≡ false) × (bad_count (format_geo M len) len ≡ false)
+  format_passed : format_refusal M len ≡ 0 → (bad_code M ≡ false) × (bad_image M len ≡ false) × (bad_count (format_geo M len) len ≡ false)
   unfolding format_refusal
-  format-passed e =
+  format_passed e =
       let z = passed 2 _ _ (omega arith) e in
       let a = passed 1 _ _ (omega arith) z.1 in
       let b = passed 3 _ _ (omega arith) a.1 in
       (z.0, a.0, b.0)
 
   -- Format gives no refusal exactly where the numbers that it writes are sound.
-  pub format-sound : format_refusal M len ≡ 0 → Sound (format_geo M len) len
-  format-sound e =
-      let t = format-passed e in
-      tests-sound M 2 (len / code_size M.code) len t.0 t.1 (version-good (format_geo M len) (inr (refl, good-code M t.0))) t.2
+  pub format_sound : format_refusal M len ≡ 0 → Sound (format_geo M len) len
+  format_sound e =
+      let t = format_passed e in
+      tests_sound M 2 (len / code_size M.code) len t.0 t.1 (version_good (format_geo M len) (inr (refl, good_code M t.0))) t.2

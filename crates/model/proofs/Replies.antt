@@ -44,36 +44,36 @@ reply_zero (suc k) a b e = absurd (not_accepted (suc k) b e)
 
 -- ---- an earlier refusal, if there is one
 
-pub given-none : {A : Type 0} {k : ℕ} (r : Reply A) → k ≡ 0 → given k r ≡ r
+pub given_none : {A : Type 0} {k : ℕ} (r : Reply A) → k ≡ 0 → given k r ≡ r
 unfolding given
-given-none r e = ap (λ (j : ℕ). given j r) e
+given_none r e = ap (λ (j : ℕ). given j r) e
 
-pub given-refuses : {A : Type 0} (k : ℕ) (r : Reply A) → 1 ≤ k → given k r ≡ refused k
+pub given_refuses : {A : Type 0} (k : ℕ) (r : Reply A) → 1 ≤ k → given k r ≡ refused k
 unfolding given
-given-refuses zero r h = absurd (omega arith)
-given-refuses (suc k) r h = refl
+given_refuses zero r h = absurd (omega arith)
+given_refuses (suc k) r h = refl
 
-pub given-some : {A : Type 0} (j : ℕ) {k : ℕ} (r : Reply A) → 1 ≤ j → k ≡ j → given k r ≡ refused j
-given-some j {k} r h e = ap (λ (i : ℕ). given i r) e ∙ given-refuses j r h
+pub given_some : {A : Type 0} (j : ℕ) {k : ℕ} (r : Reply A) → 1 ≤ j → k ≡ j → given k r ≡ refused j
+given_some j {k} r h e = ap (λ (i : ℕ). given i r) e ∙ given_refuses j r h
 
 -- by a test
 pub given_yes : {A : Type 0} (k : ℕ) {b : Bool} (r : Reply A) → 1 ≤ k → b ≡ true → given (when k b) r ≡ refused k
-given_yes k r h e = given-some k r h (when_true k e)
+given_yes k r h e = given_some k r h (when_true k e)
 
-pub given-no : {A : Type 0} (k : ℕ) {b : Bool} (r : Reply A) → b ≡ false → given (when k b) r ≡ r
-given-no k r e = given-none r (when_false k e)
+pub given_no : {A : Type 0} (k : ℕ) {b : Bool} (r : Reply A) → b ≡ false → given (when k b) r ≡ r
+given_no k r e = given_none r (when_false k e)
 
 -- what is accepted was not refused before
-pub given-accepted : {A : Type 0} (k : ℕ) (r : Reply A) (a : A) → given k r ≡ accepted a → (k ≡ 0) × (r ≡ accepted a)
+pub given_accepted : {A : Type 0} (k : ℕ) (r : Reply A) (a : A) → given k r ≡ accepted a → (k ≡ 0) × (r ≡ accepted a)
 unfolding given
-given-accepted zero r a e = (refl, e)
-given-accepted (suc k) r a e = absurd (not_accepted (suc k) a e)
+given_accepted zero r a e = (refl, e)
+given_accepted (suc k) r a e = absurd (not_accepted (suc k) a e)
 
 -- what is refused is the earlier refusal, or the answer's own
-pub given-refused : {A : Type 0} (k : ℕ) (r : Reply A) (j : ℕ) → given k r ≡ refused j → ((1 ≤ k) × (j ≡ k)) ⊎ ((k ≡ 0) × (r ≡ refused j))
+pub given_refused : {A : Type 0} (k : ℕ) (r : Reply A) (j : ℕ) → given k r ≡ refused j → ((1 ≤ k) × (j ≡ k)) ⊎ ((k ≡ 0) × (r ≡ refused j))
 unfolding given
-given-refused zero r j e = inr (refl, e)
-given-refused (suc k) r j e = inl (omega arith, sym (refused-one (suc k) j e))
+given_refused zero r j e = inr (refl, e)
+given_refused (suc k) r j e = inl (omega arith, sym (refused-one (suc k) j e))
 
 -- ---- one answer after another
 
@@ -81,9 +81,9 @@ pub and_then_ok : {A B : Type 0} {r : Reply A} (a : A) (f : A → Reply B) → r
 unfolding and_then
 and_then_ok a f e = rw e
 
-pub and_then-no : {A B : Type 0} {r : Reply A} (k : ℕ) (f : A → Reply B) → r ≡ refused k → and_then r f ≡ refused k
+pub and_then_no : {A B : Type 0} {r : Reply A} (k : ℕ) (f : A → Reply B) → r ≡ refused k → and_then r f ≡ refused k
 unfolding and_then
-and_then-no k f e = rw e
+and_then_no k f e = rw e
 
 pub then-accepted : {A B : Type 0} (r : Reply A) (f : A → Reply B) (b : B) → and_then r f ≡ accepted b → (a : A) × (r ≡ accepted a) × (f a ≡ accepted b)
 unfolding and_then
@@ -96,7 +96,7 @@ then-refused (accepted a) f j e = inr (a, refl, e)
 then-refused (refused k) f j e = inl (ap refused (refused-one k j e))
 
 -- where the second never refuses
-pub first-refused : {A B : Type 0} (r : Reply A) (f : A → B) (j : ℕ) → and_then r (λ a. accepted (f a)) ≡ refused j → r ≡ refused j
+pub first_refused : {A B : Type 0} (r : Reply A) (f : A → B) (j : ℕ) → and_then r (λ a. accepted (f a)) ≡ refused j → r ≡ refused j
 unfolding and_then
-first-refused (accepted a) f j e = absurd (not_accepted j (f a) (sym e))
-first-refused (refused k) f j e = ap refused (refused-one k j e)
+first_refused (accepted a) f j e = absurd (not_accepted j (f a) (sym e))
+first_refused (refused k) f j e = ap refused (refused-one k j e)

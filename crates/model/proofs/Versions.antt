@@ -5,7 +5,7 @@ use Prim.Native.Nat.{ℕ, ◌+◌, ◌-◌, ◌*◌, ◌/◌, ◌≤◌, min}
 use native.Mathlib.Omega.{arith}
 use Rattle.wire.specs.Pick.{pick}
 use Rattle.model.specs.Geometry.{Geo, map_size, map_at, rest, map_blocks, data_at, reach, map_bits, Sound}
-use Rattle.model.proofs.Areas.{geometry, by-known}
+use Rattle.model.proofs.Areas.{geometry, by_known}
 
 -- What is said of numbers by their version.
 record Two (g : Geo) : Type 0 where
@@ -18,12 +18,12 @@ record One (g : Geo) : Type 0 where
   bits : g.version ≡ 1 → data_at g + map_bits g ≤ g.n
   reaches : g.version ≡ 1 → reach g ≡ map_size g * map_blocks g
 
-two-one : (K n : ℕ) → 4097 ≤ n - (K + 2) → Two (geometry K n 1 0)
-two-one K n h = record { rounds = λ e. absurd (omega arith); bits = λ e. absurd (omega arith); reaches = λ e. absurd (omega arith) }
+two_one : (K n : ℕ) → 4097 ≤ n - (K + 2) → Two (geometry K n 1 0)
+two_one K n h = record { rounds = λ e. absurd (omega arith); bits = λ e. absurd (omega arith); reaches = λ e. absurd (omega arith) }
 
-two-two : (K n : ℕ) → 2 ≤ n - (K + 2) → Two (geometry K n 2 0)
+two_two : (K n : ℕ) → 2 ≤ n - (K + 2) → Two (geometry K n 2 0)
 unfolding data_at reach map_blocks pick
-two-two K n h = record { rounds = λ e. omega arith; bits = λ e. omega arith; reaches = λ e. omega arith }
+two_two K n h = record { rounds = λ e. omega arith; bits = λ e. omega arith; reaches = λ e. omega arith }
 
 two_large : (K n : ℕ) → 2 ≤ n - (K + 2) → Two (geometry K n 2 1)
 unfolding data_at reach map_blocks pick
@@ -33,18 +33,18 @@ one-one : (K n : ℕ) → 4097 ≤ n - (K + 2) → One (geometry K n 1 0)
 unfolding data_at reach map_blocks pick
 one-one K n h = record { rounds = λ e. omega arith; bits = λ e. omega arith; reaches = λ e. omega arith }
 
-one-two : (K n : ℕ) → 2 ≤ n - (K + 2) → One (geometry K n 2 0)
-one-two K n h = record { rounds = λ e. absurd (omega arith); bits = λ e. absurd (omega arith); reaches = λ e. absurd (omega arith) }
+one_two : (K n : ℕ) → 2 ≤ n - (K + 2) → One (geometry K n 2 0)
+one_two K n h = record { rounds = λ e. absurd (omega arith); bits = λ e. absurd (omega arith); reaches = λ e. absurd (omega arith) }
 
 one_large : (K n : ℕ) → 2 ≤ n - (K + 2) → One (geometry K n 2 1)
 one_large K n h = record { rounds = λ e. absurd (omega arith); bits = λ e. absurd (omega arith); reaches = λ e. absurd (omega arith) }
 
 module _ (g : Geo) (len : ℕ) (s : Sound g len) where
   two : Two g
-  two = by-known Two two-one two-two two_large g s.known s.room s.one_map
+  two = by_known Two two_one two_two two_large g s.known s.room s.one_map
 
   one : One g
-  one = by-known One one-one one-two one_large g s.known s.room s.one_map
+  one = by_known One one-one one_two one_large g s.known s.room s.one_map
 
   -- Version 2: D by rounding up; a bit for every data block; the reach as the smaller of two numbers.
   pub version_2_data : g.version ≡ 2 → data_at g ≡ map_at g + (rest g + map_size g) / (map_size g + 1)

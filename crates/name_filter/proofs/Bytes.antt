@@ -9,24 +9,24 @@ use lib.Seq.{drop-cons}
 use Rattle.name_filter.specs.Bits.{stirred, hash_from, hash_of}
 
 -- at byte i
-next-byte : (x : List ℕ) (i : ℕ) → i < length x → drop i x ≡ get_or x i 0 ∷ drop (i + 1) x
-next-byte x i h = rw add-one (drop-cons x i 0 h)
+next_byte : (x : List ℕ) (i : ℕ) → i < length x → drop i x ≡ get_or x i 0 ∷ drop (i + 1) x
+next_byte x i h = rw add-one (drop-cons x i 0 h)
 
 -- ---- the hash
 
 -- it is a number of 32 bits
-hash_from-fits : (x : List ℕ) (h : ℕ) → h < 4294967296 → hash_from h x < 4294967296
+hash_from_fits : (x : List ℕ) (h : ℕ) → h < 4294967296 → hash_from h x < 4294967296
 unfolding hash_from stirred
-hash_from-fits [] h l = l
-hash_from-fits (c ∷ x) h l = hash_from-fits x ((h + c) * 2654435761 % 4294967296) (omega arith)
+hash_from_fits [] h l = l
+hash_from_fits (c ∷ x) h l = hash_from_fits x ((h + c) * 2654435761 % 4294967296) (omega arith)
 
 pub hash_fits : (x : List ℕ) → hash_of x < 4294967296
-hash_fits x = hash_from-fits x 0 (omega arith)
+hash_fits x = hash_from_fits x 0 (omega arith)
 
 module _ (x : List ℕ) (i h : ℕ) (v : hash_from h (drop i x) ≡ hash_of x) where
   pub hash_again : i < length x → hash_from ((h + get_or x i 0) * 2654435761 % 4294967296) (drop (i + 1) x) ≡ hash_of x
   unfolding hash_from stirred
-  hash_again l = ap (hash_from h) (sym (next-byte x i l)) ∙ v
+  hash_again l = ap (hash_from h) (sym (next_byte x i l)) ∙ v
 
   pub hash_done : length x ≤ i → h ≡ hash_of x
   unfolding hash_from

@@ -5,7 +5,7 @@ use Prim.Native.Nat.{ℕ}
 use Rattle.block.specs.Block.{Area}
 use Rattle.super_block.specs.declared.SuperBlock.{SuperBlock}
 use Rattle.super_block.specs.Super.{area_in, geo_of, Fit}
-use Rattle.super_block.proofs.Fits.{area-is}
+use Rattle.super_block.proofs.Fits.{area_is}
 use Rattle.read_dir.specs.declared.Place.{Place}
 use Rattle.read_dir.specs.declared.Summed.{Summed}
 use Rattle.read_dir.specs.declared.Summed.TheVariants.{Total, Damaged}
@@ -19,18 +19,18 @@ module _ (B : ℕ) (I : List ℕ) (o : Own) (p : Place) (e : o ≡ At p) where
   pub own_at : OwnIn B I o → OwnIn B I (At p)
   own_at h = subst (OwnIn B I) e h
 
-  pub renewed-at : (J : List ℕ) (z k : ℕ) → J ≡ own_renewed B I (At p) z k → J ≡ own_renewed B I o z k
-  renewed-at J z k h = h ∙ ap (λ (x : Own). own_renewed B I x z k) (sym e)
+  pub renewed_at_lem : (J : List ℕ) (z k : ℕ) → J ≡ own_renewed B I (At p) z k → J ≡ own_renewed B I o z k
+  renewed_at_lem J z k h = h ∙ ap (λ (x : Own). own_renewed B I x z k) (sym e)
 
 -- ---- the sum of the directory
 
 module _ (s : SuperBlock) (I : List ℕ) (dir : ℕ) (own : Own) (time : ℕ) (r : Summed) (f : Fit s I) (e : r ≡ sum_from 0 (walk (area_in s) I dir)) where
-  renewed-by : own_summed s.size I own time r ≡ sum_renewed (geo_of s) I dir own time
+  renewed_by : own_summed s.size I own time r ≡ sum_renewed (geo_of s) I dir own time
   unfolding sum_renewed
-  renewed-by = ap (own_summed s.size I own time) e ∙ ap (λ (A : Area). own_summed A.size I own time (sum_from 0 (walk A I dir))) (area-is f)
+  renewed_by = ap (own_summed s.size I own time) e ∙ ap (λ (A : Area). own_summed A.size I own time (sum_from 0 (walk A I dir))) (area_is f)
 
   pub sum_told : (J : List ℕ) (z : ℕ) → r ≡ Total z → J ≡ own_renewed s.size I own z time → J ≡ sum_renewed (geo_of s) I dir own time
-  sum_told J z q h = h ∙ ap (own_summed s.size I own time) (sym q) ∙ renewed-by
+  sum_told J z q h = h ∙ ap (own_summed s.size I own time) (sym q) ∙ renewed_by
 
-  pub sum-damaged : r ≡ Damaged → I ≡ sum_renewed (geo_of s) I dir own time
-  sum-damaged q = ap (own_summed s.size I own time) (sym q) ∙ renewed-by
+  pub sum_damaged : r ≡ Damaged → I ≡ sum_renewed (geo_of s) I dir own time
+  sum_damaged q = ap (own_summed s.size I own time) (sym q) ∙ renewed_by

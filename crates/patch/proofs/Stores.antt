@@ -9,7 +9,7 @@ use Rattle.limits.specs.Refusals.{refusal_number}
 use Rattle.limits.specs.declared.Refusal.{Refusal}
 use Rattle.super_block.specs.declared.SuperBlock.{SuperBlock}
 use Rattle.super_block.specs.Super.{geo_of, Ready}
-use Rattle.super_block.proofs.Fits.{ready-volume}
+use Rattle.super_block.proofs.Fits.{ready_volume}
 use Rattle.dir_entry.specs.declared.DirEntry.{DirEntry}
 use Rattle.read_dir.specs.declared.Place.{Place}
 use Rattle.handle.specs.declared.Handle.{Handle}
@@ -21,14 +21,14 @@ use Rattle.write.specs.Writing.{count_of}
 use Rattle.write.specs.Written.{targeted_says}
 use Rattle.patch_store.specs.Patch.{patched, CanPatch}
 use Rattle.patch.specs.Patching.{patch_target, patched_at, patched_image, handle_behind, PatchIs}
-use Rattle.patch.proofs.Targets.{accepted-can}
+use Rattle.patch.proofs.Targets.{accepted_can}
 
 module _ (s : SuperBlock) (I : List ℕ) (h : Handle) (buf : List ℕ) (r : Targeted) (er : targeted_says r ≡ patch_target (geo_of s) I h (length buf)) where
   -- ---- before the stores
 
   module _ (ok : Ready s I) (e : DirEntry) (p : Place) (q : r ≡ targeted.At e p) where
     pub store_can : CanPatch (geo_of s) I e p h.position (length buf)
-    store_can = accepted-can (geo_of s) I ok.well.tree (ready-volume s I ok) h buf (record { entry = e; place = p }) (sym er ∙ ap targeted_says q)
+    store_can = accepted_can (geo_of s) I ok.well.tree (ready_volume s I ok) h buf (record { entry = e; place = p }) (sym er ∙ ap targeted_says q)
 
     pub store_end : h.position + length buf ≤ 2147483647
     store_end = omega (arith, store_can.inside, store_can.limit)
@@ -39,9 +39,9 @@ module _ (s : SuperBlock) (I : List ℕ) (h : Handle) (buf : List ℕ) (r : Targ
   -- ---- the end
 
   module _ (time : ℕ) where
-    pub patch-refused : (k : Refusal) → r ≡ targeted.Refused k → PatchIs (geo_of s) h buf time I I (record { answer = counted.Refused k; handle = h })
+    pub patch_refused : (k : Refusal) → r ≡ targeted.Refused k → PatchIs (geo_of s) h buf time I I (record { answer = counted.Refused k; handle = h })
     unfolding count_of and_then patched_image
-    patch-refused k q =
+    patch_refused k q =
         let t : refused (refusal_number k) ≡ patch_target (geo_of s) I h (length buf) = sym (ap targeted_says q) ∙ er in
         record {
           answer = ap (count_of (length buf)) t;
@@ -49,10 +49,10 @@ module _ (s : SuperBlock) (I : List ℕ) (h : Handle) (buf : List ℕ) (r : Targ
           image = ap (patched_at (geo_of s) I h buf time) t;
         }
 
-    pub patch-done : (e : DirEntry) (p : Place) (J : List ℕ) (after : Handle) → r ≡ targeted.At e p → J ≡ patched (geo_of s) I e p h.position buf time → after ≡ moved h (h.position + length buf)
+    pub patch_done : (e : DirEntry) (p : Place) (J : List ℕ) (after : Handle) → r ≡ targeted.At e p → J ≡ patched (geo_of s) I e p h.position buf time → after ≡ moved h (h.position + length buf)
         → PatchIs (geo_of s) h buf time I J (record { answer = counted.Bytes (length buf); handle = after })
     unfolding count_of and_then patched_image
-    patch-done e p J after q j g =
+    patch_done e p J after q j g =
         let t : accepted (record { entry = e; place = p }) ≡ patch_target (geo_of s) I h (length buf) = sym (ap targeted_says q) ∙ er in
         record {
           answer = ap (count_of (length buf)) t;

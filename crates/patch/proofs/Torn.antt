@@ -16,19 +16,19 @@ use Rattle.handle.specs.Handles.{name_of}
 use Rattle.write.proofs.Targets.{aimed}
 use Rattle.patch_store.specs.Patch.{patched}
 use Rattle.patch_store.specs.Torn.{Arrived, Mixture}
-use Rattle.patch_store.proofs.Torn.{patch-frame, torn-is, old-clock}
+use Rattle.patch_store.proofs.Torn.{patch_frame, torn_is, old_clock}
 use Rattle.patch.specs.Patching.{patch_target, patched_image}
 use Rattle.patch.specs.OnTree.{Patchable}
-use Rattle.patch.proofs.Targets.{good-patch, patched-at}
+use Rattle.patch.proofs.Targets.{good_patch, patched_at_lem}
 
 module _ (g : Geo) (I : List ℕ) (t : Tree max_depth) (v : Volume g I max_depth t) (h : Handle) (buf : List ℕ) (a : Patchable max_depth t h (length buf)) where
   -- Every buffer of that length goes to the same place.
   goes : (vs : List ℕ) → length vs ≡ length buf → patch_target g I h (length vs) ≡ accepted (aimed g I t v h a.on_file)
-  goes vs e = ap (patch_target g I h) e ∙ good-patch g I t v h (length buf) a.some_bytes a.fields a.on_file a.inside
+  goes vs e = ap (patch_target g I h) e ∙ good_patch g I t v h (length buf) a.some_bytes a.fields a.on_file a.inside
 
   stores : (vs : List ℕ) → length vs ≡ length buf → (now : ℕ)
       → patched g I (aimed g I t v h a.on_file).entry (aimed g I t v h a.on_file).place h.position vs now ≡ patched_image g I h vs now
-  stores vs e now = patched-at g I t v h vs now (aimed g I t v h a.on_file) (goes vs e)
+  stores vs e now = patched_at_lem g I t v h vs now (aimed g I t v h a.on_file) (goes vs e)
 
   pub frame_is : (now : ℕ) → Kept (block_size g) (λ b i. ((count b (places a.on_file.file.cells) ≡ 0) ⊎ (i < 4))
       × (place_of (block_size g) (name_of h) a.on_file.there.dir.1 + 9 ≤ block_size g * b + i → block_size g * b + i < place_of (block_size g) (name_of h) a.on_file.there.dir.1 + 17 → ⊥))
@@ -39,7 +39,7 @@ module _ (g : Geo) (I : List ℕ) (t : Tree max_depth) (v : Volume g I max_depth
       subst (Kept (block_size g) (λ b i. ((count b (places q.file.cells) ≡ 0) ⊎ (i < 4))
       × (place_of (block_size g) (name_of h) q.there.dir.1 + 9 ≤ block_size g * b + i → block_size g * b + i < place_of (block_size g) (name_of h) q.there.dir.1 + 17 → ⊥)) I)
       (stores buf refl now)
-      (patch-frame g I t q.path (name_of h) q.there.dir _ q.file.time h.size q.file.cells _ _ h.position buf v q.there.there q.file.held refl refl refl
+      (patch_frame g I t q.path (name_of h) q.there.dir _ q.file.time h.size q.file.cells _ _ h.position buf v q.there.there q.file.held refl refl refl
       a.some_bytes a.inside now)
 
   -- What an image is that has some blocks of it.
@@ -53,14 +53,14 @@ module _ (g : Geo) (I : List ℕ) (t : Tree max_depth) (v : Volume g I max_depth
     pub mixture : Mixture (block_size g) I (patched_image g I h buf now) L a.on_file.file.cells
         (overlaid (block_size g) h.position buf a.on_file.file.cells) (overlaid (block_size g) h.position buffer a.on_file.file.cells)
 
-  pub torn-image : (now : ℕ) (L : List ℕ) → now < 2 ^ 64 → Arrived (block_size g) I (patched_image g I h buf now) L → TornImage now L
+  pub torn_image : (now : ℕ) (L : List ℕ) → now < 2 ^ 64 → Arrived (block_size g) I (patched_image g I h buf now) L → TornImage now L
   unfolding aimed
-  torn-image now L clock r =
+  torn_image now L clock r =
       let q = a.on_file in
-      let T = torn-is g I t q.path (name_of h) q.there.dir _ q.file.time h.size q.file.cells _ _ h.position buf v q.there.there q.file.held refl refl refl
+      let T = torn_is g I t q.path (name_of h) q.there.dir _ q.file.time h.size q.file.cells _ _ h.position buf v q.there.there q.file.held refl refl refl
       a.some_bytes a.inside now L (subst (λ (J : List ℕ). Arrived (block_size g) I J L) (sym (stores buf refl now)) r) in
       let old : q.file.time < 2 ^ 64
-      = old-clock g I t q.path (name_of h) q.there.dir _ q.file.time h.size q.file.cells _ _ h.position buf v q.there.there q.file.held refl refl refl
+      = old_clock g I t q.path (name_of h) q.there.dir _ q.file.time h.size q.file.cells _ _ h.position buf v q.there.there q.file.held refl refl refl
       a.some_bytes a.inside in
       record {
         buffer = T.buffer;

@@ -9,25 +9,25 @@ use native.Mathlib.Omega.{arith}
 use lib.ListN.{length, get_or, take, drop, length-append, length-drop, get_or-append}
 use lib.Seq.{length-take-le, take-add, take_all, get_or-take, get_or-drop, get_or-append-add, ext_get_or}
 use Rattle.wire.specs.Be.{bytes, splice}
-use Rattle.wire.proofs.Numbers.{length-bytes, length-splice, splice-before, splice_in, splice-after}
+use Rattle.wire.proofs.Numbers.{length_bytes, length-splice, splice_before, splice_in, splice-after}
 use Rattle.model.specs.Tree.{Cell}
 use Rattle.model.specs.Render.{cells_at, cell_pieces, count, Shows, ShowsAll}
 use Rattle.model.specs.Volume.{All, GoodCell}
 use Rattle.model.specs.Calls.{stream, places, chop, overlaid}
 use Rattle.model.proofs.Contents.{length-stream, length-places}
-use Rattle.model.proofs.Counts.{count_none, count-other}
-use Rattle.write_store.proofs.Chops.{chop-same}
+use Rattle.model.proofs.Counts.{count_none, count_other}
+use Rattle.write_store.proofs.Chops.{chop_same}
 use Rattle.patch_store.specs.Torn.{BlockAs, Mixture}
 
 -- ---- lists
 
-first-place : (cs : List Cell) → cells_at cs ≡ get_or (places cs) 0 0
+first_place : (cs : List Cell) → cells_at cs ≡ get_or (places cs) 0 0
 unfolding cells_at places
-first-place [] = refl
-first-place (c ∷ cs) = refl
+first_place [] = refl
+first_place (c ∷ cs) = refl
 
 pub same_first : (cs ds : List Cell) → places cs ≡ places ds → cells_at cs ≡ cells_at ds
-same_first cs ds e = first-place cs ∙ ap (λ (l : List ℕ). get_or l 0 0) e ∙ sym (first-place ds)
+same_first cs ds e = first_place cs ∙ ap (λ (l : List ℕ). get_or l 0 0) e ∙ sym (first_place ds)
 
 -- The blocks hold as many of the bytes as they have room for.
 stream-chop : (w : ℕ) (xs l : List ℕ) → stream (chop w xs l) ≡ take (w * length xs) l
@@ -38,12 +38,12 @@ stream-chop w (a ∷ xs) l = rw (mul-suc, add_comm (w * length xs) w, take-add w
 -- ---- the links
 
 -- Two images that show chains at the same addresses have the same links in them.
-pub next-same : (B : ℕ) (I J : List ℕ) (cs ds : List Cell) → places ds ≡ places cs → ShowsAll B I (cell_pieces cs) → ShowsAll B J (cell_pieces ds)
+pub next_same : (B : ℕ) (I J : List ℕ) (cs ds : List Cell) → places ds ≡ places cs → ShowsAll B I (cell_pieces cs) → ShowsAll B J (cell_pieces ds)
     → (b : ℕ) → 1 ≤ count b (places cs) → (i : ℕ) → i < 4 → get_or J (B * b + i) 0 ≡ get_or I (B * b + i) 0
 unfolding places cell_pieces
-next-same B I J [] ds e s r b m i h = absurd (omega (arith, count_none b))
-next-same B I J (c ∷ cs) [] e s r b m i h = let z : suc (length (places cs)) ≡ 0 = sym (ap length e) in absurd (omega arith)
-next-same B I J (c ∷ cs) (d ∷ ds) e s r b m i h = go (ℕ_discrete b c.at) (λ y. next-same B I J cs ds (ap (drop 1) e) s.1 r.1 b y i h)
+next_same B I J [] ds e s r b m i h = absurd (omega (arith, count_none b))
+next_same B I J (c ∷ cs) [] e s r b m i h = let z : suc (length (places cs)) ≡ 0 = sym (ap length e) in absurd (omega arith)
+next_same B I J (c ∷ cs) (d ∷ ds) e s r b m i h = go (ℕ_discrete b c.at) (λ y. next_same B I J cs ds (ap (drop 1) e) s.1 r.1 b y i h)
   where
     at : d.at ≡ c.at
     at = ap (λ (l : List ℕ). get_or l 0 0) e
@@ -52,16 +52,16 @@ next-same B I J (c ∷ cs) (d ∷ ds) e s r b m i h = go (ℕ_discrete b c.at) (
     first = same_first ds cs (ap (drop 1) e)
 
     link : (x : ℕ) (l : List ℕ) → get_or (bytes 4 x ++ l) i 0 ≡ get_or (bytes 4 x) i 0
-    link x l = get_or-append (bytes 4 x) l 0 i (omega (arith, length-bytes 4 x))
+    link x l = get_or-append (bytes 4 x) l 0 i (omega (arith, length_bytes 4 x))
 
     long : (x : ℕ) (l : List ℕ) → i < length (bytes 4 x ++ l)
-    long x l = omega (arith, length-append (bytes 4 x) l, length-bytes 4 x)
+    long x l = omega (arith, length-append (bytes 4 x) l, length_bytes 4 x)
 
     go : Dec (b ≡ c.at) → (1 ≤ count b (places cs) → get_or J (B * b + i) 0 ≡ get_or I (B * b + i) 0) → get_or J (B * b + i) 0 ≡ get_or I (B * b + i) 0
     go (yes q) f =
         rw q (ap (λ (a : ℕ). get_or J (B * a + i) 0) (sym at) ∙ r.0 i (long (cells_at ds) d.body) ∙ link (cells_at ds) d.body
         ∙ ap (λ (x : ℕ). get_or (bytes 4 x) i 0) first ∙ sym (s.0 i (long (cells_at cs) c.body) ∙ link (cells_at cs) c.body))
-    go (no q) f = f (omega (arith, m, count-other b c.at (places cs) q))
+    go (no q) f = f (omega (arith, m, count_other b c.at (places cs) q))
 
 -- ---- the mixture
 
@@ -76,14 +76,14 @@ pub record Mixed (B : ℕ) (I J L : List ℕ) (cs ds : List Cell) : Type 0 where
 
 module _ (B : ℕ) (large : 4 ≤ B) (I J L : List ℕ) (each : (b : ℕ) → BlockAs B I L b ⊎ BlockAs B J L b) where
   -- what two images show of one block, if it is the same block
-  body-one : (X : List ℕ) (b x y : ℕ) (l m : List ℕ) → length l ≡ B - 4 → length m ≡ B - 4 → Shows L (B * b) (bytes 4 x ++ l) → Shows X (B * b) (bytes 4 y ++ m)
+  body_one : (X : List ℕ) (b x y : ℕ) (l m : List ℕ) → length l ≡ B - 4 → length m ≡ B - 4 → Shows L (B * b) (bytes 4 x ++ l) → Shows X (B * b) (bytes 4 y ++ m)
       → BlockAs B X L b → l ≡ m
-  body-one X b x y l m el em s r q = ext_get_or 0 l m (el ∙ sym em) (λ i h.
+  body_one X b x y l m el em s r q = ext_get_or 0 l m (el ∙ sym em) (λ i h.
       let k : 4 + i < B = omega (arith, el) in
-      let ll : length (bytes 4 x ++ l) ≡ B = length-append (bytes 4 x) l ∙ omega (arith, length-bytes 4 x) in
-      let lm : length (bytes 4 y ++ m) ≡ B = length-append (bytes 4 y) m ∙ omega (arith, length-bytes 4 y) in
+      let ll : length (bytes 4 x ++ l) ≡ B = length-append (bytes 4 x) l ∙ omega (arith, length_bytes 4 x) in
+      let lm : length (bytes 4 y ++ m) ≡ B = length-append (bytes 4 y) m ∙ omega (arith, length_bytes 4 y) in
       let behind : (z : ℕ) (n : List ℕ) → get_or (bytes 4 z ++ n) (4 + i) 0 ≡ get_or n i 0
-      = λ z n. ap (λ (j : ℕ). get_or (bytes 4 z ++ n) (j + i) 0) (sym (length-bytes 4 z)) ∙ get_or-append-add (bytes 4 z) n i 0 in
+      = λ z n. ap (λ (j : ℕ). get_or (bytes 4 z ++ n) (j + i) 0) (sym (length_bytes 4 z)) ∙ get_or-append-add (bytes 4 z) n i 0 in
       sym (behind x l) ∙ sym (s (4 + i) (omega arith)) ∙ q (4 + i) k ∙ r (4 + i) (omega arith) ∙ behind y m)
 
   pub mixed : (cs ds : List Cell) → places ds ≡ places cs → All (GoodCell B) cs → All (GoodCell B) ds → ShowsAll B I (cell_pieces cs) → ShowsAll B J (cell_pieces ds)
@@ -105,7 +105,7 @@ module _ (B : ℕ) (large : 4 ≤ B) (I J L : List ℕ) (each : (b : ℕ) → Bl
 
       -- a block of L that is X's shows what that shows
       L-shows : (X : List ℕ) (z : ℕ) (l : List ℕ) → length l ≡ B - 4 → Shows X (B * c.at) (bytes 4 z ++ l) → BlockAs B X L c.at → Shows L (B * c.at) (bytes 4 z ++ l)
-      L-shows X z l k x q i j = q i (omega (arith, length-append (bytes 4 z) l, length-bytes 4 z, k)) ∙ x i j
+      L-shows X z l k x q i j = q i (omega (arith, length-append (bytes 4 z) l, length_bytes 4 z, k)) ∙ x i j
 
       built : (l : List ℕ) → length l ≡ B - 4 → (m : Mixed B I J L cs ds) → Shows L (B * c.at) (bytes 4 (cells_at m.cells) ++ l)
           → ((i : ℕ) → (get_or l i 0 ≡ get_or c.body i 0) ⊎ (get_or l i 0 ≡ get_or d.body i 0)) → Mixed B I J L (c ∷ cs) (d ∷ ds)
@@ -117,8 +117,8 @@ module _ (B : ℕ) (large : 4 ≤ B) (I J L : List ℕ) (each : (b : ℕ) → Bl
             shown = (x, m.shown);
             mixture = (
               (
-                body-one I c.at (cells_at m.cells) (cells_at cs) l c.body k g.0.whole x s.0,
-                body-one J c.at (cells_at m.cells) (cells_at ds) l d.body k h.0.whole x J-shows,
+                body_one I c.at (cells_at m.cells) (cells_at cs) l c.body k g.0.whole x s.0,
+                body_one J c.at (cells_at m.cells) (cells_at ds) l d.body k h.0.whole x J-shows,
               ),
               m.mixture,
             );
@@ -173,21 +173,21 @@ module _ (B : ℕ) (cs es : List Cell) (c : ℕ) (buf : List ℕ) (spots : place
   count_same : length es ≡ length cs
   count_same = sym (length-places es) ∙ ap length spots ∙ length-places cs
 
-  long-old : length (stream cs) ≡ (B - 4) * length cs
-  long-old = length-stream B cs old
+  long_old : length (stream cs) ≡ (B - 4) * length cs
+  long_old = length-stream B cs old
 
-  long-new : length (stream es) ≡ (B - 4) * length cs
-  long-new = length-stream B es new ∙ ap (λ (k : ℕ). (B - 4) * k) count_same
+  long_new : length (stream es) ≡ (B - 4) * length cs
+  long_new = length-stream B es new ∙ ap (λ (k : ℕ). (B - 4) * k) count_same
 
-  pub long-mixed : length (take (length buf) (drop c (stream es))) ≡ length buf
-  long-mixed = length-take-le (length buf) (drop c (stream es)) (omega (arith, length-drop c (stream es), long-new))
+  pub long_mixed : length (take (length buf) (drop c (stream es))) ≡ length buf
+  long_mixed = length-take-le (length buf) (drop c (stream es)) (omega (arith, length-drop c (stream es), long_new))
 
-  over-is : stream (overlaid B c buf cs) ≡ splice (stream cs) c buf
+  over_is : stream (overlaid B c buf cs) ≡ splice (stream cs) c buf
   unfolding overlaid
-  over-is =
+  over_is =
       stream-chop (B - 4) (places cs) (splice (stream cs) c buf)
       ∙ take_all ((B - 4) * length (places cs)) (splice (stream cs) c buf)
-      (omega (arith, length-splice (stream cs) c buf (omega (arith, long-old)), long-old, ap (λ (k : ℕ). (B - 4) * k) (length-places cs)))
+      (omega (arith, length-splice (stream cs) c buf (omega (arith, long_old)), long_old, ap (λ (k : ℕ). (B - 4) * k) (length-places cs)))
 
   -- outside the buffer's place they are the old ones
   outside : (i : ℕ) → get_or (splice (stream cs) c buf) i 0 ≡ get_or (stream cs) i 0 → get_or (stream es) i 0 ≡ get_or (stream cs) i 0
@@ -195,32 +195,32 @@ module _ (B : ℕ) (cs es : List Cell) (c : ℕ) (buf : List ℕ) (spots : place
     where
       go : (get_or (stream es) i 0 ≡ get_or (stream cs) i 0) ⊎ (get_or (stream es) i 0 ≡ get_or (stream (overlaid B c buf cs)) i 0) → get_or (stream es) i 0 ≡ get_or (stream cs) i 0
       go (inl x) = x
-      go (inr x) = x ∙ ap (λ (l : List ℕ). get_or l i 0) over-is ∙ s
+      go (inr x) = x ∙ ap (λ (l : List ℕ). get_or l i 0) over_is ∙ s
 
   fits : c + length buf ≤ length (stream cs)
-  fits = omega (arith, long-old)
+  fits = omega (arith, long_old)
 
-  fits-mixed : c + length mixed_bytes ≤ length (stream cs)
-  fits-mixed = omega (arith, long-mixed, long-old)
+  fits_mixed : c + length mixed_bytes ≤ length (stream cs)
+  fits_mixed = omega (arith, long_mixed, long_old)
 
-  all-bytes : splice (stream cs) c (take (length buf) (drop c (stream es))) ≡ stream es
-  all-bytes = ext_get_or 0 _ _ (length-splice (stream cs) c mixed_bytes fits-mixed ∙ long-old ∙ sym long-new) (λ i h. go i (dec_lt i c) (dec_lt i (c + length buf)))
+  all_bytes : splice (stream cs) c (take (length buf) (drop c (stream es))) ≡ stream es
+  all_bytes = ext_get_or 0 _ _ (length-splice (stream cs) c mixed_bytes fits_mixed ∙ long_old ∙ sym long_new) (λ i h. go i (dec_lt i c) (dec_lt i (c + length buf)))
     where
       go : (i : ℕ) → Dec (i < c) → Dec (i < c + length buf) → get_or (splice (stream cs) c (take (length buf) (drop c (stream es)))) i 0 ≡ get_or (stream es) i 0
-      go i (yes a) b = splice-before (stream cs) c mixed_bytes fits-mixed i a ∙ sym (outside i (splice-before (stream cs) c buf fits i a))
+      go i (yes a) b = splice_before (stream cs) c mixed_bytes fits_mixed i a ∙ sym (outside i (splice_before (stream cs) c buf fits i a))
       go i (no a) (yes b) =
           let j : ℕ = i - c in
           let e : c + j ≡ i = omega arith in
           ap (λ (x : ℕ). get_or (splice (stream cs) c mixed_bytes) x 0) (sym e)
-          ∙ splice_in (stream cs) c mixed_bytes fits-mixed j (omega (arith, long-mixed))
+          ∙ splice_in (stream cs) c mixed_bytes fits_mixed j (omega (arith, long_mixed))
           ∙ get_or-take (length buf) (drop c (stream es)) j 0 (omega arith) ∙ get_or-drop c (stream es) j 0 ∙ ap (λ (x : ℕ). get_or (stream es) x 0) e
       go i (no a) (no b) =
-          splice-after (stream cs) c mixed_bytes fits-mixed i (omega (arith, long-mixed)) ∙ sym (outside i (splice-after (stream cs) c buf fits i (omega arith)))
+          splice-after (stream cs) c mixed_bytes fits_mixed i (omega (arith, long_mixed)) ∙ sym (outside i (splice-after (stream cs) c buf fits i (omega arith)))
 
-  pub mixed-is : overlaid B c (take (length buf) (drop c (stream es))) cs ≡ es
+  pub mixed_is : overlaid B c (take (length buf) (drop c (stream es))) cs ≡ es
   unfolding overlaid
-  mixed-is =
-      (let e : places cs ≡ places es = sym spots in λ i. chop (B - 4) (e i) (all-bytes i)) ∙ chop-same (B - 4) es (bodies es new)
+  mixed_is =
+      (let e : places cs ≡ places es = sym spots in λ i. chop (B - 4) (e i) (all_bytes i)) ∙ chop_same (B - 4) es (bodies es new)
     where
       bodies : (ds : List Cell) → All (GoodCell B) ds → All (λ d. length d.body ≡ B - 4) ds
       bodies [] a = tt

@@ -19,10 +19,10 @@ use Rattle.thm_walk.specs.Shown.{spot_of}
 use Rattle.own_entry.specs.declared.Own.TheVariants as own
 use Rattle.own_entry.specs.Own.{own_renewed}
 use Rattle.write_store.specs.Write.{resized, spread, wrote, HeldCells, CanWrite}
-use Rattle.write_store.proofs.Resizes.{resized-same}
-use Rattle.write_store.proofs.Writes.{good-file, file-held, can-write-is, wrote-makes}
+use Rattle.write_store.proofs.Resizes.{resized_same}
+use Rattle.write_store.proofs.Writes.{good_file, file_held, can_write_is, wrote_makes}
 use Rattle.patch_store.specs.Patch.{patched, CanPatch}
-use Rattle.patch_store.proofs.Tails.{tail_from, tail-end, tail-chain, tail-spread}
+use Rattle.patch_store.proofs.Tails.{tail_from, tail_end, tail-chain, tail-spread}
 
 module _ (g : Geo) (I : List ℕ) (t : Tree max_depth) (p : List Name) (n : Name) (s : Some) (x : Entry (Below s.0)) (k z : ℕ) (cs : List Cell) (e : DirEntry) (at : Place) (c : ℕ) (buf : List ℕ)
     (v : Volume g I max_depth t) (there : find max_depth p t ≡ some s) (l : lookup n s.1 ≡ some x) (is : x ≡ file_entry n k z cs) (head : e ≡ head_of (view (block_size g) s.0) x) (spot : at ≡ spot_of n s.1)
@@ -37,42 +37,42 @@ module _ (g : Geo) (I : List ℕ) (t : Tree max_depth) (p : List Name) (n : Name
   found = l ∙ ap some is
 
   good : GoodFile (block_size g) z cs
-  good = good-file g I max_depth t v p n s there k z cs found
+  good = good_file g I max_depth t v p n s there k z cs found
 
   held : HeldCells g I cs
-  held = file-held g I max_depth t v p n s there k z cs found
+  held = file_held g I max_depth t v p n s there k z cs found
 
   five : 5 ≤ block_size g
   five = omega (arith, size_large g)
 
   -- ---- that write is one of a whole file
 
-  pub whole-end : c + length (buf ++ tail_from z cs (c + length buf)) ≡ z
-  whole-end = tail-end B z cs five good c buf inside
+  pub whole_end : c + length (buf ++ tail_from z cs (c + length buf)) ≡ z
+  whole_end = tail_end B z cs five good c buf inside
 
-  whole-some : 1 ≤ length vs
-  whole-some = omega (arith, length-append buf (tail_from z cs (c + length buf)))
+  whole_some : 1 ≤ length vs
+  whole_some = omega (arith, length-append buf (tail_from z cs (c + length buf)))
 
   whole_room : blocks_for (block_size g) (c + length vs) - length cs ≤ length (free_blocks g max_depth t)
-  whole_room = omega (arith, ap (blocks_for B) whole-end, good.long)
+  whole_room = omega (arith, ap (blocks_for B) whole_end, good.long)
 
-  head-size : e.size ≡ z
+  head_size : e.size ≡ z
   unfolding head_of size_of file_entry
-  head-size = ap (λ (y : DirEntry). y.size) head ∙ ap (λ (y : Entry (Below s.0)). size_of (view (block_size g) s.0) y.node) is
+  head_size = ap (λ (y : DirEntry). y.size) head ∙ ap (λ (y : Entry (Below s.0)). size_of (view (block_size g) s.0) y.node) is
 
-  head-addr : e.addr.0 ≡ cells_at cs
+  head_addr : e.addr.0 ≡ cells_at cs
   unfolding head_of address_of file_entry
-  head-addr = ap (λ (y : DirEntry). y.addr.0) head ∙ ap (λ (y : Entry (Below s.0)). address_of (view (block_size g) s.0) y.node) is
+  head_addr = ap (λ (y : DirEntry). y.addr.0) head ∙ ap (λ (y : Entry (Below s.0)). address_of (view (block_size g) s.0) y.node) is
 
   can : CanWrite g I e at c (length vs)
-  can = can-write-is g I t p n s x k z cs e at c vs v there l is head spot whole-some (omega arith) (omega (arith, whole-end, good.limit)) whole_room
+  can = can_write_is g I t p n s x k z cs e at c vs v there l is head spot whole_some (omega arith) (omega (arith, whole_end, good.limit)) whole_room
 
   -- What `patch` requires holds there.
-  pub can-patch-is : CanPatch g I e at c (length buf)
-  can-patch-is = record {
+  pub can_patch_is : CanPatch g I e at c (length buf)
+  can_patch_is = record {
     some_bytes = some_bytes;
-    inside = omega (arith, head-size);
-    limit = omega (arith, head-size, good.limit);
+    inside = omega (arith, head_size);
+    limit = omega (arith, head_size, good.limit);
     chain = can.size.chain;
     entry = can.entry;
   }
@@ -84,19 +84,19 @@ module _ (g : Geo) (I : List ℕ) (t : Tree max_depth) (p : List Name) (n : Name
   unfolding patched wrote
   patched-wrote now =
       let m : ℕ = blocks_for B (c + length vs) in
-      let same : blocks_for B e.size ≡ m = ap (blocks_for B) (head-size ∙ sym whole-end) in
+      let same : blocks_for B e.size ≡ m = ap (blocks_for B) (head_size ∙ sym whole_end) in
       let old : I ≡ resized g I e.addr.0 (blocks_for B e.size) m
-      = resized-same g I v.laid.sound e.addr.0 (blocks_for B e.size) m can.size.chain (blocks-some B five e.size) same in
+      = resized_same g I v.laid.sound e.addr.0 (blocks_for B e.size) m can.size.chain (blocks-some B five e.size) same in
       let bytes : spread B I e.addr.0 c buf (blocks_for B (c + length buf)) ≡ spread B I e.addr.0 c vs m
-      = ap (λ (a : ℕ). spread B I a c buf (blocks_for B (c + length buf))) head-addr
+      = ap (λ (a : ℕ). spread B I a c buf (blocks_for B (c + length buf))) head_addr
       ∙ sym (tail-spread g I v.laid.sound z cs good held c buf some_bytes inside)
-      ∙ ap (λ (a : ℕ). spread B I a c vs m) (sym head-addr) in
-      (λ i. own_renewed B (bytes i) (own.At at) ((head-size ∙ sym whole-end) i) now)
+      ∙ ap (λ (a : ℕ). spread B I a c vs m) (sym head_addr) in
+      (λ i. own_renewed B (bytes i) (own.At at) ((head_size ∙ sym whole_end) i) now)
       ∙ ap (λ (J : List ℕ). own_renewed B (spread B J e.addr.0 c vs m) (own.At at) (c + length vs) now) old
 
   -- C19: for every well-formed volume and every file in it, the image that `patch` leaves (its contract) is that of `TreePatches`.
-  pub patched-is : (now : ℕ) → now < 2 ^ 64 → TreePatches g max_depth p n now c buf t I (patched g I e at c buf now)
-  patched-is now clock =
+  pub patched_is : (now : ℕ) → now < 2 ^ 64 → TreePatches g max_depth p n now c buf t I (patched g I e at c buf now)
+  patched_is now clock =
       record {
         size = z;
         time = k;
@@ -106,9 +106,9 @@ module _ (g : Geo) (I : List ℕ) (t : Tree max_depth) (p : List Name) (n : Name
         some_bytes = some_bytes;
         inside = inside;
         makes = subst (Makes g max_depth t (rewritten max_depth p n now z (overlaid B c buf cs) t) I) (sym (patched-wrote now))
-            (subst (λ (u : Tree max_depth). Makes g max_depth t u I (wrote g I e at c vs now)) same-tree
-            (wrote-makes g I t p n s x k z cs e at c vs now v there l is head spot whole-some (omega arith) (omega (arith, whole-end, good.limit)) whole_room clock));
+            (subst (λ (u : Tree max_depth). Makes g max_depth t u I (wrote g I e at c vs now)) same_tree
+            (wrote_makes g I t p n s x k z cs e at c vs now v there l is head spot whole_some (omega arith) (omega (arith, whole_end, good.limit)) whole_room clock));
       }
     where
-      same-tree : rewritten max_depth p n now (c + length vs) (rewrite (block_size g) (free_blocks g max_depth t) c vs cs) t ≡ rewritten max_depth p n now z (overlaid (block_size g) c buf cs) t
-      same-tree = λ i. rewritten max_depth p n now (whole-end i) (tail-chain B z cs five good c buf inside (free_blocks g max_depth t) i) t
+      same_tree : rewritten max_depth p n now (c + length vs) (rewrite (block_size g) (free_blocks g max_depth t) c vs cs) t ≡ rewritten max_depth p n now z (overlaid (block_size g) c buf cs) t
+      same_tree = λ i. rewritten max_depth p n now (whole_end i) (tail-chain B z cs five good c buf inside (free_blocks g max_depth t) i) t

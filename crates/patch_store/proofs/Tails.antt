@@ -16,20 +16,20 @@ use Rattle.model.specs.Volume.{All, blocks_for, GoodCell, GoodFile}
 use Rattle.model.specs.Calls.{contents, stream, places, chop, rewrite, overlaid}
 use Rattle.model.proofs.Alike.{alike_refl}
 use Rattle.model.proofs.Areas.{size_large}
-use Rattle.model.proofs.Contents.{blocks-some, blocks-enough, blocks-least, length-stream, length-places, rewrite-places, rewrite-good, contents-rewrite}
-use Rattle.model.proofs.Counts.{ats-cells}
-use Rattle.model.proofs.Demand.{shown-near}
+use Rattle.model.proofs.Contents.{blocks-some, blocks_enough, blocks_least, length-stream, length-places, rewrite-places, rewrite_good, contents-rewrite}
+use Rattle.model.proofs.Counts.{ats_cells}
+use Rattle.model.proofs.Demand.{shown_near}
 use Rattle.model.proofs.Full.{whole_cells}
 use Rattle.write_store.specs.Write.{spread, HeldCells}
-use Rattle.write_store.proofs.Fills.{Row, Filled, spread-part}
+use Rattle.write_store.proofs.Fills.{Row, Filled, spread_part}
 
 -- ---- two images with one chain
 
 -- What the blocks show, and what is kept around them, is the whole image.
-filled-one : (g : Geo) (I J L : List ℕ) (cs ds : List Cell) → All (GoodCell (block_size g)) ds → places ds ≡ places cs → Filled g I J cs ds → Filled g I L cs ds
+filled_one : (g : Geo) (I J L : List ℕ) (cs ds : List Cell) → All (GoodCell (block_size g)) ds → places ds ≡ places cs → Filled g I J cs ds → Filled g I L cs ds
     → J ≡ L
 unfolding cell
-filled-one g I J L cs ds good spots p q = ext_get_or 0 J L (p.kept.size ∙ sym q.kept.size) (λ j h.
+filled_one g I J L cs ds good spots p q = ext_get_or 0 J L (p.kept.size ∙ sym q.kept.size) (λ j h.
     let k : B * (j / B) + j % B ≡ j = div-add-mod j B in
     ap (λ (z : ℕ). get_or J z 0) (sym k) ∙ at_block (j / B) (j % B) (mod-lt j (omega (arith, size_large g))) ∙ ap (λ (z : ℕ). get_or L z 0) k)
   where
@@ -41,8 +41,8 @@ filled-one g I J L cs ds good spots p q = ext_get_or 0 J L (p.kept.size ∙ sym 
       where
         go : Dec (0 < count b (places cs)) → get_or J (block_size g * b + i) 0 ≡ get_or L (block_size g * b + i) 0
         go (yes m) =
-            shown-near (λ _. ⊥) (block_size g) L J (cell_pieces ds) (cell_pieces ds) (alike_refl (λ _. ⊥) (block_size g) (cell_pieces ds))
-            (whole_cells (block_size g) (omega (arith, size_large g)) ds good) q.shown p.shown b i (omega (arith, ap (count b) (ats-cells ds ∙ spots))) h (λ z. z)
+            shown_near (λ _. ⊥) (block_size g) L J (cell_pieces ds) (cell_pieces ds) (alike_refl (λ _. ⊥) (block_size g) (cell_pieces ds))
+            (whole_cells (block_size g) (omega (arith, size_large g)) ds good) q.shown p.shown b i (omega (arith, ap (count b) (ats_cells ds ∙ spots))) h (λ z. z)
         go (no m) = p.kept.at b i (omega arith) h ∙ sym (q.kept.at b i (omega arith) h)
 
 -- ---- the bytes behind the buffer
@@ -53,7 +53,7 @@ tail_from z cs q = drop q (contents z cs)
 
 module _ (B z : ℕ) (cs : List Cell) (five : 5 ≤ B) (good : GoodFile B z cs) where
   wide : z ≤ length (stream cs)
-  wide = omega (arith, length-stream B cs good.cells, blocks-enough B five z, ap (λ (x : ℕ). (B - 4) * x) good.long)
+  wide = omega (arith, length-stream B cs good.cells, blocks_enough B five z, ap (λ (x : ℕ). (B - 4) * x) good.long)
 
   length-contents : length (contents z cs) ≡ z
   unfolding contents
@@ -64,8 +64,8 @@ module _ (B z : ℕ) (cs : List Cell) (five : 5 ≤ B) (good : GoodFile B z cs) 
     whole = buf ++ tail_from z cs (c + length buf)
 
     -- With them the buffer ends where the file does.
-    pub tail-end : c + length (buf ++ tail_from z cs (c + length buf)) ≡ z
-    tail-end =
+    pub tail_end : c + length (buf ++ tail_from z cs (c + length buf)) ≡ z
+    tail_end =
         omega (
           arith,
           length-append buf (tail_from z cs (c + length buf)),
@@ -82,7 +82,7 @@ module _ (B z : ℕ) (cs : List Cell) (five : 5 ≤ B) (good : GoodFile B z cs) 
         let few : q ≤ length (take z l) = omega (arith, length-take-le z l wide) in
         let rest : drop q (take z l) ++ drop z l ≡ drop q l
         = sym (drop-append-le q (take z l) (drop z l) few) ∙ ap (drop q) (take-append-drop z l) in
-        ap (λ (x : ℕ). take c l ++ ((buf ++ drop q (take z l)) ++ drop x l)) tail-end
+        ap (λ (x : ℕ). take c l ++ ((buf ++ drop q (take z l)) ++ drop x l)) tail_end
         ∙ ap (λ (x : List ℕ). take c l ++ x) (append_assoc buf (drop q (take z l)) (drop z l))
         ∙ ap (λ (x : List ℕ). take c l ++ (buf ++ x)) rest
 
@@ -91,7 +91,7 @@ module _ (B z : ℕ) (cs : List Cell) (five : 5 ≤ B) (good : GoodFile B z cs) 
     unfolding rewrite overlaid
     tail-chain free =
         let w : ℕ = B - 4 in
-        let m : blocks_for B (c + length whole) ≡ length cs = ap (blocks_for B) tail-end ∙ sym good.long in
+        let m : blocks_for B (c + length whole) ≡ length cs = ap (blocks_for B) tail_end ∙ sym good.long in
         let none : w * (length cs - length cs) ≡ 0 = ap (λ (x : ℕ). w * x) (let e : length cs - length cs ≡ 0 = omega arith in e) ∙ mul-zero w in
         (λ i. chop w (take (m i) (places cs ++ free)) (splice (stream cs ++ zeros (w * (m i - length cs))) c whole))
         ∙ (λ i. chop w (take_at (places cs) free (length cs) (length-places cs) i) (splice (stream cs ++ zeros (none i)) c whole))
@@ -100,23 +100,23 @@ module _ (B z : ℕ) (cs : List Cell) (five : 5 ≤ B) (good : GoodFile B z cs) 
 
     -- Its blocks are at the addresses that they had, and they are a file of the same size.
     whole_room : blocks_for B (c + length (buf ++ tail_from z cs (c + length buf))) - length cs ≤ 0
-    whole_room = omega (arith, ap (blocks_for B) tail-end, good.long)
+    whole_room = omega (arith, ap (blocks_for B) tail_end, good.long)
 
     pub overlaid-places : places (overlaid B c buf cs) ≡ places cs
     overlaid-places =
-        let m : blocks_for B (c + length whole) ≡ length cs = ap (blocks_for B) tail-end ∙ sym good.long in
+        let m : blocks_for B (c + length whole) ≡ length cs = ap (blocks_for B) tail_end ∙ sym good.long in
         ap places (sym (tail-chain [])) ∙ rewrite-places B z c [] whole cs five good (omega arith) whole_room
         ∙ ap (λ (k : ℕ). take k (places cs ++ [])) m ∙ take_at (places cs) [] (length cs) (length-places cs)
 
-    pub overlaid-good : GoodFile B z (overlaid B c buf cs)
-    overlaid-good =
-        subst (λ (x : ℕ). GoodFile B x (overlaid B c buf cs)) tail-end
-        (subst (GoodFile B (c + length whole)) (tail-chain []) (rewrite-good B z c [] whole cs five good (omega arith) whole_room (omega (arith, tail-end, good.limit))))
+    pub overlaid_good : GoodFile B z (overlaid B c buf cs)
+    overlaid_good =
+        subst (λ (x : ℕ). GoodFile B x (overlaid B c buf cs)) tail_end
+        (subst (GoodFile B (c + length whole)) (tail-chain []) (rewrite_good B z c [] whole cs five good (omega arith) whole_room (omega (arith, tail_end, good.limit))))
 
     -- Its bytes are the old ones with the buffer over them.
     pub overlaid-contents : contents z (overlaid B c buf cs) ≡ take c (contents z cs) ++ (buf ++ drop (c + length buf) (contents z cs))
     overlaid-contents =
-        ap (λ (x : ℕ). contents x (overlaid B c buf cs)) (sym tail-end) ∙ ap (contents (c + length whole)) (sym (tail-chain []))
+        ap (λ (x : ℕ). contents x (overlaid B c buf cs)) (sym tail_end) ∙ ap (contents (c + length whole)) (sym (tail-chain []))
         ∙ contents-rewrite B z c [] whole cs five good (omega arith) whole_room
 
 -- ---- the stores
@@ -142,20 +142,20 @@ module _ (g : Geo) (I : List ℕ) (sound : Sound g (length I)) (z : ℕ) (cs : L
   filled vs some k =
       let m : ℕ = blocks_for B (c + length vs) in
       let few : m ≤ length cs
-      = blocks-least B five (c + length vs) (length cs) (omega (arith, good.long, blocks-some B five z))
-      (omega (arith, blocks-enough B five z, ap (λ (x : ℕ). w * x) good.long)) in
-      spread-part g I sound cs row c vs some m few (blocks-enough B five (c + length vs))
+      = blocks_least B five (c + length vs) (length cs) (omega (arith, good.long, blocks-some B five z))
+      (omega (arith, blocks_enough B five z, ap (λ (x : ℕ). w * x) good.long)) in
+      spread_part g I sound cs row c vs some m few (blocks_enough B five (c + length vs))
 
   -- The stores of that write and of the patch leave one image.
   pub tail-spread : spread (block_size g) I (cells_at cs) c (buf ++ tail_from z cs (c + length buf)) (blocks_for (block_size g) (c + length (buf ++ tail_from z cs (c + length buf))))
       ≡ spread (block_size g) I (cells_at cs) c buf (blocks_for (block_size g) (c + length buf))
   tail-spread =
       let vs : List ℕ = buf ++ tail_from z cs (c + length buf) in
-      let e : c + length vs ≡ z = tail-end B z cs five good c buf inside in
+      let e : c + length vs ≡ z = tail_end B z cs five good c buf inside in
       let a = filled vs (omega (arith, length-append buf (tail_from z cs (c + length buf)))) (omega arith) in
       let b = filled buf some_bytes inside in
-      filled-one g I _ _ cs (overlaid B c buf cs) (overlaid-good B z cs five good c buf inside).cells (overlaid-places B z cs five good c buf inside)
-      (subst (Filled g I (spread B I (cells_at cs) c vs (blocks_for B (c + length vs))) cs) (same-chain vs refl) a) b
+      filled_one g I _ _ cs (overlaid B c buf cs) (overlaid_good B z cs five good c buf inside).cells (overlaid-places B z cs five good c buf inside)
+      (subst (Filled g I (spread B I (cells_at cs) c vs (blocks_for B (c + length vs))) cs) (same_chain vs refl) a) b
     where
-      same-chain : (vs : List ℕ) → vs ≡ buf ++ tail_from z cs (c + length buf) → overlaid (block_size g) c vs cs ≡ overlaid (block_size g) c buf cs
-      same-chain vs q = unfold overlaid in ap (λ (x : List ℕ). chop w (places cs) (splice (stream cs) c x)) q ∙ ap (chop w (places cs)) (tail-over B z cs five good c buf inside)
+      same_chain : (vs : List ℕ) → vs ≡ buf ++ tail_from z cs (c + length buf) → overlaid (block_size g) c vs cs ≡ overlaid (block_size g) c buf cs
+      same_chain vs q = unfold overlaid in ap (λ (x : List ℕ). chop w (places cs) (splice (stream cs) c x)) q ∙ ap (chop w (places cs)) (tail-over B z cs five good c buf inside)

@@ -15,7 +15,7 @@ use Rattle.wire.specs.Pick.{pick}
 use Rattle.wire.proofs.Numbers.{length-splice, splice-append}
 use Rattle.wire.proofs.Picks.{either, not_both, pick_true, pick_false}
 use Rattle.text.specs.Text.{is_text}
-use Rattle.text.proofs.Laws.{text-slash, text-none}
+use Rattle.text.proofs.Laws.{text_slash, text_none}
 use Rattle.path.specs.Post.{PathIs, RealIs}
 use Rattle.path.specs.declared.Real.{Real}
 use Rattle.path.specs.declared.Real.TheVariants.{Len, Refused}
@@ -28,10 +28,10 @@ unfolding starts_slash
 starts_none [] e = refl
 starts_none (c ∷ s) e = absurd (omega arith)
 
-pub starts-at : (s : List ℕ) → (length s ≡ 0 → ⊥) → eqb (get_or s 0 0) slash ≡ starts_slash s
+pub starts_at : (s : List ℕ) → (length s ≡ 0 → ⊥) → eqb (get_or s 0 0) slash ≡ starts_slash s
 unfolding starts_slash
-starts-at [] h = absurd (h refl)
-starts-at (c ∷ s) h = refl
+starts_at [] h = absurd (h refl)
+starts_at (c ∷ s) h = refl
 
 ends_at : (s : List ℕ) → (length s ≡ 0 → ⊥) → ends_slash s ≡ eqb (get_or s (length s - 1) 0) slash
 unfolding ends_slash
@@ -53,30 +53,30 @@ abbrev pub joint : List ℕ → List ℕ
 joint cwd = pick (ends_slash cwd) [] (slash ∷ [])
 
 module _ (cwd : List ℕ) where
-  pub joint-none : length cwd ≡ 0 → replicate 1 slash ≡ joint cwd
+  pub joint_none : length cwd ≡ 0 → replicate 1 slash ≡ joint cwd
   unfolding ends_slash
-  joint-none h = sym (pick_false [] (slash ∷ []) (go cwd h))
+  joint_none h = sym (pick_false [] (slash ∷ []) (go cwd h))
     where
       go : (l : List ℕ) → length l ≡ 0 → ends_slash l ≡ false
       go [] e = refl
       go (c ∷ l) e = absurd (omega arith)
 
-  pub joint-slash : (length cwd ≡ 0 → ⊥) → get_or cwd (length cwd - 1) 0 ≡ slash → replicate 0 slash ≡ joint cwd
-  joint-slash h e = sym (pick_true [] (slash ∷ []) (ends_at cwd h ∙ eq-eqb _ _ e))
+  pub joint_slash : (length cwd ≡ 0 → ⊥) → get_or cwd (length cwd - 1) 0 ≡ slash → replicate 0 slash ≡ joint cwd
+  joint_slash h e = sym (pick_true [] (slash ∷ []) (ends_at cwd h ∙ eq-eqb _ _ e))
 
-  pub joint-other : (length cwd ≡ 0 → ⊥) → (get_or cwd (length cwd - 1) 0 ≡ slash → ⊥) → replicate 1 slash ≡ joint cwd
-  joint-other h e = sym (pick_false [] (slash ∷ []) (ends_at cwd h ∙ ne_eqb _ _ e))
+  pub joint_other : (length cwd ≡ 0 → ⊥) → (get_or cwd (length cwd - 1) 0 ≡ slash → ⊥) → replicate 1 slash ≡ joint cwd
+  joint_other h e = sym (pick_false [] (slash ∷ []) (ends_at cwd h ∙ ne_eqb _ _ e))
 
 -- text around a slash, whether the working directory ends in one or not: its bytes and the path's are tested apart
-text-joined : (cwd p : List ℕ) → is_text (cwd ++ (joint cwd ++ p)) ≡ is_text cwd && is_text p
-text-joined cwd p = go (either (ends_slash cwd))
+text_joined : (cwd p : List ℕ) → is_text (cwd ++ (joint cwd ++ p)) ≡ is_text cwd && is_text p
+text_joined cwd p = go (either (ends_slash cwd))
   where
     whole : (a : List ℕ) → cwd ≡ a ++ (slash ∷ []) → is_text (cwd ++ p) ≡ is_text cwd && is_text p
-    whole a e = rw (e, append_assoc, text-slash, text-slash a [], text-none, and-true)
+    whole a e = rw (e, append_assoc, text_slash, text_slash a [], text_none, and-true)
 
     go : (ends_slash cwd ≡ true) ⊎ (ends_slash cwd ≡ false) → is_text (cwd ++ (joint cwd ++ p)) ≡ is_text cwd && is_text p
     go (inl t) = let u = unslashed cwd t in rw (pick_true [] (slash ∷ []) t) (whole u.0 u.1)
-    go (inr f) = rw (pick_false [] (slash ∷ []) f) (text-slash cwd p)
+    go (inr f) = rw (pick_false [] (slash ∷ []) f) (text_slash cwd p)
 
 -- ---- a path that starts with a slash
 
@@ -85,9 +85,9 @@ module _ (cwd p : List ℕ) (h : starts_slash p ≡ true) where
   unfolding real_path
   real_plain = pick_true _ _ h
 
-  bad-plain : bad_path cwd p ≡ (ltb path_limit (length p) || not (is_text p))
+  bad_plain : bad_path cwd p ≡ (ltb path_limit (length p) || not (is_text p))
   unfolding bad_path
-  bad-plain = rw (h, real_plain)
+  bad_plain = rw (h, real_plain)
 
 -- ---- a path that doesn't, with k slashes before it
 
@@ -101,20 +101,20 @@ module _ (cwd p : List ℕ) (k : ℕ) (h : starts_slash p ≡ false) (g : replic
 
   joined_bytes : is_text (real_path cwd p) ≡ is_text cwd && is_text p
   unfolding real_path
-  joined_bytes = ap is_text (pick_false _ _ h) ∙ text-joined cwd p
+  joined_bytes = ap is_text (pick_false _ _ h) ∙ text_joined cwd p
 
-bad-long : (cwd p : List ℕ) → path_limit < length (real_path cwd p) → bad_path cwd p ≡ true
+bad_long : (cwd p : List ℕ) → path_limit < length (real_path cwd p) → bad_path cwd p ≡ true
 unfolding bad_path
-bad-long cwd p h = rw (lt-ltb path_limit (length (real_path cwd p)) h, or-true)
+bad_long cwd p h = rw (lt-ltb path_limit (length (real_path cwd p)) h, or-true)
 
-bad-byte : (cwd p : List ℕ) → is_text (real_path cwd p) ≡ false → bad_path cwd p ≡ true
+bad_byte : (cwd p : List ℕ) → is_text (real_path cwd p) ≡ false → bad_path cwd p ≡ true
 unfolding bad_path
-bad-byte cwd p h = simp (h, or-true)
+bad_byte cwd p h = simp (h, or-true)
 
-good-joined : (cwd p : List ℕ) → starts_slash cwd ≡ true → length (real_path cwd p) ≤ path_limit → is_text (real_path cwd p) ≡ true
+good_joined : (cwd p : List ℕ) → starts_slash cwd ≡ true → length (real_path cwd p) ≤ path_limit → is_text (real_path cwd p) ≡ true
     → bad_path cwd p ≡ false
 unfolding bad_path
-good-joined cwd p h k m = rw (h, le-ltb path_limit (length (real_path cwd p)) k, m) (go (starts_slash p))
+good_joined cwd p h k m = rw (h, le-ltb path_limit (length (real_path cwd p)) k, m) (go (starts_slash p))
   where
     go : (b : Bool) → ((not b && false) || false) ≡ false
     go true = refl
@@ -123,14 +123,14 @@ good-joined cwd p h k m = rw (h, le-ltb path_limit (length (real_path cwd p)) k,
 -- ---- the lengths
 
 module _ (a k b n : ℕ) where
-  pub first-long : n < a → false ≡ leb (a + (k + b)) n
-  first-long h = sym (lt-leb (a + (k + b)) n (omega arith))
+  pub first_long : n < a → false ≡ leb (a + (k + b)) n
+  first_long h = sym (lt-leb (a + (k + b)) n (omega arith))
 
-  pub second-long : n < b → false ≡ leb (a + (k + b)) n
-  second-long h = sym (lt-leb (a + (k + b)) n (omega arith))
+  pub second_long : n < b → false ≡ leb (a + (k + b)) n
+  second_long h = sym (lt-leb (a + (k + b)) n (omega arith))
 
-pub short-enough : (a k b n m : ℕ) (t : Bool) → t ≡ leb (a + (k + b)) n → t ≡ true → m ≡ n → a + (k + b) ≤ m
-short-enough a k b n m t e h x = omega (arith, leb-true (a + (k + b)) n (sym e ∙ h))
+pub short_enough : (a k b n m : ℕ) (t : Bool) → t ≡ leb (a + (k + b)) n → t ≡ true → m ≡ n → a + (k + b) ≤ m
+short_enough a k b n m t e h x = omega (arith, leb-true (a + (k + b)) n (sym e ∙ h))
 
 -- ---- what is stored
 
@@ -159,16 +159,16 @@ join_is l cwd p a b c k h ea eb ec =
 -- ---- what each return gives: t is what a test answered
 
 module _ (l p : List ℕ) where
-  pub plain-long : path_limit < length p → PathIs (ltb path_limit (length p) || not (is_text p)) p l l Refused
-  plain-long h = record { refused = rw (lt-ltb path_limit (length p) h); kept = refl }
+  pub plain_long : path_limit < length p → PathIs (ltb path_limit (length p) || not (is_text p)) p l l Refused
+  plain_long h = record { refused = rw (lt-ltb path_limit (length p) h); kept = refl }
 
   pub plain_byte : (t : Bool) → t ≡ is_text p → t ≡ false → PathIs (ltb path_limit (length p) || not (is_text p)) p l l Refused
   plain_byte t e h = record { refused = rw (← e, h) (or-true (ltb path_limit (length p))); kept = refl }
 
-  pub plain-good : (m : List ℕ) (t : Bool) → t ≡ is_text p → t ≡ true → length p ≤ path_limit
+  pub plain_good : (m : List ℕ) (t : Bool) → t ≡ is_text p → t ≡ true → length p ≤ path_limit
       → m ≡ splice l 0 (take (length p) (drop 0 p))
       → PathIs (ltb path_limit (length p) || not (is_text p)) p l m (Len (length p))
-  plain-good m t e h k x =
+  plain_good m t e h k x =
       record { good = rw (← e, h, le-ltb path_limit (length p) k); long = refl; fits = k; stored = copied l p m 0 x }
 
 module _ (cwd p l : List ℕ) (h : starts_slash p ≡ false) where
@@ -177,28 +177,28 @@ module _ (cwd p l : List ℕ) (h : starts_slash p ≡ false) where
   joined_cwd t e k = record { refused = rw (h, ← e, k); kept = refl }
 
   module _ (k : ℕ) (g : replicate k slash ≡ joint cwd) (t : Bool) where
-    pub joined-long : t ≡ leb (length cwd + (k + length p)) path_limit → t ≡ false → RealIs cwd p l l Refused
-    joined-long e f =
+    pub joined_long : t ≡ leb (length cwd + (k + length p)) path_limit → t ≡ false → RealIs cwd p l l Refused
+    joined_long e f =
         let q = leb-false (length cwd + (k + length p)) path_limit (sym e ∙ f) in
-        record { refused = bad-long cwd p (rw (joined_length cwd p k h g) q); kept = refl }
+        record { refused = bad_long cwd p (rw (joined_length cwd p k h g) q); kept = refl }
 
-    pub joined-first : t ≡ is_text cwd → t ≡ false → RealIs cwd p l l Refused
-    joined-first e f = record { refused = bad-byte cwd p (rw (joined_bytes cwd p k h g, ← e, f)); kept = refl }
+    pub joined_first : t ≡ is_text cwd → t ≡ false → RealIs cwd p l l Refused
+    joined_first e f = record { refused = bad_byte cwd p (rw (joined_bytes cwd p k h g, ← e, f)); kept = refl }
 
-    pub joined-second : t ≡ is_text p → t ≡ false → RealIs cwd p l l Refused
-    joined-second e f = record {
-      refused = bad-byte cwd p
+    pub joined_second : t ≡ is_text p → t ≡ false → RealIs cwd p l l Refused
+    joined_second e f = record {
+      refused = bad_byte cwd p
           (rw (joined_bytes cwd p k h g, ← e, f) (and-false (is_text cwd)));
       kept = refl;
     }
 
-  pub joined-good : (k : ℕ) → replicate k slash ≡ joint cwd → (m : List ℕ) (s t u v : Bool) → s ≡ starts_slash cwd → s ≡ true
+  pub joined_good : (k : ℕ) → replicate k slash ≡ joint cwd → (m : List ℕ) (s t u v : Bool) → s ≡ starts_slash cwd → s ≡ true
       → t ≡ leb (length cwd + (k + length p)) path_limit → t ≡ true → u ≡ is_text cwd → u ≡ true → v ≡ is_text p → v ≡ true
       → m ≡ splice l 0 (cwd ++ (replicate k slash ++ p)) → RealIs cwd p l m (Len (length cwd + (k + length p)))
-  joined-good k g m s t u v es fs et ft eu fu ev fv x =
+  joined_good k g m s t u v es fs et ft eu fu ev fv x =
       let q : length cwd + (k + length p) ≤ path_limit = leb-true (length cwd + (k + length p)) path_limit (sym et ∙ ft) in
       record {
-        good = good-joined cwd p (sym es ∙ fs) (rw (joined_length cwd p k h g) q)
+        good = good_joined cwd p (sym es ∙ fs) (rw (joined_length cwd p k h g) q)
             (rw (joined_bytes cwd p k h g, ← eu, ← ev, fu, fv));
         long = sym (joined_length cwd p k h g);
         fits = q;
@@ -210,4 +210,4 @@ pub plain_real : (cwd p l m : List ℕ) (r : Real) (t : Bool) → t ≡ starts_s
     → PathIs (ltb path_limit (length p) || not (is_text p)) p l m r → RealIs cwd p l m r
 plain_real cwd p l m r t e h x =
     let s : starts_slash p ≡ true = sym e ∙ h in
-    rw (real_plain cwd p s, bad-plain cwd p s) x
+    rw (real_plain cwd p s, bad_plain cwd p s) x

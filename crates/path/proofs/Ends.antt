@@ -19,20 +19,20 @@ unfolding untrailed
 untrailed-slash [] = refl
 untrailed-slash (c ∷ l) = rw (untrailed-slash l)
 
-untrailed-other : (l : List ℕ) (d : ℕ) → (d ≡ slash → ⊥) → untrailed (l ++ d ∷ []) ≡ suc (length l)
+untrailed_other : (l : List ℕ) (d : ℕ) → (d ≡ slash → ⊥) → untrailed (l ++ d ∷ []) ≡ suc (length l)
 unfolding untrailed
-untrailed-other [] d h = rw (ne_eqb d slash h)
-untrailed-other (c ∷ l) d h = rw (untrailed-other l d h)
+untrailed_other [] d h = rw (ne_eqb d slash h)
+untrailed_other (c ∷ l) d h = rw (untrailed_other l d h)
 
-before-slash : (l : List ℕ) → before_name (l ++ slash ∷ []) ≡ suc (length l)
+before_slash : (l : List ℕ) → before_name (l ++ slash ∷ []) ≡ suc (length l)
 unfolding before_name
-before-slash [] = refl
-before-slash (c ∷ l) = rw (before-slash l)
+before_slash [] = refl
+before_slash (c ∷ l) = rw (before_slash l)
 
-before-other : (l : List ℕ) (d : ℕ) → (d ≡ slash → ⊥) → before_name (l ++ d ∷ []) ≡ before_name l
+before_other : (l : List ℕ) (d : ℕ) → (d ≡ slash → ⊥) → before_name (l ++ d ∷ []) ≡ before_name l
 unfolding before_name
-before-other [] d h = rw (ne_eqb d slash h)
-before-other (c ∷ l) d h = rw (before-other l d h)
+before_other [] d h = rw (ne_eqb d slash h)
+before_other (c ∷ l) d h = rw (before_other l d h)
 
 -- ---- the first n bytes, from the last of them down
 
@@ -42,30 +42,30 @@ module _ (full : List ℕ) (n : ℕ) (some : 0 < n) (inside : n ≤ length full)
       let e : suc (n - 1) ≡ n = omega arith in
       subst (λ (m : ℕ). take m full ≡ take (n - 1) full ++ (get_or full (n - 1) 0 ∷ [])) e (take-suc full (n - 1) 0 (omega arith))
 
-  last-long : suc (length (take (n - 1) full)) ≡ n
-  last-long = let e = length-take-le (n - 1) full (omega arith) in omega arith
+  last_long : suc (length (take (n - 1) full)) ≡ n
+  last_long = let e = length-take-le (n - 1) full (omega arith) in omega arith
 
-  untrailed-on : get_or full (n - 1) 0 ≡ slash → untrailed (take n full) ≡ untrailed (take (n - 1) full)
-  untrailed-on e = ap untrailed last_byte ∙ rw e (untrailed-slash (take (n - 1) full))
+  untrailed_on : get_or full (n - 1) 0 ≡ slash → untrailed (take n full) ≡ untrailed (take (n - 1) full)
+  untrailed_on e = ap untrailed last_byte ∙ rw e (untrailed-slash (take (n - 1) full))
 
   untrailed_stop : (get_or full (n - 1) 0 ≡ slash → ⊥) → untrailed (take n full) ≡ n
-  untrailed_stop h = ap untrailed last_byte ∙ untrailed-other (take (n - 1) full) (get_or full (n - 1) 0) h ∙ last-long
+  untrailed_stop h = ap untrailed last_byte ∙ untrailed_other (take (n - 1) full) (get_or full (n - 1) 0) h ∙ last_long
 
   before_on : (get_or full (n - 1) 0 ≡ slash → ⊥) → before_name (take n full) ≡ before_name (take (n - 1) full)
-  before_on h = ap before_name last_byte ∙ before-other (take (n - 1) full) (get_or full (n - 1) 0) h
+  before_on h = ap before_name last_byte ∙ before_other (take (n - 1) full) (get_or full (n - 1) 0) h
 
   before_stop : get_or full (n - 1) 0 ≡ slash → before_name (take n full) ≡ n
-  before_stop e = ap before_name last_byte ∙ rw e (before-slash (take (n - 1) full)) ∙ last-long
+  before_stop e = ap before_name last_byte ∙ rw e (before_slash (take (n - 1) full)) ∙ last_long
 
 untrailed-none : (full : List ℕ) (n : ℕ) → n ≤ 0 → untrailed (take n full) ≡ n
 unfolding untrailed
 untrailed-none full zero h = refl
 untrailed-none full (suc n) h = absurd (omega arith)
 
-before-none : (full : List ℕ) (n : ℕ) → n ≤ 0 → before_name (take n full) ≡ n
+before_none : (full : List ℕ) (n : ℕ) → n ≤ 0 → before_name (take n full) ≡ n
 unfolding before_name
-before-none full zero h = refl
-before-none full (suc n) h = absurd (omega arith)
+before_none full zero h = refl
+before_none full (suc n) h = absurd (omega arith)
 
 -- ---- where the trailing slashes begin, with those after n known
 
@@ -88,7 +88,7 @@ module _ (full : List ℕ) (len : ℕ) (inside : len ≤ length full) where
     trim_done h p = trim_at h (untrailed-none full n p)
 
     pub trim_on : 0 < n → get_or full (n - 1) 0 ≡ slash → untrailed (take (n - 1) full) ≡ untrailed (take len full)
-    trim_on p e = sym (untrailed-on full n p (omega arith) e) ∙ i
+    trim_on p e = sym (untrailed_on full n p (omega arith) e) ∙ i
 
 -- ---- where the last name begins, with the bytes after n known
 
@@ -97,10 +97,10 @@ module _ (full : List ℕ) (end n : ℕ) (inside : end ≤ length full) (below :
   name_stop p e = sym (before_stop full n p (omega arith) e) ∙ i
 
   pub name_done : n ≤ 0 → n ≡ before_name (take end full)
-  name_done p = sym (before-none full n p) ∙ i
+  name_done p = sym (before_none full n p) ∙ i
 
-  pub name-on : 0 < n → (get_or full (n - 1) 0 ≡ slash → ⊥) → before_name (take (n - 1) full) ≡ before_name (take end full)
-  name-on p d = sym (before_on full n p (omega arith) d) ∙ i
+  pub name_on : 0 < n → (get_or full (n - 1) 0 ≡ slash → ⊥) → before_name (take (n - 1) full) ≡ before_name (take end full)
+  name_on p d = sym (before_on full n p (omega arith) d) ∙ i
 
 -- ---- the parts
 
@@ -113,22 +113,22 @@ drop-take (suc a) (suc e) (x ∷ l) = rw suc-sub-suc (drop-take a e l)
 
 module _ (full : List ℕ) (len to from : ℕ) (inside : len ≤ length full) (to_in : to ≤ len) (below : from ≤ to)
     (t : take to full ≡ trimmed (take len full)) (f : from ≡ before_name (take to full)) where
-  name-is : between full from to ≡ last_name (take len full)
+  name_is : between full from to ≡ last_name (take len full)
   unfolding last_name
-  name-is = rw (← t, ← f) (sym (drop-take from to full))
+  name_is = rw (← t, ← f) (sym (drop-take from to full))
 
-  dir-short : from ≤ 1 → take from full ≡ dir_part (take len full)
+  dir_short : from ≤ 1 → take from full ≡ dir_part (take len full)
   unfolding dir_part
-  dir-short h = go from refl
+  dir_short h = go from refl
     where
       go : (m : ℕ) → from ≡ m → take from full ≡ dir_part (take len full)
       go zero e = rw (← t, ← f, e)
       go (suc zero) e = rw (← t, ← f, e) (sym (take-take 1 to full (omega arith)))
       go (suc (suc m)) e = absurd (omega arith)
 
-  dir-long : 1 < from → take (from - 1) full ≡ dir_part (take len full)
+  dir_long : 1 < from → take (from - 1) full ≡ dir_part (take len full)
   unfolding dir_part
-  dir-long h = go from refl
+  dir_long h = go from refl
     where
       go : (m : ℕ) → from ≡ m → take (from - 1) full ≡ dir_part (take len full)
       go zero e = absurd (omega arith)
@@ -146,16 +146,16 @@ module _ (full : List ℕ) (len to from : ℕ) (inside : len ≤ length full) (t
         from_is = f ∙ ap before_name t;
         to_is = sym (length-take-le to full (omega arith)) ∙ ap length t;
         dir = e;
-        name = name-is;
+        name = name_is;
       }
 
-  pub parts-short : from ≤ 1 → PartsIs full len (record { dir = from; from = from; to = to })
-  parts-short h = parts_at from (omega arith) (dir-short h)
+  pub parts_short : from ≤ 1 → PartsIs full len (record { dir = from; from = from; to = to })
+  parts_short h = parts_at from (omega arith) (dir_short h)
 
-  pub parts-long : 1 < from → PartsIs full len (record { dir = from - 1; from = from; to = to })
-  parts-long h = parts_at (from - 1) (omega arith) (dir-long h)
+  pub parts_long : 1 < from → PartsIs full len (record { dir = from - 1; from = from; to = to })
+  parts_long h = parts_at (from - 1) (omega arith) (dir_long h)
 
 -- The last name's length, by its places.
-pub name-long : (full : List ℕ) (len : ℕ) (p : Parts) → len ≤ length full → PartsIs full len p → length (last_name (take len full)) ≡ p.to - p.from
-name-long full len p h i =
+pub name_long : (full : List ℕ) (len : ℕ) (p : Parts) → len ≤ length full → PartsIs full len p → length (last_name (take len full)) ≡ p.to - p.from
+name_long full len p h i =
     ap length (sym i.name) ∙ length-take-le (p.to - p.from) (drop p.from full) (rw length-drop (omega (arith, i.from_in, i.to_in)))

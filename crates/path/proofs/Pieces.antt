@@ -22,24 +22,24 @@ unled-slash : (c : ℕ) (l : List ℕ) → c ≡ slash → unled (c ∷ l) ≡ u
 unfolding unled
 unled-slash c l e = pick_true _ _ (eq-eqb c slash e)
 
-unled-other : (c : ℕ) (l : List ℕ) → (c ≡ slash → ⊥) → unled (c ∷ l) ≡ c ∷ l
+unled_other : (c : ℕ) (l : List ℕ) → (c ≡ slash → ⊥) → unled (c ∷ l) ≡ c ∷ l
 unfolding unled
-unled-other c l h = pick_false _ _ (ne_eqb c slash h)
+unled_other c l h = pick_false _ _ (ne_eqb c slash h)
 
 module _ (full : List ℕ) (end i : ℕ) (inside : end ≤ length full) (e : unled (drop i (take end full)) ≡ unled (take end full)) where
-  pub unled-on : i < end → get_or full i 0 ≡ slash → unled (drop (i + 1) (take end full)) ≡ unled (take end full)
-  unled-on h k = rw add-one (sym (ap unled (slice-cons i end full 0 h inside) ∙ unled-slash _ _ k) ∙ e)
+  pub unled_on : i < end → get_or full i 0 ≡ slash → unled (drop (i + 1) (take end full)) ≡ unled (take end full)
+  unled_on h k = rw add-one (sym (ap unled (slice-cons i end full 0 h inside) ∙ unled-slash _ _ k) ∙ e)
 
   pub unled_stop : i < end → (get_or full i 0 ≡ slash → ⊥) → FirstIs full end i
   unled_stop h k =
       record {
         high = omega arith;
-        rest = slice-cons i end full 0 h inside ∙ sym (ap unled (slice-cons i end full 0 h inside) ∙ unled-other _ _ k) ∙ e;
+        rest = slice-cons i end full 0 h inside ∙ sym (ap unled (slice-cons i end full 0 h inside) ∙ unled_other _ _ k) ∙ e;
       }
 
-  pub unled-done : i ≤ end → end ≤ i → FirstIs full end i
+  pub unled_done : i ≤ end → end ≤ i → FirstIs full end i
   unfolding unled
-  unled-done h k =
+  unled_done h k =
       let x : i ≡ end = omega arith in
       let q : drop i (take end full) ≡ [] = rw x (slice_empty end full) in
       record { high = h; rest = q ∙ sym (ap unled q) ∙ e }
@@ -59,22 +59,22 @@ pub split-slash : (c : ℕ) (l : List ℕ) → c ≡ slash → split (c ∷ l) �
 unfolding split
 split-slash c l e = pick_true _ _ (eq-eqb c slash e)
 
-pub split-other : (c : ℕ) (l : List ℕ) → (c ≡ slash → ⊥) → split (c ∷ l) ≡ front (c ∷ []) (split l)
+pub split_other : (c : ℕ) (l : List ℕ) → (c ≡ slash → ⊥) → split (c ∷ l) ≡ front (c ∷ []) (split l)
 unfolding split front
-split-other c l h = go (split l) refl
+split_other c l h = go (split l) refl
   where
     go : (ss : List (List ℕ)) → split l ≡ ss → split (c ∷ l) ≡ front (c ∷ []) (split l)
     go [] e = pick_false _ _ (ne_eqb c slash h) ∙ rw e
     go (s ∷ ss) e = pick_false _ _ (ne_eqb c slash h) ∙ rw e
 
-front-empty : (xs : List ℕ) (ss : List (List ℕ)) → front xs ([] ∷ ss) ≡ xs ∷ ss
+front_empty : (xs : List ℕ) (ss : List (List ℕ)) → front xs ([] ∷ ss) ≡ xs ∷ ss
 unfolding front
-front-empty xs ss = rw append-nil
+front_empty xs ss = rw append-nil
 
-front-front : (xs ys : List ℕ) (ss : List (List ℕ)) → front xs (front ys ss) ≡ front (xs ++ ys) ss
+front_front : (xs ys : List ℕ) (ss : List (List ℕ)) → front xs (front ys ss) ≡ front (xs ++ ys) ss
 unfolding front
-front-front xs ys [] = refl
-front-front xs ys (s ∷ ss) = rw append_assoc
+front_front xs ys [] = refl
+front_front xs ys (s ∷ ss) = rw append_assoc
 
 -- there is a first piece
 split-some : (l : List ℕ) → front [] (split l) ≡ split l
@@ -98,12 +98,12 @@ module _ (full : List ℕ) (at end e : ℕ) (low : at ≤ e) (inside : end ≤ l
       let k : e - at < length (drop at full) = rw length-drop (omega arith) in
       rw (p, ← r) (sym (take-suc (drop at full) (e - at) 0 k))
 
-  pub piece-on : e < end → (get_or full e 0 ≡ slash → ⊥) → split (drop at (take end full)) ≡ front (between full at (e + 1)) (split (drop (e + 1) (take end full)))
-  piece-on h k =
+  pub piece_on : e < end → (get_or full e 0 ≡ slash → ⊥) → split (drop at (take end full)) ≡ front (between full at (e + 1)) (split (drop (e + 1) (take end full)))
+  piece_on h k =
       i
       ∙ ap (λ (l : List ℕ). front (between full at e) (split l)) (slice-cons e end full 0 h inside)
-      ∙ ap (front (between full at e)) (split-other (get_or full e 0) (drop (suc e) (take end full)) k)
-      ∙ front-front (between full at e) (get_or full e 0 ∷ []) (split (drop (suc e) (take end full)))
+      ∙ ap (front (between full at e)) (split_other (get_or full e 0) (drop (suc e) (take end full)) k)
+      ∙ front_front (between full at e) (get_or full e 0 ∷ []) (split (drop (suc e) (take end full)))
       ∙ rw (between_more h, add-one)
 
   pub piece_stop : e < end → get_or full e 0 ≡ slash → PieceIs full at end e
@@ -116,43 +116,43 @@ module _ (full : List ℕ) (at end e : ℕ) (low : at ≤ e) (inside : end ≤ l
             i
             ∙ ap (λ (l : List ℕ). front (between full at e) (split l)) (slice-cons e end full 0 h inside)
             ∙ ap (front (between full at e)) (split-slash (get_or full e 0) (drop (suc e) (take end full)) k)
-            ∙ front-empty (between full at e) (split (drop (suc e) (take end full)))
+            ∙ front_empty (between full at e) (split (drop (suc e) (take end full)))
             ∙ rw add-one;
       }
 
-  pub piece-done : e ≤ end → end ≤ e → PieceIs full at end e
-  piece-done h k =
+  pub piece_done : e ≤ end → end ≤ e → PieceIs full at end e
+  piece_done h k =
       let x : e ≡ end = omega arith in
       let q : drop e (take end full) ≡ [] = rw x (slice_empty end full) in
       record {
         low = low;
         high = h;
         last = λ q'.
-            i ∙ ap (λ (l : List ℕ). front (between full at e) (split l)) q ∙ ap (front (between full at e)) split-none ∙ front-empty (between full at e) [];
+            i ∙ ap (λ (l : List ℕ). front (between full at e) (split l)) q ∙ ap (front (between full at e)) split-none ∙ front_empty (between full at e) [];
         more = λ q'. absurd (omega arith);
       }
 
-pub piece-begins : (full : List ℕ) (at end : ℕ) → split (drop at (take end full)) ≡ front (between full at at) (split (drop at (take end full)))
-piece-begins full at end = rw sub_self (sym (split-some (drop at (take end full))))
+pub piece_begins : (full : List ℕ) (at end : ℕ) → split (drop at (take end full)) ≡ front (between full at at) (split (drop at (take end full)))
+piece_begins full at end = rw sub_self (sym (split-some (drop at (take end full))))
 
 -- ---- the root
 
-pub root-other : (l : List ℕ) (end : ℕ) → end ≤ length l → (end ≡ 1 → ⊥) → false ≡ same (take end l) (slash ∷ [])
+pub root_other : (l : List ℕ) (end : ℕ) → end ≤ length l → (end ≡ 1 → ⊥) → false ≡ same (take end l) (slash ∷ [])
 unfolding same pick
-root-other l zero h k = refl
-root-other [] (suc end) h k = absurd (omega arith)
-root-other (c ∷ l) (suc zero) h k = absurd (k refl)
-root-other (c ∷ []) (suc (suc end)) h k = absurd (omega arith)
-root-other (c ∷ d ∷ l) (suc (suc end)) h k = go (eqb c slash)
+root_other l zero h k = refl
+root_other [] (suc end) h k = absurd (omega arith)
+root_other (c ∷ l) (suc zero) h k = absurd (k refl)
+root_other (c ∷ []) (suc (suc end)) h k = absurd (omega arith)
+root_other (c ∷ d ∷ l) (suc (suc end)) h k = go (eqb c slash)
   where
     go : (b : Bool) → false ≡ pick b false false
     go true = refl
     go false = refl
 
-pub root-at : (l : List ℕ) (end : ℕ) → end ≤ length l → end ≡ 1 → eqb (get_or l 0 0) slash ≡ same (take end l) (slash ∷ [])
+pub root_at : (l : List ℕ) (end : ℕ) → end ≤ length l → end ≡ 1 → eqb (get_or l 0 0) slash ≡ same (take end l) (slash ∷ [])
 unfolding same pick
-root-at [] end h k = absurd (omega arith)
-root-at (c ∷ l) end h k = rw k (go (eqb c slash))
+root_at [] end h k = absurd (omega arith)
+root_at (c ∷ l) end h k = rw k (go (eqb c slash))
   where
     go : (b : Bool) → b ≡ pick b true false
     go true = refl

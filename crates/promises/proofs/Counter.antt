@@ -14,8 +14,8 @@ use Rattle.model.specs.Tree.{Name, find}
 use Rattle.model.specs.Geometry.{Mount, geo_at}
 use Rattle.model.specs.Volume.{WellFormed, max_depth}
 use Rattle.model.specs.Steps.{Bytes}
-use Rattle.model.proofs.Paths.{laid-path}
-use Rattle.model.proofs.Reached.{path-none}
+use Rattle.model.proofs.Paths.{laid_path}
+use Rattle.model.proofs.Reached.{path_none}
 use Rattle.check_bitmap.specs.Tally.{mark_long}
 use Rattle.handle.specs.declared.Handle.{Handle}
 use Rattle.handle.specs.declared.CountedOut.{CountedOut}
@@ -24,14 +24,14 @@ use Rattle.handle.specs.Handles.{stale_fields}
 use Rattle.handle.specs.OnTree.{FileIn, OnFile, Stale}
 use Rattle.write.specs.Writing.{target_of, count_of}
 use Rattle.write.specs.Written.{counted_says}
-use Rattle.write.proofs.Targets.{accepted-is, stale_is}
+use Rattle.write.proofs.Targets.{accepted_is, stale_is}
 use Rattle.call_volume.specs.Checking.{check_refusal}
 use Rattle.call_change.specs.Changing.{Writes, write_reply}
-use Rattle.call_read.proofs.Paths.{given-none}
-use Rattle.thm_calls.proofs.Changing.{volume-at, write-passed, write-before, write_kept}
+use Rattle.call_read.proofs.Paths.{given_none}
+use Rattle.thm_calls.proofs.Changing.{volume_at, write_passed, write_before, write_kept}
 use Rattle.promises.specs.Counter.{StaleAtEntry}
 use Rattle.promises.proofs.Answered.{counted_is}
-use Rattle.promises.proofs.Checks.{long-passes}
+use Rattle.promises.proofs.Checks.{long_passes}
 
 module _ (M : Mount) (I W : List ℕ) (h : Handle) (buf : List ℕ) (now : ℕ) (o : CountedOut) (J Z : List ℕ)
     (c : Writes M I W h buf now o J Z) where
@@ -42,11 +42,11 @@ module _ (M : Mount) (I W : List ℕ) (h : Handle) (buf : List ℕ) (now : ℕ) 
       go : ((k : ℕ) × (o.answer ≡ counted.Bytes k)) ⊎ ((x : Refusal) × (o.answer ≡ counted.Refused x))
           → (J ≡ I) × (o.handle ≡ h)
       go (inl e) =
-          let w = write-before M I W h buf now o J Z c e.0 b e.1 in
-          let a = write-passed M I W h buf now o J Z c e.0 e.1 in
-          let t = (accepted-is (geo_at M I) I w.tree (volume-at M I w) h (length buf)).0 a.1 a.2 in
+          let w = write_before M I W h buf now o J Z c e.0 b e.1 in
+          let a = write_passed M I W h buf now o J Z c e.0 e.1 in
+          let t = (accepted_is (geo_at M I) I w.tree (volume_at M I w) h (length buf)).0 a.1 a.2 in
           let r : refused 11 ≡ accepted a.1
-          = sym ((stale_is (geo_at M I) I w.tree (volume-at M I w) h (length buf) t.some_bytes).1 (s w)) ∙ a.2 in
+          = sym ((stale_is (geo_at M I) I w.tree (volume_at M I w) h (length buf) t.some_bytes).1 (s w)) ∙ a.2 in
           let z : ◌≡◌ {A = ℕ} 0 1 = cc in
           absurd (omega arith)
       go (inr e) = write_kept M I W h buf now o J Z c e.0 e.1
@@ -57,11 +57,11 @@ module _ (M : Mount) (I W : List ℕ) (h : Handle) (buf : List ℕ) (now : ℕ) 
       → counted_says o.answer ≡ refused 11
   unfolding write_reply count_of and_then
   stale_answer all long b w s =
-      let z : check_refusal M I (length W) ≡ 0 = long-passes M I W w long all in
+      let z : check_refusal M I (length W) ≡ 0 = long_passes M I W w long all in
       let t : target_of (geo_at M I) I h (length buf) ≡ refused 11
-      = (stale_is (geo_at M I) I w.tree (volume-at M I w) h (length buf) b).1 s in
+      = (stale_is (geo_at M I) I w.tree (volume_at M I w) h (length buf) b).1 s in
       let r : given (check_refusal M I (length W)) (target_of (geo_at M I) I h (length buf)) ≡ refused 11
-      = sym (given-none _ _ z) ∙ t in
+      = sym (given_none _ _ z) ∙ t in
       c.answer ∙ ap (count_of (length buf)) r
 
 -- A handle that is whole by its own fields, and whose directory has now a file entry with its name, address and size, is not
@@ -69,10 +69,10 @@ module _ (M : Mount) (I W : List ℕ) (h : Handle) (buf : List ℕ) (now : ℕ) 
 pub current_again : (M : Mount) (I : List ℕ) (w : WellFormed M I) (h : Handle) → stale_fields h ≡ false → OnFile max_depth w.tree h
     → Stale max_depth w.tree h → ⊥
 current_again M I w h f q (inl s) = not_both s f
-current_again M I w h f q (inr (inl n)) = path-none max_depth h.dir.0 w.tree n q.path q.there
+current_again M I w h f q (inr (inl n)) = path_none max_depth h.dir.0 w.tree n q.path q.there
 current_again M I w h f q (inr (inr n)) =
     let e : n.0 ≡ q.path
-    = laid-path (geo_at M I) I max_depth w.tree _ n.0 q.path n.1.dir q.there.dir (volume-at M I w).laid
+    = laid_path (geo_at M I) I max_depth w.tree _ n.0 q.path n.1.dir q.there.dir (volume_at M I w).laid
     n.1.there q.there.there (n.1.starts ∙ sym q.there.starts) in
     let a : some q.there.dir ≡ some n.1.dir
     = sym q.there.there ∙ ap (λ (p : List Name). find max_depth p w.tree) (sym e) ∙ n.1.there in

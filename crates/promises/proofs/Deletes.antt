@@ -18,7 +18,7 @@ use Rattle.model.specs.Volume.{WellFormed, max_depth}
 use Rattle.model.specs.Calls.{Vacant, Occupied}
 use Rattle.model.specs.Steps.{Bytes}
 use Rattle.model.proofs.Opens.{when_true, when_false, first_of_one, first_of_tail}
-use Rattle.model.proofs.Replies.{and_then_ok, and_then-no, reply-none, reply_suc}
+use Rattle.model.proofs.Replies.{and_then_ok, and_then_no, reply-none, reply_suc}
 use Rattle.check_bitmap.specs.Tally.{mark_long}
 use Rattle.read_dir.specs.declared.Found.{Found}
 use Rattle.read_dir.specs.declared.Found.TheVariants as found
@@ -30,24 +30,24 @@ use Rattle.dir.specs.Hold.{Hold}
 use Rattle.thm_path.specs.Held.{HeldAt}
 use Rattle.thm_path.specs.Shown.{way_to}
 use Rattle.thm_path.proofs.Finds.{lookup_or, find-missing}
-use Rattle.thm_path.proofs.Holding.{hold-is, hold-some}
+use Rattle.thm_path.proofs.Holding.{hold_is, hold_some}
 use Rattle.delete.specs.Deleting.{Doomed, doomed_in, doomed_of, deleted_on}
-use Rattle.delete.proofs.OnVolume.{bare-accepted, full-refused}
+use Rattle.delete.proofs.OnVolume.{bare_accepted, full_refused}
 use Rattle.limits.specs.declared.Answer.{Answer}
 use Rattle.call_volume.specs.Says.{says}
 use Rattle.call_change.specs.Changing.{change_call, Deletes}
 use Rattle.thm_calls.specs.Named.{way_of, last_of}
-use Rattle.thm_calls.proofs.Changing.{volume-at}
+use Rattle.thm_calls.proofs.Changing.{volume_at}
 use Rattle.promises.specs.Refusals.{Spot, entry_at, has_entry, delete_answer}
-use Rattle.promises.proofs.Checks.{long-passes}
-use Rattle.promises.proofs.Spots.{way-found, hold-stops, name-five, at_stops, at-missing, at_entry}
+use Rattle.promises.proofs.Checks.{long_passes}
+use Rattle.promises.proofs.Spots.{way_found, hold_stops, name_five, at_stops, at_missing, at_entry}
 
 -- ---- a directory that has an entry
 
-none-entries : {X : Type 0} (bs : List (Block X)) → NoEntries bs → length (entries_of bs) ≡ 0
+none_entries : {X : Type 0} (bs : List (Block X)) → NoEntries bs → length (entries_of bs) ≡ 0
 unfolding entries_of
-none-entries [] h = refl
-none-entries {X} (b ∷ bs) h = ap (λ (l : List (Entry X)). length (l ++ entries_of bs)) h.0 ∙ none-entries bs h.1
+none_entries [] h = refl
+none_entries {X} (b ∷ bs) h = ap (λ (l : List (Entry X)). length (l ++ entries_of bs)) h.0 ∙ none_entries bs h.1
 
 entries_none : {X : Type 0} (bs : List (Block X)) → length (entries_of bs) ≡ 0 → NoEntries bs
 unfolding entries_of
@@ -60,27 +60,27 @@ entries_none {X} (b ∷ bs) h = go b.entries refl (entries_none bs)
         let z : suc (length (l ++ entries_of bs)) ≡ 0 = ap (λ (m : List (Entry X)). length (m ++ entries_of bs)) (sym e)
         ∙ h in absurd (omega arith)
 
-bare-none : (d : ℕ) (x : Node (Below d)) → has_entry d x ≡ false → Bare d x
+bare_none : (d : ℕ) (x : Node (Below d)) → has_entry d x ≡ false → Bare d x
 unfolding has_entry
-bare-none d (file z cs) h = tt
-bare-none d (device z cs) h = tt
-bare-none zero (sub x) h = absurd x
-bare-none (suc d) (sub x) h = entries_none x (omega (arith, ltb-false 0 (length (entries_of x)) h))
+bare_none d (file z cs) h = tt
+bare_none d (device z cs) h = tt
+bare_none zero (sub x) h = absurd x
+bare_none (suc d) (sub x) h = entries_none x (omega (arith, ltb-false 0 (length (entries_of x)) h))
 
 none_bare : (d : ℕ) (x : Node (Below d)) → has_entry d x ≡ true → Bare d x → ⊥
 unfolding has_entry
 none_bare d (file z cs) h b = not_both h refl
 none_bare d (device z cs) h b = not_both h refl
 none_bare zero (sub x) h b = absurd x
-none_bare (suc d) (sub x) h b = not_both h (ap (λ (k : ℕ). ltb 0 k) (none-entries x b))
+none_bare (suc d) (sub x) h b = not_both h (ap (λ (k : ℕ). ltb 0 k) (none_entries x b))
 
 -- ---- the call
 
 module _ (M : Mount) (I W : List ℕ) (b : Bytes I) (w : WellFormed M I) (long : mark_long (geo_at M I) ≤ length W) (cwd p : List ℕ) where
   -- the check passes, and 4 alone is given before the way
-  pub change-is : change_call M I (length W) cwd p ≡ path_refusal cwd p
+  pub change_is : change_call M I (length W) cwd p ≡ path_refusal cwd p
   unfolding change_call
-  change-is = first_of_tail _ _ (long-passes M I W w long b) ∙ first_of_one _
+  change_is = first_of_tail _ _ (long_passes M I W w long b) ∙ first_of_one _
 
   abbrev doomed : Reply Doomed
   doomed = doomed_of (geo_at M I) I (real_path cwd p)
@@ -93,19 +93,19 @@ module _ (M : Mount) (I W : List ℕ) (b : Bytes I) (w : WellFormed M I) (long :
   Said = deleted_on (geo_at M I) I (real_path cwd p) ≡ and_then (entry_at (way_of cwd p) (last_of cwd p) w.tree) on_spot
 
   -- a way that stops
-  way-stops : (k : ℕ) → way_to max_depth (way_of cwd p) w.tree ≡ refused k → Said
+  way_stops : (k : ℕ) → way_to max_depth (way_of cwd p) w.tree ≡ refused k → Said
   unfolding deleted_on doomed_of
-  way-stops k e =
+  way_stops k e =
       go (last_of cwd p)
       (ap (λ (r : Reply Doomed). on_name (last_of cwd p) r)
-      (and_then-no k (doomed_in (geo_at M I) I (last_of cwd p))
-      (hold-stops (geo_at M I) I w.tree _ (volume-at M I w).laid (way_of cwd p) k e)))
-      (at_stops (geo_at M I) I w.tree _ (volume-at M I w).laid (real_path cwd p) k e)
+      (and_then_no k (doomed_in (geo_at M I) I (last_of cwd p))
+      (hold_stops (geo_at M I) I w.tree _ (volume_at M I w).laid (way_of cwd p) k e)))
+      (at_stops (geo_at M I) I w.tree _ (volume_at M I w).laid (real_path cwd p) k e)
     where
       go : (n : Name) → doomed ≡ on_name n (refused k) → entry_at (way_of cwd p) (last_of cwd p) w.tree ≡ on_name n (refused k)
           → Said
-      go [] a c = and_then-no 5 (λ x. accepted tt) a ∙ sym (and_then-no 5 on_spot c)
-      go (x ∷ n) a c = and_then-no k (λ x. accepted tt) a ∙ sym (and_then-no k on_spot c)
+      go [] a c = and_then_no 5 (λ x. accepted tt) a ∙ sym (and_then_no 5 on_spot c)
+      go (x ∷ n) a c = and_then_no k (λ x. accepted tt) a ∙ sym (and_then_no k on_spot c)
 
   -- a name that is not there
   nothing_in : (h : Hold)
@@ -119,46 +119,46 @@ module _ (M : Mount) (I W : List ℕ) (b : Bytes I) (w : WellFormed M I) (long :
   nothing_there v =
       let n : Name = last_of cwd p in
       let s : Some = v.dir in
-      let laid = (volume-at M I w).laid in
-      let h = hold-some (geo_at M I) I max_depth w.tree _ (way_of cwd p) laid s v.there in
+      let laid = (volume_at M I w).laid in
+      let h = hold_some (geo_at M I) I max_depth w.tree _ (way_of cwd p) laid s v.there in
       let q : HeldAt (block_size (geo_at M I)) max_depth (way_of cwd p) w.tree h.0
-      = hold-is (geo_at M I) I max_depth w.tree _ (way_of cwd p) laid h.0 h.1 in
+      = hold_is (geo_at M I) I max_depth w.tree _ (way_of cwd p) laid h.0 h.1 in
       let z : some s ≡ some q.there = sym v.there ∙ q.found in
       let y : s ≡ q.there = cc in
       let found_from : ℕ → Found = λ a. find_in n (walk (area_of (geo_at M I)) I a) in
       let f : found_from h.0.dir ≡ found.Missing
       = ap found_from (sym (ap (λ (x : Some). blocks_at x.1) y ∙ q.starts))
       ∙ find-missing (geo_at M I) I max_depth w.tree _ (way_of cwd p) s laid v.there n v.free in
-      name-five n _ (and_then_ok h.0 (doomed_in (geo_at M I) I n) h.1 ∙ nothing_in h.0 f)
+      name_five n _ (and_then_ok h.0 (doomed_in (geo_at M I) I n) h.1 ∙ nothing_in h.0 f)
 
   name_absent : (s : Some) → way_to max_depth (way_of cwd p) w.tree ≡ accepted s → Absent (last_of cwd p) s.1 → Said
   unfolding deleted_on
   name_absent s e a =
       let v : Vacant max_depth (way_of cwd p) (last_of cwd p) w.tree
-      = record { dir = s; there = way-found max_depth (way_of cwd p) w.tree s e; free = a } in
-      and_then-no 5 (λ x. accepted tt) (nothing_there v)
-      ∙ sym (and_then-no 5 on_spot (at-missing (geo_at M I) I w.tree _ (volume-at M I w).laid (real_path cwd p) s e a))
+      = record { dir = s; there = way_found max_depth (way_of cwd p) w.tree s e; free = a } in
+      and_then_no 5 (λ x. accepted tt) (nothing_there v)
+      ∙ sym (and_then_no 5 on_spot (at_missing (geo_at M I) I w.tree _ (volume_at M I w).laid (real_path cwd p) s e a))
 
   -- an entry that is there: 14, or it goes
-  entry-there : (s : Some) → way_to max_depth (way_of cwd p) w.tree ≡ accepted s → (e : Entry (Below s.0))
+  entry_there : (s : Some) → way_to max_depth (way_of cwd p) w.tree ≡ accepted s → (e : Entry (Below s.0))
       → lookup (last_of cwd p) s.1 ≡ some e → Said
   unfolding deleted_on
-  entry-there s m e k = go (either (has_entry s.0 e.node))
+  entry_there s m e k = go (either (has_entry s.0 e.node))
     where
       o : Occupied max_depth (way_of cwd p) (last_of cwd p) w.tree
-      o = record { dir = s; there = way-found max_depth (way_of cwd p) w.tree s m; entry = e; held = k }
+      o = record { dir = s; there = way_found max_depth (way_of cwd p) w.tree s m; entry = e; held = k }
 
       spot : and_then (entry_at (way_of cwd p) (last_of cwd p) w.tree) on_spot ≡ on_spot (s, e)
-      spot = and_then_ok (s, e) on_spot (at_entry (geo_at M I) I w.tree _ (volume-at M I w).laid (real_path cwd p) s m e k)
+      spot = and_then_ok (s, e) on_spot (at_entry (geo_at M I) I w.tree _ (volume_at M I w).laid (real_path cwd p) s m e k)
 
       go : (has_entry s.0 e.node ≡ true) ⊎ (has_entry s.0 e.node ≡ false) → Said
       go (inl h) =
-          and_then-no 14 (λ x. accepted tt)
-          (full-refused (geo_at M I) I max_depth w.tree (real_path cwd p) (volume-at M I w) o (none_bare s.0 e.node h))
+          and_then_no 14 (λ x. accepted tt)
+          (full_refused (geo_at M I) I max_depth w.tree (real_path cwd p) (volume_at M I w) o (none_bare s.0 e.node h))
           ∙ sym (spot ∙ ap (λ (j : ℕ). reply j tt) (when_true 14 h) ∙ reply_suc 14 tt (omega arith))
       go (inr h) =
-          let x = bare-accepted (geo_at M I) I max_depth w.tree (real_path cwd p) (volume-at M I w) o
-          (bare-none s.0 e.node h) in
+          let x = bare_accepted (geo_at M I) I max_depth w.tree (real_path cwd p) (volume_at M I w) o
+          (bare_none s.0 e.node h) in
           and_then_ok x.0 (λ x. accepted tt) x.1 ∙ sym (spot ∙ reply-none tt (when_false 14 h))
 
   deleted-says : Said
@@ -166,16 +166,16 @@ module _ (M : Mount) (I W : List ℕ) (b : Bytes I) (w : WellFormed M I) (long :
     where
       by : (s : Some) → way_to max_depth (way_of cwd p) w.tree ≡ accepted s
           → ((e : Entry (Below s.0)) × (lookup (last_of cwd p) s.1 ≡ some e)) ⊎ Absent (last_of cwd p) s.1 → Said
-      by s f (inl e) = entry-there s f e.0 e.1
+      by s f (inl e) = entry_there s f e.0 e.1
       by s f (inr a) = name_absent s f a
 
       go : (r : Reply Some) → way_to max_depth (way_of cwd p) w.tree ≡ r → Said
       go (accepted s) f = by s f (lookup_or (last_of cwd p) s.1)
-      go (refused k) f = way-stops k f
+      go (refused k) f = way_stops k f
 
   -- A delete is refused by 4, 5, 6 and 14 just where the tree says, and else accepted.
   pub deletes : (now : ℕ) (r : Answer) (J Z : List ℕ) → Deletes M I W cwd p now r J Z → says r ≡ delete_answer cwd p w.tree
   unfolding delete_answer
   deletes now r J Z c =
-      c.answer ∙ ap (λ (k : ℕ). given k (deleted_on (geo_at M I) I (real_path cwd p))) change-is
+      c.answer ∙ ap (λ (k : ℕ). given k (deleted_on (geo_at M I) I (real_path cwd p))) change_is
       ∙ ap (given (path_refusal cwd p)) deleted-says

@@ -10,22 +10,22 @@ use Rattle.model.specs.Tree.{Name, Cell, Tree, Entry}
 use Rattle.model.specs.Geometry.{Mount, Geo, block_size, geo_at}
 use Rattle.model.specs.Volume.{WellFormed, max_depth}
 use Rattle.model.specs.Calls.{file_of, file_at, DirAt, free_blocks, file_entry, contents, rewrite, TreeWrites}
-use Rattle.model.proofs.Contents.{file-written}
+use Rattle.model.proofs.Contents.{file_written}
 use Rattle.model.proofs.Lists.{then_some}
 use Rattle.handle.specs.declared.Handle.{Handle}
 use Rattle.handle.specs.declared.CountedOut.{CountedOut}
 use Rattle.handle.specs.declared.Counted.TheVariants as counted
 use Rattle.handle.specs.Handles.{name_of}
 use Rattle.write.specs.Written.{counted_says}
-use Rattle.write.proofs.Targets.{accepted-is}
+use Rattle.write.proofs.Targets.{accepted_is}
 use Rattle.call_volume.specs.Says.{says}
 use Rattle.call_read.specs.Reading.{Reads}
 use Rattle.call_change.specs.Changing.{Writes}
-use Rattle.thm_calls.proofs.Changing.{volume-at, tree-after, write-passed, write-tree}
-use Rattle.thm_calls.proofs.ReadsBack.{bytes-written, write_seek, write_read}
+use Rattle.thm_calls.proofs.Changing.{volume_at, tree_after, write_passed, write_tree}
+use Rattle.thm_calls.proofs.ReadsBack.{bytes_written, write_seek, write_read}
 use Rattle.promises.specs.Work.{FileOf, ReadsBack}
-use Rattle.promises.proofs.Answered.{count-said}
-use Rattle.promises.proofs.Files.{file-at}
+use Rattle.promises.proofs.Answered.{count_said}
+use Rattle.promises.proofs.Files.{file_at_lem}
 
 -- the file that a write is on
 pub file_of_lem : (g : Geo) (p : List Name) (n : Name) (now c : ℕ) (buf : List ℕ) (t : Tree max_depth) (I J : List ℕ)
@@ -33,7 +33,7 @@ pub file_of_lem : (g : Geo) (p : List Name) (n : Name) (now c : ℕ) (buf : List
     → file_at max_depth p n t ≡ some (m.size, m.time, m.cells)
 unfolding file_entry file_of
 file_of_lem g p n now c buf t I J m =
-    file-at max_depth p n t m.occupied.dir m.occupied.there
+    file_at_lem max_depth p n t m.occupied.dir m.occupied.there
     ∙ then_some (λ e. file_of e.time e.node) m.occupied.held
     ∙ ap (λ (e : Entry _). file_of e.time e.node) m.is_file
 
@@ -41,16 +41,16 @@ module _ (M : Mount) (I W : List ℕ) (h : Handle) (buf : List ℕ) (now : ℕ) 
     (c : Writes M I W h buf now o J Z) (k : ℕ)
     (said : counted_says o.answer ≡ accepted k) (clock : now < 2 ^ 64) where
   counts : o.answer ≡ counted.Bytes k
-  counts = count-said o.answer k said
+  counts = count_said o.answer k said
 
   module _ (w : WellFormed M I) where
     done : (q : List Name) × DirAt max_depth h.dir.0 q w.tree
         × TreeWrites (geo_at M I) max_depth q (name_of h) now h.position buf w.tree I J
-    done = write-tree M I W h buf now o J Z c k w clock counts
+    done = write_tree M I W h buf now o J Z c k w clock counts
 
     -- The handle names a file,
-    file-before : FileOf h w.tree
-    file-before =
+    file_before : FileOf h w.tree
+    file_before =
         record {
           path = done.0;
           there = done.1;
@@ -66,27 +66,27 @@ module _ (M : Mount) (I W : List ℕ) (h : Handle) (buf : List ℕ) (now : ℕ) 
         → (f : FileOf h w.tree) × (es : List Cell)
         × (file_at max_depth f.path (name_of h) v.tree ≡ some (h.position + length buf, now, es))
         × (contents (h.position + length buf) es ≡ take h.position (contents f.size f.cells) ++ buf)
-    unfolding file-before
+    unfolding file_before
     write_leaves v =
         let q : List Name = done.0 in
         let m = done.2 in
-        let p = write-passed M I W h buf now o J Z c k counts in
-        let on = ((accepted-is (geo_at M I) I w.tree (volume-at M I w) h (length buf)).0 p.1 p.2).on_file in (
-          file-before,
+        let p = write_passed M I W h buf now o J Z c k counts in
+        let on = ((accepted_is (geo_at M I) I w.tree (volume_at M I w) h (length buf)).0 p.1 p.2).on_file in (
+          file_before,
           rewrite (block_size (geo_at M I)) (free_blocks (geo_at M I) max_depth w.tree) h.position buf m.cells,
-          ap (file_at max_depth q (name_of h)) (tree-after M I J w _ _ m.makes v)
-              ∙ file-written max_depth q (name_of h) now m.size m.time (h.position + length buf) m.cells _ w.tree
-              file-before.file,
-          bytes-written M I J w h now buf q done.1 m on,
+          ap (file_at max_depth q (name_of h)) (tree_after M I J w _ _ m.makes v)
+              ∙ file_written max_depth q (name_of h) now m.size m.time (h.position + length buf) m.cells _ w.tree
+              file_before.file,
+          bytes_written M I J w h now buf q done.1 m on,
         )
 
     -- A seek and a read through the handles answered give those bytes.
     pub write_then_read : length h.name ≡ 255
         → (f : FileOf h w.tree) × ReadsBack M J o.handle (h.position + length buf)
         (take h.position (contents f.size f.cells) ++ buf)
-    unfolding file-before
+    unfolding file_before
     write_then_read name = (
-      file-before,
+      file_before,
       λ i low s a rbuf out r b.
           let inside : i ≤ h.position + length buf = omega (arith, low) in
           let y = write_seek M I W h buf now o J Z c k counts clock name w done.0 done.1 done.2 i inside s a in

@@ -10,7 +10,7 @@ use Rattle.model.specs.Tree.{Name, Cell, Tree}
 use Rattle.model.specs.Geometry.{Mount, block_size, geo_at, used_count}
 use Rattle.model.specs.Volume.{WellFormed, max_depth, blocks_for}
 use Rattle.model.specs.Calls.{file_at, DirAt, contents, TreeWrites}
-use Rattle.model.proofs.Reached.{path-is}
+use Rattle.model.proofs.Reached.{path_is}
 use Rattle.handle.specs.declared.Handle.{Handle}
 use Rattle.handle.specs.declared.CountedOut.{CountedOut}
 use Rattle.handle.specs.declared.Counted.TheVariants as counted
@@ -18,25 +18,25 @@ use Rattle.handle.specs.Handles.{name_of}
 use Rattle.write.specs.Writing.{grown_handle}
 use Rattle.write.specs.Written.{counted_says}
 use Rattle.call_change.specs.Changing.{Writes}
-use Rattle.thm_calls.proofs.Changing.{volume-at, tree-after, write-tree, write-handle}
+use Rattle.thm_calls.proofs.Changing.{volume_at, tree_after, write_tree, write_handle}
 use Rattle.promises.specs.Work.{FileOf}
 use Rattle.promises.specs.EitherOrder.{InTurn, SameFile, EitherOrder}
-use Rattle.promises.proofs.Answered.{count-said}
+use Rattle.promises.proofs.Answered.{count_said}
 use Rattle.promises.proofs.Done.{file_of_lem, write_leaves}
-use Rattle.promises.proofs.Kept.{write-others}
-use Rattle.promises.proofs.Starts.{dir-stays}
-use Rattle.promises.proofs.UsedMoves.{used-moves}
+use Rattle.promises.proofs.Kept.{write_others}
+use Rattle.promises.proofs.Starts.{dir_stays}
+use Rattle.promises.proofs.UsedMoves.{used_moves}
 
 -- ---- a handle names one file
 
 same_some : {A : Type 0} (a b : A) → some a ≡ some b → a ≡ b
 same_some a b e = cc
 
-pub path-one : (M : Mount) (I : List ℕ) (w : WellFormed M I) (a : ℕ) (p q : List Name) → DirAt max_depth a p w.tree
+pub path_one : (M : Mount) (I : List ℕ) (w : WellFormed M I) (a : ℕ) (p q : List Name) → DirAt max_depth a p w.tree
     → DirAt max_depth a q w.tree → p ≡ q
-path-one M I w a p q r s =
-    let l = (volume-at M I w).laid in
-    same_some p q (sym (path-is (geo_at M I) I max_depth w.tree _ a p l r) ∙ path-is (geo_at M I) I max_depth w.tree _ a q l s)
+path_one M I w a p q r s =
+    let l = (volume_at M I w).laid in
+    same_some p q (sym (path_is (geo_at M I) I max_depth w.tree _ a p l r) ∙ path_is (geo_at M I) I max_depth w.tree _ a q l s)
 
 -- its path, its size, its blocks
 pub record OneFile (p q : List Name) (z y : ℕ) (cs ds : List Cell) : Type 0 where
@@ -44,10 +44,10 @@ pub record OneFile (p q : List Name) (z y : ℕ) (cs ds : List Cell) : Type 0 wh
   pub size : z ≡ y
   pub cells : cs ≡ ds
 
-pub file-one : (M : Mount) (I : List ℕ) (w : WellFormed M I) (h : Handle) (f g : FileOf h w.tree)
+pub file_one : (M : Mount) (I : List ℕ) (w : WellFormed M I) (h : Handle) (f g : FileOf h w.tree)
     → OneFile f.path g.path f.size g.size f.cells g.cells
-file-one M I w h f g =
-    let p : f.path ≡ g.path = path-one M I w h.dir.0 f.path g.path f.there g.there in
+file_one M I w h f g =
+    let p : f.path ≡ g.path = path_one M I w h.dir.0 f.path g.path f.there g.there in
     let e : ◌≡◌ {A = ℕ × ℕ × List Cell} (f.size, f.time, f.cells) (g.size, g.time, g.cells)
     = same_some (f.size, f.time, f.cells) (g.size, g.time, g.cells)
     (sym f.file ∙ ap (λ (x : List Name). file_at max_depth x (name_of h) w.tree) p ∙ g.file) in
@@ -72,11 +72,11 @@ record Accepted (M : Mount) (I : List ℕ) (h : Handle) (buf : List ℕ) (now : 
 module _ (M : Mount) (I : List ℕ) (h : Handle) (buf : List ℕ) (now : ℕ) (o : CountedOut) (J : List ℕ)
     (c : Accepted M I h buf now o J) (clock : now < 2 ^ 64) (w : WellFormed M I) where
   counts : o.answer ≡ counted.Bytes c.count
-  counts = count-said o.answer c.count c.said
+  counts = count_said o.answer c.count c.said
 
   on : (q : List Name) × DirAt max_depth h.dir.0 q w.tree
       × TreeWrites (geo_at M I) max_depth q (name_of h) now h.position buf w.tree I J
-  on = write-tree M I c.work h buf now o J c.after c.call c.count w clock counts
+  on = write_tree M I c.work h buf now o J c.after c.call c.count w clock counts
 
   well : WellFormed M J
   well = record { numbers = geo_at M I; here = refl; tree = _; volume = on.2.makes.volume }
@@ -84,7 +84,7 @@ module _ (M : Mount) (I : List ℕ) (h : Handle) (buf : List ℕ) (now : ℕ) (o
   -- the answer
   answered : o ≡ record { answer = counted.Bytes (length buf); handle = grown_handle h (length buf) }
   answered =
-      let a = write-handle M I c.work h buf now o J c.after c.call c.count counts in
+      let a = write_handle M I c.work h buf now o J c.after c.call c.count counts in
       let e : o.answer ≡ counted.Bytes (length buf) = counts ∙ ap counted.Bytes a.0 in
       let g : o.handle ≡ grown_handle h (length buf) = a.1 in
       λ i. record { answer = e i; handle = g i }
@@ -92,7 +92,7 @@ module _ (M : Mount) (I : List ℕ) (h : Handle) (buf : List ℕ) (now : ℕ) (o
   left : (f : FileOf h w.tree) → Left h buf now f.path f.size f.cells well.tree
   left f =
       let r = write_leaves M I c.work h buf now o J c.after c.call c.count c.said clock w well in
-      let e = file-one M I w h r.0 f in
+      let e = file_one M I w h r.0 f in
       record {
         cells = r.1;
         is = subst (λ (p : List Name). file_at max_depth p (name_of h) well.tree ≡ some (h.position + length buf, now, r.1))
@@ -113,15 +113,15 @@ module _ (M : Mount) (I : List ℕ) (h : Handle) (buf : List ℕ) (now : ℕ) (o
         cells = m.cells;
         file = file_of_lem (geo_at M I) on.0 (name_of h) now h.position buf w.tree I J m;
       } in
-      ap (λ (z : ℕ). used_count (geo_at M J) J + blocks_for (block_size (geo_at M I)) z) (sym (file-one M I w h g f).size)
-      ∙ used-moves M I J w on.0 (name_of h) now h.position buf m
+      ap (λ (z : ℕ). used_count (geo_at M J) J + blocks_for (block_size (geo_at M I)) z) (sym (file_one M I w h g f).size)
+      ∙ used_moves M I J w on.0 (name_of h) now h.position buf m
 
   -- Another file stays, and a handle that names it names it still.
   kept : (f : FileOf h w.tree) (q : List Name) (m : Name) → (f.path ≡ q → name_of h ≡ m → ⊥)
       → file_at max_depth q m well.tree ≡ file_at max_depth q m w.tree
   kept f q m x =
-      (write-others M I c.work h buf now o J c.after c.call c.count counts clock w well q m
-      (λ y z. x (path-one M I w h.dir.0 f.path q f.there y) z)).same_file
+      (write_others M I c.work h buf now o J c.after c.call c.count counts clock w well q m
+      (λ y z. x (path_one M I w h.dir.0 f.path q f.there y) z)).same_file
 
   still : (f : FileOf h w.tree) (j : Handle) (g : FileOf j w.tree) → (f.path ≡ g.path → name_of h ≡ name_of j → ⊥)
       → FileOf j well.tree
@@ -129,8 +129,8 @@ module _ (M : Mount) (I : List ℕ) (h : Handle) (buf : List ℕ) (now : ℕ) (o
   still f j g x =
       record {
         path = g.path;
-        there = subst (DirAt max_depth j.dir.0 g.path) (sym (tree-after M I J w _ _ on.2.makes well))
-            (dir-stays max_depth j.dir.0 on.0 g.path (name_of h) now _ _ w.tree g.there);
+        there = subst (DirAt max_depth j.dir.0 g.path) (sym (tree_after M I J w _ _ on.2.makes well))
+            (dir_stays max_depth j.dir.0 on.0 g.path (name_of h) now _ _ w.tree g.there);
         size = g.size;
         time = g.time;
         cells = g.cells;
@@ -183,11 +183,11 @@ module _ (M : Mount) (I : List ℕ) (w : WellFormed M I) (h k : Handle) (f : Fil
         moved = omega (arith, u, v);
       }
 
-  first-answered : a.first ≡ record { answer = counted.Bytes (length x); handle = grown_handle h (length x) }
-  first-answered = answered M I h x r a.first a.middle one clock₁ w
+  first_answered : a.first ≡ record { answer = counted.Bytes (length x); handle = grown_handle h (length x) }
+  first_answered = answered M I h x r a.first a.middle one clock₁ w
 
-  second-answered : a.second ≡ record { answer = counted.Bytes (length y); handle = grown_handle k (length y) }
-  second-answered = answered M a.middle k y s a.second J two clock₂ between
+  second_answered : a.second ≡ record { answer = counted.Bytes (length y); handle = grown_handle k (length y) }
+  second_answered = answered M a.middle k y s a.second J two clock₂ between
 
 -- ---- in either order
 
@@ -218,9 +218,9 @@ either_order =
               file₂ = same_file k y s g.path g.size g.cells _ _ one.file₂ other.file₁;
               used = omega (arith, one.moved, other.moved);
             },
-            second-answered M I w k h g f swapped y x s r clock₂ clock₁ L b
-                ∙ sym (first-answered M I w h k f g apart x y r s clock₁ clock₂ J a),
-            first-answered M I w k h g f swapped y x s r clock₂ clock₁ L b
-                ∙ sym (second-answered M I w h k f g apart x y r s clock₁ clock₂ J a),
+            second_answered M I w k h g f swapped y x s r clock₂ clock₁ L b
+                ∙ sym (first_answered M I w h k f g apart x y r s clock₁ clock₂ J a),
+            first_answered M I w k h g f swapped y x s r clock₂ clock₁ L b
+                ∙ sym (second_answered M I w h k f g apart x y r s clock₁ clock₂ J a),
           );
     }

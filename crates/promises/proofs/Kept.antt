@@ -10,10 +10,10 @@ use Rattle.model.specs.Geometry.{Mount, block_size, geo_at}
 use Rattle.model.specs.Volume.{WellFormed, max_depth}
 use Rattle.model.specs.Calls.{Vacant, file_at, DirAt, file_entry, created, dir_added, created_dir, deleted, refiled, rewritten, TreeDeletes, TreeWrites}
 use Rattle.model.proofs.Dirs.{lookup-change}
-use Rattle.model.proofs.Edits.{refiled-name}
-use Rattle.model.proofs.Full.{good-find}
+use Rattle.model.proofs.Edits.{refiled_name}
+use Rattle.model.proofs.Full.{good_find}
 use Rattle.model.proofs.Lists.{not_some}
-use Rattle.model.proofs.Others.{lookup-other}
+use Rattle.model.proofs.Others.{lookup_other}
 use Rattle.thm_path.proofs.Resolves.{absent_none}
 use Rattle.handle.specs.declared.Handle.{Handle}
 use Rattle.handle.specs.declared.Counted.TheVariants as counted
@@ -24,13 +24,13 @@ use Rattle.limits.specs.declared.Answer.TheVariants as answer
 use Rattle.call_read.specs.declared.OpenOut.{OpenOut}
 use Rattle.call_change.specs.Changing.{CreatesFile, CreatesDir, Deletes, Writes}
 use Rattle.thm_calls.specs.Named.{way_of, last_of}
-use Rattle.thm_calls.proofs.Changing.{volume-at, tree-after, create-file-tree, create-dir-tree, delete-tree, write-tree}
+use Rattle.thm_calls.proofs.Changing.{volume_at, tree_after, create_file_tree, create_dir_tree, delete_tree, write_tree}
 use Rattle.promises.specs.Sequence.{Leads}
 use Rattle.promises.specs.Counter.{device_at, Untouched, Another}
-use Rattle.promises.proofs.Files.{as_file, as_device, file-is, device-is, not_file, not_device, cells-shown, cells_same}
+use Rattle.promises.proofs.Files.{as_file, as_device, file_is, device_is, not_file, not_device, cells_shown, cells_same}
 use Rattle.promises.proofs.Gone.{deleted_absent}
-use Rattle.promises.proofs.Lookups.{called-own, lookup-inserted, lookup-insert-other, lookup-delete-other}
-use Rattle.promises.proofs.Others.{Hollow, read_at, read-other, read-edit}
+use Rattle.promises.proofs.Lookups.{called_own, lookup-inserted, lookup-insert_other, lookup-delete_other}
+use Rattle.promises.proofs.Others.{Hollow, read_at, read_other, read_edit}
 
 -- ---- an edit of one directory, by the name n
 
@@ -53,15 +53,15 @@ record Local (p : List Name) (n : Name) (t : Tree max_depth) (f : Edit) : Type 0
   after : Hollow dir.0 n (f dir.0 dir.1)
 
 -- It reads the same at every other path.
-edit-read : {R : Type 0} (r : (X : Type 0) → ℕ → Node X → Option R) → ((X : Type 0) (k : ℕ) (x : X) → r X k (sub x) ≡ none)
+edit_read : {R : Type 0} (r : (X : Type 0) → ℕ → Node X → Option R) → ((X : Type 0) (k : ℕ) (x : X) → r X k (sub x) ≡ none)
     → (p : List Name) (n : Name) (t : Tree max_depth) (g : ℕ → ℕ) (f : Edit) → Local p n t f
     → (q : List Name) (m : Name) → (p ≡ q → n ≡ m → ⊥) → read_at r m max_depth q (edit max_depth p g f t) ≡ read_at r m max_depth q t
-edit-read r leaf p n t g f c q m x = read-edit r m leaf max_depth p q g f t at
+edit_read r leaf p n t g f c q m x = read_edit r m leaf max_depth p q g f t at
   where
     at : (s : Some) (u : List Name) → find max_depth p t ≡ some s → q ≡ p ++ u → read_at r m s.0 u (f s.0 s.1) ≡ read_at r m s.0 u s.1
     at s u h j =
         subst (λ (s : Some). read_at r m s.0 u (f s.0 s.1) ≡ read_at r m s.0 u s.1) (same_some c.dir s (sym c.there ∙ h))
-        (read-other r m c.dir.0 n c.dir.1 (f c.dir.0 c.dir.1) c.others c.before c.after u
+        (read_other r m c.dir.0 n c.dir.1 (f c.dir.0 c.dir.1) c.others c.before c.after u
         (λ e k. x (sym (j ∙ ap (λ (l : List Name). p ++ l) e ∙ append-nil p)) k))
 
 -- So such an edit touches nothing there.
@@ -73,8 +73,8 @@ module _ (M : Mount) (I J : List ℕ) (w : WellFormed M I) (v : WellFormed M J) 
         same_file = f;
         same_device = d;
         same_bytes = λ z k cs h. cells_same (block_size (geo_at M I)) I J cs
-            (cells-shown (geo_at M I) I max_depth w.tree _ (volume-at M I w).laid q m z k cs h)
-            (cells-shown (geo_at M J) J max_depth v.tree _ (volume-at M J v).laid q m z k cs (still z k cs h));
+            (cells_shown (geo_at M I) I max_depth w.tree _ (volume_at M I w).laid q m z k cs h)
+            (cells_shown (geo_at M J) J max_depth v.tree _ (volume_at M J v).laid q m z k cs (still z k cs h));
       }
     where
       still : (z k : ℕ) (cs : List Cell) → (file_at max_depth q m w.tree ≡ some (z, k, cs)) ⊎ (device_at max_depth q m w.tree ≡ some (z, k, cs))
@@ -82,12 +82,12 @@ module _ (M : Mount) (I J : List ℕ) (w : WellFormed M I) (v : WellFormed M J) 
       still z k cs (inl e) = inl (f ∙ e)
       still z k cs (inr e) = inr (d ∙ e)
 
-  edit-untouched : (p : List Name) (n : Name) (g : ℕ → ℕ) (f : Edit) → Local p n w.tree f → v.tree ≡ edit max_depth p g f w.tree → (p ≡ q → n ≡ m → ⊥)
+  edit_untouched : (p : List Name) (n : Name) (g : ℕ → ℕ) (f : Edit) → Local p n w.tree f → v.tree ≡ edit max_depth p g f w.tree → (p ≡ q → n ≡ m → ⊥)
       → Untouched (block_size (geo_at M I)) max_depth w.tree v.tree I J q m
-  edit-untouched p n g f c e x =
+  edit_untouched p n g f c e x =
       untouched
-      (ap (file_at max_depth q m) e ∙ file-is max_depth q m _ ∙ edit-read as_file not_file p n w.tree g f c q m x ∙ sym (file-is max_depth q m w.tree))
-      (ap (device_at max_depth q m) e ∙ device-is max_depth q m _ ∙ edit-read as_device not_device p n w.tree g f c q m x ∙ sym (device-is max_depth q m w.tree))
+      (ap (file_at max_depth q m) e ∙ file_is max_depth q m _ ∙ edit_read as_file not_file p n w.tree g f c q m x ∙ sym (file_is max_depth q m w.tree))
+      (ap (device_at max_depth q m) e ∙ device_is max_depth q m _ ∙ edit_read as_device not_device p n w.tree g f c q m x ∙ sym (device_is max_depth q m w.tree))
 
 -- ---- each call is such an edit
 
@@ -103,19 +103,19 @@ module _ (M : Mount) (I W : List ℕ) (h : Handle) (buf : List ℕ) (now : ℕ) 
       record {
         dir = s;
         there = a.occupied.there;
-        others = λ b d. lookup-other n b d (λ x. refiled now z cs x.name x.time x.node) (λ x. refiled-name now z cs x.name x.time x.node) s.1;
+        others = λ b d. lookup_other n b d (λ x. refiled now z cs x.name x.time x.node) (λ x. refiled_name now z cs x.name x.time x.node) s.1;
         before = bare_hollow s.0 n s.1 a.occupied.entry a.occupied.held (subst (λ (y : Entry (Below s.0)). Bare s.0 y.node) (sym a.is_file) tt);
         after = bare_hollow s.0 n (change n (λ x. refiled now z cs x.name x.time x.node) s.1) _
-            (lookup-change n (λ x. refiled now z cs x.name x.time x.node) (λ x. refiled-name now z cs x.name x.time x.node) s.1 a.occupied.entry a.occupied.held)
+            (lookup-change n (λ x. refiled now z cs x.name x.time x.node) (λ x. refiled_name now z cs x.name x.time x.node) s.1 a.occupied.entry a.occupied.held)
             (subst (λ (y : Entry (Below s.0)). Bare s.0 (refiled now z cs y.name y.time y.node).node) (sym a.is_file) tt);
       }
 
   -- S3, of a write
-  pub write-others : Another max_depth w.tree h q m → Untouched (block_size (geo_at M I)) max_depth w.tree v.tree I J q m
+  pub write_others : Another max_depth w.tree h q m → Untouched (block_size (geo_at M I)) max_depth w.tree v.tree I J q m
   unfolding rewritten
-  write-others x =
-      let a = write-tree M I W h buf now o J Z c k w clock e in
-      edit-untouched M I J w v q m a.0 (name_of h) (λ j. j) _ (write_local a.0 _ _ a.2) (tree-after M I J w _ _ a.2.makes v)
+  write_others x =
+      let a = write_tree M I W h buf now o J Z c k w clock e in
+      edit_untouched M I J w v q m a.0 (name_of h) (λ j. j) _ (write_local a.0 _ _ a.2) (tree_after M I J w _ _ a.2.makes v)
       (λ y z. x (subst (λ (p : List Name). DirAt max_depth h.dir.0 p w.tree) y a.1) z)
 
 -- create and delete
@@ -128,35 +128,35 @@ module _ (M : Mount) (I W cwd p : List ℕ) (now : ℕ) where
     file_local cap x z cs a =
         let n : Name = last_of cwd p in
         let s : Some = a.dir in
-        let new : called n (file_entry {X = Below s.0} n now z cs) ≡ true = called-own n (file_entry n now z cs) refl in
+        let new : called n (file_entry {X = Below s.0} n now z cs) ≡ true = called_own n (file_entry n now z cs) refl in
         record {
           dir = s;
           there = a.there;
-          others = lookup-insert-other cap x n (file_entry n now z cs) new s.1;
+          others = lookup-insert_other cap x n (file_entry n now z cs) new s.1;
           before = none_hollow s.0 n s.1 (absent_none n s.1 a.free);
           after = bare_hollow s.0 n _ (file_entry n now z cs) (lookup-inserted cap x n (file_entry n now z cs) new s.1 a.free) tt;
         }
 
-    pub create-file-others : (Leads q m cwd p → ⊥) → Untouched (block_size (geo_at M I)) max_depth w.tree v.tree I J q m
+    pub create_file_others : (Leads q m cwd p → ⊥) → Untouched (block_size (geo_at M I)) max_depth w.tree v.tree I J q m
     unfolding created
-    create-file-others x =
-        let a = create-file-tree M I W cwd p now J Z o c w clock e in
-        edit-untouched M I J w v q m (way_of cwd p) (last_of cwd p) (λ _. now) _ (file_local _ _ _ _ a.vacant) (tree-after M I J w _ _ a.makes v)
+    create_file_others x =
+        let a = create_file_tree M I W cwd p now J Z o c w clock e in
+        edit_untouched M I J w v q m (way_of cwd p) (last_of cwd p) (λ _. now) _ (file_local _ _ _ _ a.vacant) (tree_after M I J w _ _ a.makes v)
         (λ y z. x (record { way = y; last = z }))
 
   module _ (r : Answer) (J Z : List ℕ) (c : CreatesDir M I W cwd p now r J Z) (e : r ≡ answer.Success) (clock : now < 2 ^ 64)
       (w : WellFormed M I) (v : WellFormed M J) (q : List Name) (m : Name) where
-    dir-others : (cap x y : ℕ) (n : Name) (d : ℕ) (t : Tree d) (a : Name) → (n ≡ a → ⊥) → lookup a (dir_added cap x y n now d t) ≡ lookup a t
+    dir_others : (cap x y : ℕ) (n : Name) (d : ℕ) (t : Tree d) (a : Name) → (n ≡ a → ⊥) → lookup a (dir_added cap x y n now d t) ≡ lookup a t
     unfolding dir_added
-    dir-others cap x y n zero t a h = refl
-    dir-others cap x y n (suc d) t a h = lookup-insert-other cap x n (record { name = n; time = now; node = sub (blank d y) }) (called-own n _ refl) t a h
+    dir_others cap x y n zero t a h = refl
+    dir_others cap x y n (suc d) t a h = lookup-insert_other cap x n (record { name = n; time = now; node = sub (blank d y) }) (called_own n _ refl) t a h
 
     dir_hollow : (cap x y : ℕ) (n : Name) (d : ℕ) (t : Tree d) → Absent n t → Hollow d n (dir_added cap x y n now d t)
     unfolding dir_added blank
     dir_hollow cap x y n zero t a = none_hollow zero n t (absent_none n t a)
     dir_hollow cap x y n (suc d) t a =
         let new : Entry (Tree d) = record { name = n; time = now; node = sub (blank d y) } in
-        bare_hollow (suc d) n (insert cap x new t) new (lookup-inserted cap x n new (called-own n new refl) t a) (refl, tt)
+        bare_hollow (suc d) n (insert cap x new t) new (lookup-inserted cap x n new (called_own n new refl) t a) (refl, tt)
 
     dir_local : (cap x y : ℕ) → Vacant max_depth (way_of cwd p) (last_of cwd p) w.tree → Local (way_of cwd p) (last_of cwd p) w.tree (dir_added cap x y (last_of cwd p) now)
     dir_local cap x y a =
@@ -165,16 +165,16 @@ module _ (M : Mount) (I W cwd p : List ℕ) (now : ℕ) where
         record {
           dir = s;
           there = a.there;
-          others = dir-others cap x y n s.0 s.1;
+          others = dir_others cap x y n s.0 s.1;
           before = none_hollow s.0 n s.1 (absent_none n s.1 a.free);
           after = dir_hollow cap x y n s.0 s.1 a.free;
         }
 
-    pub create-dir-others : (Leads q m cwd p → ⊥) → Untouched (block_size (geo_at M I)) max_depth w.tree v.tree I J q m
+    pub create_dir_others : (Leads q m cwd p → ⊥) → Untouched (block_size (geo_at M I)) max_depth w.tree v.tree I J q m
     unfolding created_dir
-    create-dir-others x =
-        let a = create-dir-tree M I W cwd p now J Z r c w clock e in
-        edit-untouched M I J w v q m (way_of cwd p) (last_of cwd p) (λ _. now) _ (dir_local _ _ _ a.vacant) (tree-after M I J w _ _ a.makes v)
+    create_dir_others x =
+        let a = create_dir_tree M I W cwd p now J Z r c w clock e in
+        edit_untouched M I J w v q m (way_of cwd p) (last_of cwd p) (λ _. now) _ (dir_local _ _ _ a.vacant) (tree_after M I J w _ _ a.makes v)
         (λ y z. x (record { way = y; last = z }))
 
   module _ (r : Answer) (J Z : List ℕ) (c : Deletes M I W cwd p now r J Z) (e : r ≡ answer.Success) (clock : now < 2 ^ 64)
@@ -183,18 +183,18 @@ module _ (M : Mount) (I W cwd p : List ℕ) (now : ℕ) where
     delete_local a =
         let n : Name = last_of cwd p in
         let s : Some = a.occupied.dir in
-        let g = good-find (block_size (geo_at M I)) max_depth (way_of cwd p) w.tree s (volume-at M I w).laid.good a.occupied.there in
+        let g = good_find (block_size (geo_at M I)) max_depth (way_of cwd p) w.tree s (volume_at M I w).laid.good a.occupied.there in
         record {
           dir = s;
           there = a.occupied.there;
-          others = λ b d. lookup-delete-other n b d s.1;
+          others = λ b d. lookup-delete_other n b d s.1;
           before = bare_hollow s.0 n s.1 a.occupied.entry a.occupied.held a.bare;
           after = none_hollow s.0 n (delete n s.1) (absent_none n (delete n s.1) (deleted_absent n s.1 (g.distinct n)));
         }
 
-    pub delete-others : (Leads q m cwd p → ⊥) → Untouched (block_size (geo_at M I)) max_depth w.tree v.tree I J q m
+    pub delete_others : (Leads q m cwd p → ⊥) → Untouched (block_size (geo_at M I)) max_depth w.tree v.tree I J q m
     unfolding deleted
-    delete-others x =
-        let a = delete-tree M I W cwd p now J Z r c w clock e in
-        edit-untouched M I J w v q m (way_of cwd p) (last_of cwd p) (λ _. now) (λ _ bs. delete (last_of cwd p) bs) (delete_local a) (tree-after M I J w _ _ a.makes v)
+    delete_others x =
+        let a = delete_tree M I W cwd p now J Z r c w clock e in
+        edit_untouched M I J w v q m (way_of cwd p) (last_of cwd p) (λ _. now) (λ _ bs. delete (last_of cwd p) bs) (delete_local a) (tree_after M I J w _ _ a.makes v)
         (λ y z. x (record { way = y; last = z }))

@@ -18,7 +18,7 @@ use Rattle.model.specs.Geometry.{Mount, block_size, data_at, geo_at, set_bits}
 use Rattle.model.specs.Volume.{file_limit, WellFormed, Laid, max_depth}
 use Rattle.model.proofs.OneVolume.{well_formed_opens}
 use Rattle.model.proofs.Opens.{first_of_one, first_of_tail}
-use Rattle.model.proofs.Replies.{given_yes, given-no, and_then_ok, and_then-no}
+use Rattle.model.proofs.Replies.{given_yes, given_no, and_then_ok, and_then_no}
 use Rattle.dir_entry.specs.declared.Kind.TheVariants.{Dir}
 use Rattle.dir_entry.specs.Shown.{kind_is, head_of}
 use Rattle.read_dir.specs.Walk.{walk}
@@ -27,7 +27,7 @@ use Rattle.path.specs.Path.{slash, real_path, bad_path, path_refusal}
 use Rattle.dir.specs.Resolve.{held}
 use Rattle.thm_path.specs.Shown.{way_to}
 use Rattle.thm_path.proofs.Finds.{sum_is}
-use Rattle.thm_path.proofs.Resolves.{lookup-name, resolve-way}
+use Rattle.thm_path.proofs.Resolves.{lookup_name, resolve_way}
 use Rattle.call_read.specs.declared.OpenOut.{OpenOut}
 use Rattle.call_read.specs.declared.InfoOut.{InfoOut}
 use Rattle.call_read.specs.declared.Listing.{Listing}
@@ -36,10 +36,10 @@ use Rattle.call_read.specs.Reading.{about_root, info_on, info_reply, info_says, 
 use Rattle.call_read.specs.Reading.{list_says, Lists}
 use Rattle.thm_calls.specs.Named.{way_of, last_of, all_of}
 use Rattle.thm_calls.proofs.Calls.{list_counts, list_records}
-use Rattle.thm_calls.proofs.Changing.{volume-at}
+use Rattle.thm_calls.proofs.Changing.{volume_at}
 use Rattle.promises.specs.Refusals.{Spot, entry_at, open_node, open_answer, about_spot, info_answer, dir_answer, list_answer}
 use Rattle.promises.specs.Refusals.{records_in}
-use Rattle.promises.proofs.Spots.{way-found, entry-then}
+use Rattle.promises.proofs.Spots.{way_found, entry_then}
 
 -- ---- answers
 
@@ -72,12 +72,12 @@ unfolding head_of
 open_spot B n s e = open_node_lem (view B s.0) (blocks_at s.1) n e.time (length e.name) e.node
 
 -- info says of an entry what it is in the tree
-about-spot : (B : ℕ) (n : Name) (s : Some) (e : Entry (Below s.0)) → lookup n s.1 ≡ some e
+about_spot_lem : (B : ℕ) (n : Name) (s : Some) (e : Entry (Below s.0)) → lookup n s.1 ≡ some e
     → about_entry n (held (blocks_at s.1) (head_of (view B s.0) e)) ≡ about_spot B (s, e)
 unfolding head_of
-about-spot B n s e k =
+about_spot_lem B n s e k =
     ap (λ (x : Name). accepted (about (kind_is e.node) (size_of (view B s.0) e.node) e.time x))
-    (lookup-name n s.1 e k)
+    (lookup_name n s.1 e k)
 
 -- nothing is put into a buffer by no bytes
 splice-none : (l : List ℕ) → splice l 0 [] ≡ l
@@ -86,26 +86,26 @@ splice-none l = refl
 
 module _ (M : Mount) (I : List ℕ) (w : WellFormed M I) (cwd p : List ℕ) where
   abbrev laid : Laid (geo_at M I) I max_depth w.tree (data_at (geo_at M I) + set_bits I (geo_at M I))
-  laid = (volume-at M I w).laid
+  laid = (volume_at M I w).laid
 
   -- 4 alone is given before the way
-  call-is : path_call M I cwd p ≡ path_refusal cwd p
+  call_is : path_call M I cwd p ≡ path_refusal cwd p
   unfolding path_call
-  call-is = first_of_tail _ _ (well_formed_opens M I w) ∙ first_of_one _
+  call_is = first_of_tail _ _ (well_formed_opens M I w) ∙ first_of_one _
 
   pub opens : (o : OpenOut) → Opens M I cwd p o → open_says o ≡ open_answer cwd p w.tree
   unfolding open_reply open_on open_answer
   opens o c =
       c.answer
-      ∙ ap (λ (k : ℕ). given k (open_on (area_at M I) I (real_path cwd p))) call-is
+      ∙ ap (λ (k : ℕ). given k (open_on (area_at M I) I (real_path cwd p))) call_is
       ∙ ap (given (path_refusal cwd p))
-      (entry-then (geo_at M I) I w.tree _ laid (real_path cwd p) (open_entry (last_of cwd p))
+      (entry_then (geo_at M I) I w.tree _ laid (real_path cwd p) (open_entry (last_of cwd p))
       (λ (x : Spot). open_node (blocks_at x.0.1) (last_of cwd p) x.1.node)
       (λ s e k. open_spot (size M I) (last_of cwd p) s e))
 
-  root-sum : about_root (sum_from 0 (walk (area_at M I) I (area_at M I).first)) ≡ accepted (about Dir (sum w.tree) 0 [])
+  root_sum : about_root (sum_from 0 (walk (area_at M I) I (area_at M I).first)) ≡ accepted (about Dir (sum w.tree) 0 [])
   unfolding find
-  root-sum =
+  root_sum =
       ap (λ (a : ℕ). about_root (sum_from 0 (walk (area_at M I) I a))) (sym laid.root)
       ∙ ap about_root (sum_is (geo_at M I) I max_depth w.tree _ [] (max_depth, w.tree) laid refl)
 
@@ -114,12 +114,12 @@ module _ (M : Mount) (I : List ℕ) (w : WellFormed M I) (cwd p : List ℕ) wher
   informs o c =
       let entry = and_then (entry_at (way_of cwd p) (last_of cwd p) w.tree) (about_spot (size M I)) in
       c.answer
-      ∙ ap (λ (k : ℕ). given k (info_on (area_at M I) I (real_path cwd p) p)) call-is
+      ∙ ap (λ (k : ℕ). given k (info_on (area_at M I) I (real_path cwd p) p)) call_is
       ∙ ap (λ (r : Reply About). given (path_refusal cwd p)
       (pick (same p (slash ∷ [])) (about_root (sum_from 0 (walk (area_at M I) I (area_at M I).first))) r))
-      (entry-then (geo_at M I) I w.tree _ laid (real_path cwd p) (about_entry (last_of cwd p)) (about_spot (size M I))
-      (λ s e k. about-spot (size M I) (last_of cwd p) s e k))
-      ∙ ap (λ (r : Reply About). given (path_refusal cwd p) (pick (same p (slash ∷ [])) r entry)) root-sum
+      (entry_then (geo_at M I) I w.tree _ laid (real_path cwd p) (about_entry (last_of cwd p)) (about_spot (size M I))
+      (λ s e k. about_spot_lem (size M I) (last_of cwd p) s e k))
+      ∙ ap (λ (r : Reply About). given (path_refusal cwd p) (pick (same p (slash ∷ [])) r entry)) root_sum
 
   -- ---- list
 
@@ -131,7 +131,7 @@ module _ (M : Mount) (I : List ℕ) (w : WellFormed M I) (cwd p : List ℕ) wher
     list_refused : (k : ℕ) → list_reply M I cwd p i (length buf) ≡ refused k → dir_answer cwd p w.tree ≡ refused k → Said
     unfolding list_answer
     list_refused k a b = (
-      c.answer ∙ a ∙ sym (and_then-no k _ b),
+      c.answer ∙ a ∙ sym (and_then_no k _ b),
       c.buffer ∙ ap (λ (r : Reply Counts). on_reply r
           (splice buf 0 (records_on (area_at M I) I (real_path cwd p) i (length buf))) buf) a
           ∙ sym (splice-none buf) ∙ ap (λ (r : Reply Some). splice buf 0 (records_in (size M I) i (length buf) r)) (sym b),
@@ -141,7 +141,7 @@ module _ (M : Mount) (I : List ℕ) (w : WellFormed M I) (cwd p : List ℕ) wher
         → dir_answer cwd p w.tree ≡ accepted s → Said
     unfolding list_answer
     list_given good s f b =
-        let found = way-found max_depth (all_of cwd p) w.tree s f in
+        let found = way_found max_depth (all_of cwd p) w.tree s f in
         let a = list_counts M I w cwd p good s found i (length buf) in (
           c.answer ∙ a ∙ sym (and_then_ok s _ b),
           c.buffer ∙ ap (λ (r : Reply Counts). on_reply r
@@ -155,15 +155,15 @@ module _ (M : Mount) (I : List ℕ) (w : WellFormed M I) (cwd p : List ℕ) wher
     lists = go (either (bad_path cwd p)) (way_to max_depth (all_of cwd p) w.tree) refl
       where
         called : (r : Reply Counts) → given (path_call M I cwd p) r ≡ given (path_refusal cwd p) r
-        called r = ap (λ (k : ℕ). given k r) call-is
+        called r = ap (λ (k : ℕ). given k r) call_is
 
         go : (bad_path cwd p ≡ true) ⊎ (bad_path cwd p ≡ false) → (r : Reply Some) → way_to max_depth (all_of cwd p) w.tree ≡ r
             → Said
         go (inl bad) r f = list_refused 4 (called _ ∙ given_yes 4 _ (omega arith) bad) (given_yes 4 _ (omega arith) bad)
-        go (inr good) (accepted s) f = list_given good s f (given-no 4 _ good ∙ f)
+        go (inr good) (accepted s) f = list_given good s f (given_no 4 _ good ∙ f)
         go (inr good) (refused k) f =
             list_refused k
-            (called _ ∙ given-no 4 _ good
-            ∙ and_then-no k _ (resolve-way (geo_at M I) I max_depth w.tree _ (all_of cwd p) laid
-            ∙ and_then-no k (λ s. accepted (blocks_at s.1)) f))
-            (given-no 4 _ good ∙ f)
+            (called _ ∙ given_no 4 _ good
+            ∙ and_then_no k _ (resolve_way (geo_at M I) I max_depth w.tree _ (all_of cwd p) laid
+            ∙ and_then_no k (λ s. accepted (blocks_at s.1)) f))
+            (given_no 4 _ good ∙ f)

@@ -12,23 +12,23 @@ use Rattle.limits.specs.declared.Refusal.{Refusal}
 use Rattle.limits.specs.declared.Refusal.TheVariants.{BadImage, NotMfs, BadCount, BadPath, NotFound, WrongKind, Exists, BadName, NoRoom, TooLarge, Stale, BadSeek, EmptyWrite, NotEmpty, TooDeep, ShortWork, Damaged, PastEnd}
 use Rattle.super_block.specs.declared.SuperBlock.{SuperBlock}
 use Rattle.super_block.specs.Super.{super_block}
-use Rattle.super_block.proofs.Fits.{opened-fit}
+use Rattle.super_block.proofs.Fits.{opened_fit}
 use Rattle.own_entry.specs.Own.{OwnIn}
 use Rattle.path.specs.Path.{real_path, dir_part}
 use Rattle.dir.specs.Hold.{Hold, hold_dir}
-use Rattle.dir.proofs.HoldLaws.{hold-inside}
-use Rattle.thm_path.proofs.Holding.{own-there}
+use Rattle.dir.proofs.HoldLaws.{hold_inside}
+use Rattle.thm_path.proofs.Holding.{own_there}
 use Rattle.call_volume.specs.Checking.{check_refusal}
-use Rattle.call_volume.proofs.Checked.{check-passed}
+use Rattle.call_volume.proofs.Checked.{check_passed}
 use Rattle.thm_calls.specs.Named.{way_of}
-use Rattle.thm_calls.proofs.Changing.{volume-at}
+use Rattle.thm_calls.proofs.Changing.{volume_at}
 use Rattle.promises.specs.OwnEntry.{OwnEntryThere}
 
-own-inside : (M : Mount) (I : List ℕ) (len : ℕ) → Bytes I → check_refusal M I len ≡ 0 → (cwd p : List ℕ) (h : Hold)
+own_inside : (M : Mount) (I : List ℕ) (len : ℕ) → Bytes I → check_refusal M I len ≡ 0 → (cwd p : List ℕ) (h : Hold)
     → hold_dir (area_of (geo_at M I)) I (dir_part (real_path cwd p)) ≡ accepted h → OwnIn (block_size (geo_at M I)) I h.own
-own-inside M I len b e cwd p h q =
+own_inside M I len b e cwd p h q =
     let s : SuperBlock = super_block (geo_at M I) in
-    hold-inside s I (opened-fit M I s (check-passed M I len b e).1 refl) (dir_part (real_path cwd p)) h q
+    hold_inside s I (opened_fit M I s (check_passed M I len b e).1 refl) (dir_part (real_path cwd p)) h q
 
 -- The number 18 is not used.
 not_18 : (r : Refusal) → refusal_number r ≡ 18 → ⊥
@@ -51,10 +51,10 @@ not_18 ShortWork e = omega arith
 not_18 Damaged e = omega arith
 not_18 PastEnd e = omega arith
 
-pub own-entry-there : OwnEntryThere
-own-entry-there =
+pub own_entry_there : OwnEntryThere
+own_entry_there =
     record {
-      inside = own-inside;
-      there = λ M I w cwd p h q. own-there (geo_at M I) I max_depth w.tree _ (way_of cwd p) (volume-at M I w).laid h q;
+      inside = own_inside;
+      there = λ M I w cwd p h q. own_there (geo_at M I) I max_depth w.tree _ (way_of cwd p) (volume_at M I w).laid h q;
       numbers = not_18;
     }

@@ -8,8 +8,8 @@ use Rattle.promises.proofs.Handles.{writes, reads}
 use Rattle.promises.proofs.Patched.{patches}
 use Rattle.promises.proofs.Rooms.{write_full, create_full, create_dir_full}
 
-pub refusal-is_exact : RefusalIsExact
-refusal-is_exact =
+pub refusal_is_exact : RefusalIsExact
+refusal_is_exact =
     record {
       opens = opens;
       informs = informs;
@@ -22,5 +22,5 @@ refusal-is_exact =
       reads = reads;
     }
 
-pub room-is_exact : RoomIsExact
-room-is_exact = record { write_full = write_full; create_full = create_full; create_dir_full = create_dir_full }
+pub room_is_exact : RoomIsExact
+room_is_exact = record { write_full = write_full; create_full = create_full; create_dir_full = create_dir_full }

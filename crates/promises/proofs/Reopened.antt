@@ -24,35 +24,35 @@ use Rattle.call_volume.specs.Says.{says}
 use Rattle.call_read.specs.Reading.{Opens, read_call, Reads}
 use Rattle.thm_calls.specs.Handles.{HandleOf}
 use Rattle.thm_calls.specs.Named.{way_of, last_of}
-use Rattle.thm_calls.proofs.Calls.{open_file, open_handle, read-file, read-bytes}
-use Rattle.thm_calls.proofs.ReadsBack.{seek_inside, reads-given}
+use Rattle.thm_calls.proofs.Calls.{open_file, open_handle, read_file, read_bytes}
+use Rattle.thm_calls.proofs.ReadsBack.{seek_inside, reads_given}
 use Rattle.promises.specs.Work.{ReadsBack}
-use Rattle.promises.proofs.Answered.{value-is}
-use Rattle.promises.proofs.Files.{file-there}
+use Rattle.promises.proofs.Answered.{value_is}
+use Rattle.promises.proofs.Files.{file_there}
 
 -- A handle of a file, z bytes in the blocks cs: a seek to any position in the file and a read from there.
 module _ (M : Mount) (I : List ℕ) (w : WellFormed M I) (q : List Name) (n : Name) (z : ℕ) (cs : List Cell)
     (o : Occupied max_depth q n w.tree) (f : o.entry.node ≡ file z cs)
     (h : Handle) (a : HandleOf (blocks_at o.dir.1) n z cs h) where
-  handle-whole : stale_fields h ≡ false
+  handle_whole : stale_fields h ≡ false
   unfolding read_refusal
-  handle-whole =
-      let r = (first_of_zero _ _ (read-file M I w q o.dir o.there n o.entry o.held z cs f h a 0)).1 in
+  handle_whole =
+      let r = (first_of_zero _ _ (read_file M I w q o.dir o.there n o.entry o.held z cs f h a 0)).1 in
       when-none 11 _ (omega arith) (first_of_zero _ _ (sym (first_of_one _) ∙ r)).0
 
-  handle-reads : ReadsBack M I h z (contents z cs)
+  handle_reads : ReadsBack M I h z (contents z cs)
   unfolding read_call
-  handle-reads i low s m rbuf out r b =
+  handle_reads i low s m rbuf out r b =
       let inside : i ≤ z = omega (arith, low) in
-      let y = seek_inside h i s handle-whole (omega (arith, a.size, inside)) m in
+      let y = seek_inside h i s handle_whole (omega (arith, a.size, inside)) m in
       let at : HandleOf (blocks_at o.dir.1) n z cs (moved h i)
       = record { dir = a.dir; name = a.name; letters = a.letters; addr = a.addr; size = a.size; position = inside } in
       let c = subst (λ (g : Handle). Reads M I g rbuf out r) y.1 b in
-      let d = reads-given _ (moved h i) r.handle _ rbuf out r.answer
-      (read-file M I w q o.dir o.there n o.entry o.held z cs f (moved h i) at (length rbuf)) c in (
+      let d = reads_given _ (moved h i) r.handle _ rbuf out r.answer
+      (read_file M I w q o.dir o.there n o.entry o.held z cs f (moved h i) at (length rbuf)) c in (
         ap says y.0,
         ap counted_says d.0 ∙ ap (λ (k : ℕ). accepted (min (length rbuf) (k - i))) a.size,
-        d.1 ∙ ap (splice rbuf 0) (read-bytes M I w q o.dir o.there n o.entry o.held z cs f (moved h i) at
+        d.1 ∙ ap (splice rbuf 0) (read_bytes M I w q o.dir o.there n o.entry o.held z cs f (moved h i) at
             (length rbuf)),
       )
 
@@ -65,11 +65,11 @@ open_succeeds : (M : Mount) (I : List ℕ) (w : WellFormed M I) (cwd p : List �
     → (x : Occupied max_depth (way_of cwd p) (last_of cwd p) w.tree) × (x.entry.node ≡ file z cs)
     × HandleOf (blocks_at x.dir.1) (last_of cwd p) z cs o.handle
 open_succeeds M I w cwd p good o c z t cs f =
-    let y = file-there max_depth (way_of cwd p) (last_of cwd p) w.tree z t cs f in
+    let y = file_there max_depth (way_of cwd p) (last_of cwd p) w.tree z t cs f in
     let x = y.0 in
     let e = c.answer ∙ open_file M I w cwd p good x.dir x.there x.entry x.held z cs y.1 in
     let h = open_handle M I w cwd p good x.dir x.there x.entry x.held z cs y.1 in
-    (x, y.1, subst (HandleOf (blocks_at x.dir.1) (last_of cwd p) z cs) (sym (value-is o.answer o.handle _ e)) h)
+    (x, y.1, subst (HandleOf (blocks_at x.dir.1) (last_of cwd p) z cs) (sym (value_is o.answer o.handle _ e)) h)
 
 -- What is written is read through a later open too.
 pub open_then_read : (M : Mount) (I : List ℕ) (w : WellFormed M I) (cwd p : List ℕ) → bad_path cwd p ≡ false
@@ -78,4 +78,4 @@ pub open_then_read : (M : Mount) (I : List ℕ) (w : WellFormed M I) (cwd p : Li
     → ReadsBack M I o.handle z (contents z cs)
 open_then_read M I w cwd p good z t cs f o c =
     let x = open_succeeds M I w cwd p good o c z t cs f in
-    handle-reads M I w (way_of cwd p) (last_of cwd p) z cs x.0 x.1 o.handle x.2
+    handle_reads M I w (way_of cwd p) (last_of cwd p) z cs x.0 x.1 o.handle x.2

@@ -12,13 +12,13 @@ use Rattle.model.proofs.Replies.{reply-none, not_accepted}
 use Rattle.model.proofs.OneVolume.{well_formed_geo}
 use Rattle.limits.specs.Refusals.{refusal_number}
 use Rattle.bitmap_block.specs.Bitmap.{clears}
-use Rattle.bitmap_block.proofs.Stores.{volume-clears}
+use Rattle.bitmap_block.proofs.Stores.{volume_clears}
 use Rattle.bitmap_room.specs.declared.Told.{Told}
 use Rattle.call_room.specs.declared.RoomOut.{RoomOut}
 use Rattle.call_room.specs.declared.RoomOut.TheVariants.{Known, Refused}
 use Rattle.bitmap_room.specs.Search.{room_in}
 use Rattle.call_room.specs.Room.{Asks}
-use Rattle.call_room.proofs.Means.{room-enough, room-fewest, room-all}
+use Rattle.call_room.proofs.Means.{room_enough, room_fewest, room_all}
 use Rattle.promises.specs.Room.{RoomIsTold}
 
 -- a refusal's number
@@ -33,22 +33,22 @@ known_is M I k (Known t) a z = (t, refl)
 known_is M I k (Refused x) a z = absurd (not_accepted (refusal_number x) (room_in (geo_at M I) I k) (a ∙ reply-none _ z))
 
 -- the tree's free blocks are the clear ones
-free-is : (M : Mount) (I : List ℕ) (w : WellFormed M I) → clears (geo_at M I) I ≡ free_blocks (geo_at M I) max_depth w.tree
-free-is M I w =
+free_is : (M : Mount) (I : List ℕ) (w : WellFormed M I) → clears (geo_at M I) I ≡ free_blocks (geo_at M I) max_depth w.tree
+free_is M I w =
     let v : Volume (geo_at M I) I max_depth w.tree =
     subst (λ (g : Geo). Volume g I max_depth w.tree) (well_formed_geo M I w) w.volume in
-    volume-clears (geo_at M I) I max_depth w.tree v
+    volume_clears (geo_at M I) I max_depth w.tree v
 
-pub room-is-told : RoomIsTold
-room-is-told =
+pub room_is_told : RoomIsTold
+room_is_told =
     record {
-      enough = λ M I k t a. let r = room-enough M I k t a in (λ e. omega (arith, r.0 e), λ h. r.1 (omega arith));
+      enough = λ M I k t a. let r = room_enough M I k t a in (λ e. omega (arith, r.0 e), λ h. r.1 (omega arith));
       fewest = λ M I k t a e.
-          let r = room-fewest M I k t a e in (omega (arith, r.0), λ m o. omega (arith, r.1 m (omega arith)));
-      all = λ M I k t a e. room-all M I k t a e;
+          let r = room_fewest M I k t a e in (omega (arith, r.0), λ m o. omega (arith, r.1 m (omega arith)));
+      all = λ M I k t a e. room_all M I k t a e;
       free = λ M I k t a w.
-          let r = room-enough M I k t a in
-          let n = ap length (free-is M I w) in
+          let r = room_enough M I k t a in
+          let n = ap length (free_is M I w) in
           (λ e. omega (arith, r.0 e, n), λ h. r.1 (omega (arith, n)));
       refusal = λ M I k r j a e. refusal_is (open_refusal M I) (room_in (geo_at M I) I k) j (sym e ∙ a);
       known = known_is;

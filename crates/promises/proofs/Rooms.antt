@@ -15,7 +15,7 @@ use Rattle.model.specs.Geometry.{Mount, Geo, geo_at}
 use Rattle.model.specs.Volume.{WellFormed, max_depth}
 use Rattle.model.specs.Calls.{free_blocks}
 use Rattle.model.specs.Steps.{Bytes}
-use Rattle.model.proofs.Replies.{not_accepted, refused-one, given_yes, given-no, and_then_ok, and_then-no, first-refused, reply_suc}
+use Rattle.model.proofs.Replies.{not_accepted, refused-one, given_yes, given_no, and_then_ok, and_then_no, first_refused, reply_suc}
 use Rattle.check_bitmap.specs.Tally.{mark_long}
 use Rattle.dir_entry.specs.declared.Kind.{Kind}
 use Rattle.dir_entry.specs.declared.Kind.TheVariants as kind
@@ -24,7 +24,7 @@ use Rattle.path.specs.Path.{bad_path}
 use Rattle.thm_path.specs.Shown.{way_to}
 use Rattle.create.specs.Creating.{Fresh, bad_name}
 use Rattle.create.specs.OnTree.{tree_refusal}
-use Rattle.create.proofs.Trees.{tree-full}
+use Rattle.create.proofs.Trees.{tree_full}
 use Rattle.handle.specs.declared.Handle.{Handle}
 use Rattle.handle.specs.declared.CountedOut.{CountedOut}
 use Rattle.write.specs.OnTree.{NoRoom}
@@ -37,18 +37,18 @@ use Rattle.call_volume.specs.Says.{says}
 use Rattle.call_read.specs.Reading.{open_says}
 use Rattle.call_change.specs.Changing.{fresh_handle, CreatesFile, CreatesDir, Writes}
 use Rattle.thm_calls.specs.Named.{way_of, last_of}
-use Rattle.thm_calls.proofs.Changing.{volume-at}
+use Rattle.thm_calls.proofs.Changing.{volume_at}
 use Rattle.promises.specs.Honest.{CreateFull}
 use Rattle.promises.specs.Refusals.{fresh_in, create_answer}
-use Rattle.promises.proofs.Spots.{way-found, way-number, found-way}
+use Rattle.promises.proofs.Spots.{way_found, way_number, found_way}
 use Rattle.promises.proofs.Creates.{creates_file, creates_dir}
-use Rattle.promises.proofs.Handles.{write-says}
+use Rattle.promises.proofs.Handles.{write_says}
 
 -- the number of a refused answer
-reply-number : {A : Type 0} (j k : ℕ) (a : A) → reply j a ≡ refused k → j ≡ k
+reply_number : {A : Type 0} (j k : ℕ) (a : A) → reply j a ≡ refused k → j ≡ k
 unfolding reply
-reply-number zero k a e = absurd (not_accepted k a (sym e))
-reply-number (suc j) k a e = refused-one (suc j) k e
+reply_number zero k a e = absurd (not_accepted k a (sym e))
+reply_number (suc j) k a e = refused-one (suc j) k e
 
 -- a new directory is not at depth 17 where the one that holds it has a level left
 not_deep : (k : Kind) (d : ℕ) → (is_dir k && eqb d 0) ≡ false → k ≡ kind.Dir → 1 ≤ d
@@ -89,37 +89,37 @@ module _ (g : Geo) (k : Kind) (cwd p : List ℕ) (good : bad_path cwd p ≡ fals
           (sym (given_yes 8 (and_then (way_to max_depth (way_of cwd p) t) in_dir) (omega arith) b) ∙ e) in
           absurd (omega arith)
       go (inr b) (refused j) w =
-          absurd (stopped j (way-number max_depth (way_of cwd p) t j w)
+          absurd (stopped j (way_number max_depth (way_of cwd p) t j w)
           (refused-one {A = Fresh} j 9 (sym
-          (given-no 8 (and_then (way_to max_depth (way_of cwd p) t) in_dir) b ∙ and_then-no j in_dir w) ∙ e)))
+          (given_no 8 (and_then (way_to max_depth (way_of cwd p) t) in_dir) b ∙ and_then_no j in_dir w) ∙ e)))
       go (inr b) (accepted s) w =
-          let n : tests s ≡ 9 = reply-number (tests s) 9 _
-          (sym (given-no 8 (and_then (way_to max_depth (way_of cwd p) t) in_dir) b ∙ and_then_ok s in_dir w) ∙ e) in
-          let q = (tree-full g (free_blocks g max_depth t) k (last_of cwd p) s).0 n in
+          let n : tests s ≡ 9 = reply_number (tests s) 9 _
+          (sym (given_no 8 (and_then (way_to max_depth (way_of cwd p) t) in_dir) b ∙ and_then_ok s in_dir w) ∙ e) in
+          let q = (tree_full g (free_blocks g max_depth t) k (last_of cwd p) s).0 n in
           record {
             may = record {
               named = b;
-              vacant = record { dir = s; there = way-found max_depth (way_of cwd p) t s w; free = q.1 };
+              vacant = record { dir = s; there = way_found max_depth (way_of cwd p) t s w; free = q.1 };
               shallow = λ z. omega (arith, not_deep k s.0 q.0 z);
             };
             few = omega (arith, q.2);
           }
 
-  full-to : Full → named ≡ refused 9
-  full-to f =
+  full_to : Full → named ≡ refused 9
+  full_to f =
       let s : Some = f.may.vacant.dir in
       let n : tests s ≡ 9
-      = (tree-full g (free_blocks g max_depth t) k (last_of cwd p) s).1
+      = (tree_full g (free_blocks g max_depth t) k (last_of cwd p) s).1
       (deep_not k s.0 (λ z. omega (arith, f.may.shallow z)), f.may.vacant.free, omega (arith, f.few)) in
-      given-no 8 _ f.may.named ∙ and_then_ok s in_dir (found-way max_depth (way_of cwd p) t s f.may.vacant.there)
+      given_no 8 _ f.may.named ∙ and_then_ok s in_dir (found_way max_depth (way_of cwd p) t s f.may.vacant.there)
       ∙ ap (λ (j : ℕ). reply j (fresh_in g (last_of cwd p) (free_blocks g max_depth t) s)) n ∙ reply_suc 9 _ (omega arith)
 
   -- 9 exactly where there is no room, whatever is made of the blocks that are answered
   full_is : {A : Type 0} (f : Fresh → A) → (and_then (create_answer g k cwd p t) (λ x. accepted (f x)) ≡ refused 9) ↔ Full
   unfolding create_answer
   full_is f = (
-    λ e. full_from (sym (given-no 4 named good) ∙ first-refused (given (when 4 (bad_path cwd p)) named) f 9 e),
-    λ h. and_then-no 9 _ (given-no 4 named good ∙ full-to h),
+    λ e. full_from (sym (given_no 4 named good) ∙ first_refused (given (when 4 (bad_path cwd p)) named) f 9 e),
+    λ h. and_then_no 9 _ (given_no 4 named good ∙ full_to h),
   )
 
 -- ---- the calls
@@ -128,10 +128,10 @@ module _ (M : Mount) (I W : List ℕ) (b : Bytes I) (w : WellFormed M I) (long :
   pub write_full : (h : Handle) (buf : List ℕ) (now : ℕ) (o : CountedOut) (J Z : List ℕ) → Writes M I W h buf now o J Z
       → (counted_says o.answer ≡ refused 9) ↔ NoRoom (geo_at M I) max_depth w.tree h (length buf)
   write_full h buf now o J Z c =
-      let r = no_room_lem (geo_at M I) I w.tree (volume-at M I w) h (length buf) in
-      let says = write-says M I W b w long h buf now o J Z c in (
-        λ e. r.0 (first-refused (target_of (geo_at M I) I h (length buf)) (λ x. length buf) 9 (sym says ∙ e)),
-        λ n. says ∙ and_then-no 9 (λ x. accepted (length buf)) (r.1 n),
+      let r = no_room_lem (geo_at M I) I w.tree (volume_at M I w) h (length buf) in
+      let says = write_says M I W b w long h buf now o J Z c in (
+        λ e. r.0 (first_refused (target_of (geo_at M I) I h (length buf)) (λ x. length buf) 9 (sym says ∙ e)),
+        λ n. says ∙ and_then_no 9 (λ x. accepted (length buf)) (r.1 n),
       )
 
   module _ (cwd p : List ℕ) (good : bad_path cwd p ≡ false) (now : ℕ) where

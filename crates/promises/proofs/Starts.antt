@@ -7,11 +7,11 @@ use Rattle.model.specs.Tree.{Name, Cell, Node, file, device, sub, Entry, Tree, t
 use Rattle.model.specs.Tree.{Some, find}
 use Rattle.model.specs.Render.{blocks_at}
 use Rattle.model.specs.Calls.{DirAt, refiled, rewritten}
-use Rattle.model.proofs.Alike.{change-at}
-use Rattle.model.proofs.Cuts.{edit-below-at}
-use Rattle.model.proofs.Edits.{renewed-name, refiled-name}
+use Rattle.model.proofs.Alike.{change_at}
+use Rattle.model.proofs.Cuts.{edit_below_at}
+use Rattle.model.proofs.Edits.{renewed_name, refiled_name}
 use Rattle.model.proofs.Lists.{not_some, then_some}
-use Rattle.promises.proofs.Others.{lookup-kept, renew-inside}
+use Rattle.promises.proofs.Others.{lookup_kept, renew_inside}
 
 -- where the directory at a path starts
 abbrev start_at : (d : ℕ) → List Name → Tree d → Option ℕ
@@ -42,15 +42,15 @@ module _ (n : Name) (now z : ℕ) (cs : List Cell) where
   refile x = refiled now z cs x.name x.time x.node
 
   -- a file's renewal keeps every directory
-  refiled-inside : {X R : Type 0} (o : X → Option R) (m : Name) (k : ℕ) (x : Node X)
+  refiled_inside : {X R : Type 0} (o : X → Option R) (m : Name) (k : ℕ) (x : Node X)
       → inside o (refiled now z cs m k x).node ≡ inside o x
   unfolding refiled inside
-  refiled-inside o m k (file y ds) = refl
-  refiled-inside o m k (device y ds) = refl
-  refiled-inside o m k (sub y) = refl
+  refiled_inside o m k (file y ds) = refl
+  refiled_inside o m k (device y ds) = refl
+  refiled_inside o m k (sub y) = refl
 
   start-change : (d : ℕ) (t : Tree d) → start_at d [] (change n refile t) ≡ start_at d [] t
-  start-change d t = start-nil d (change n refile t) ∙ ap (λ (b : ℕ). some b) (change-at n refile t) ∙ sym (start-nil d t)
+  start-change d t = start-nil d (change n refile t) ∙ ap (λ (b : ℕ). some b) (change_at n refile t) ∙ sym (start-nil d t)
 
   start-edit : (d : ℕ) (p q : List Name) (t : Tree d)
       → start_at d q (edit d p (λ k. k) (λ e bs. change n refile bs) t) ≡ start_at d q t
@@ -61,33 +61,33 @@ module _ (n : Name) (now z : ℕ) (cs : List Cell) where
   start-edit (suc d) [] [] t = start-change (suc d) t
   start-edit (suc d) [] (a ∷ q) t =
       start-cons d a q _
-      ∙ lookup-kept n a refile (λ x. refiled-name now z cs x.name x.time x.node) (λ e. inside (start_at d q) e.node) t
-      (λ e l k. refiled-inside (start_at d q) e.name e.time e.node)
+      ∙ lookup_kept n a refile (λ x. refiled_name now z cs x.name x.time x.node) (λ e. inside (start_at d q) e.node) t
+      (λ e l k. refiled_inside (start_at d q) e.name e.time e.node)
       ∙ sym (start-cons d a q t)
   start-edit (suc d) (b ∷ p) [] t =
       start-nil (suc d) _
-      ∙ ap (λ (x : ℕ). some x) (edit-below-at (suc d) b p (λ k. k) (λ e bs. change n refile bs) t)
+      ∙ ap (λ (x : ℕ). some x) (edit_below_at (suc d) b p (λ k. k) (λ e bs. change n refile bs) t)
       ∙ sym (start-nil (suc d) t)
   start-edit (suc d) (b ∷ p) (a ∷ q) t =
       start-cons d a q _
-      ∙ lookup-kept b a (renewed (edit d p (λ k. k) (λ e bs. change n refile bs)) (at_end p (λ k. k))) (renewed-name _ _)
+      ∙ lookup_kept b a (renewed (edit d p (λ k. k) (λ e bs. change n refile bs)) (at_end p (λ k. k))) (renewed_name _ _)
       (λ e. inside (start_at d q) e.node) t
-      (λ e l k. renew-inside (start_at d q) (edit d p (λ k. k) (λ e bs. change n refile bs)) (at_end p (λ k. k)) e.name e.time
+      (λ e l k. renew_inside (start_at d q) (edit d p (λ k. k) (λ e bs. change n refile bs)) (at_end p (λ k. k)) e.name e.time
       e.node (λ y i. start-edit d p q y))
       ∙ sym (start-cons d a q t)
 
-start-dir : (d a : ℕ) (q : List Name) (t : Tree d) → start_at d q t ≡ some a → DirAt d a q t
+start_dir : (d a : ℕ) (q : List Name) (t : Tree d) → start_at d q t ≡ some a → DirAt d a q t
 unfolding then
-start-dir d a q t h = go (find d q t) refl h
+start_dir d a q t h = go (find d q t) refl h
   where
     go : (o : Option Some) → find d q t ≡ o → then o (λ s. some (blocks_at s.1)) ≡ some a → DirAt d a q t
     go none f e = absurd (not_some refl e)
     go (some s) f e = record { dir = s; there = f; starts = cc }
 
 -- A directory that is there before a write is there after it.
-pub dir-stays : (d a : ℕ) (p q : List Name) (n : Name) (now z : ℕ) (cs : List Cell) (t : Tree d) → DirAt d a q t
+pub dir_stays : (d a : ℕ) (p q : List Name) (n : Name) (now z : ℕ) (cs : List Cell) (t : Tree d) → DirAt d a q t
     → DirAt d a q (rewritten d p n now z cs t)
 unfolding rewritten
-dir-stays d a p q n now z cs t s =
-    start-dir d a q _ (start-edit n now z cs d p q t ∙ then_some (λ x. some (blocks_at x.1)) s.there
+dir_stays d a p q n now z cs t s =
+    start_dir d a q _ (start-edit n now z cs d p q t ∙ then_some (λ x. some (blocks_at x.1)) s.there
     ∙ ap (λ (b : ℕ). some b) s.starts)

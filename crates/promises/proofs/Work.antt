@@ -6,15 +6,15 @@ use Rattle.model.specs.Calls.{empty_cell}
 use Rattle.thm_calls.specs.Handles.{HandleOf}
 use Rattle.thm_calls.specs.Named.{last_of}
 use Rattle.promises.specs.Work.{WorkIsDone}
-use Rattle.promises.proofs.Answered.{value-said, value-is, success_said}
+use Rattle.promises.proofs.Answered.{value_said, value_is, success_said}
 use Rattle.promises.proofs.Done.{write_then_read, write_leaves}
 use Rattle.promises.proofs.Patched.{patch_then_read, patch_leaves}
 use Rattle.promises.proofs.Reopened.{open_then_read}
 use Rattle.promises.proofs.CreateLeaves.{create_file_leaves, create_dir_leaves, create_changes}
 use Rattle.promises.proofs.Gone.{delete_leaves}
 
-pub work-is-done : WorkIsDone
-work-is-done =
+pub work_is_done : WorkIsDone
+work_is_done =
     record {
       write_then_read = λ M I W h buf now o J Z c k e clock name w. write_then_read M I W h buf now o J Z c k e clock w name;
       write_leaves = write_leaves;
@@ -22,16 +22,16 @@ work-is-done =
       patch_leaves = λ M I W h buf now o J Z c k e clock w v. patch_leaves M I W h buf now o J Z c k e w clock v;
       open_then_read = open_then_read;
       create_file_leaves = λ M I W cwd p now o J Z c h e clock w v.
-          let r = create_file_leaves M I W cwd p now o J Z c (value-said o.answer o.handle h e) clock w v in (
+          let r = create_file_leaves M I W cwd p now o J Z c (value_said o.answer o.handle h e) clock w v in (
             r.0,
             r.1,
             r.2,
             r.3,
             subst (HandleOf r.1 (last_of cwd p) 0 (empty_cell (geo_at M I) r.0 ∷ []))
-                (value-is o.answer o.handle h e) r.4,
+                (value_is o.answer o.handle h e) r.4,
           );
       create_dir_leaves = λ M I W cwd p now r J Z c e. create_dir_leaves M I W cwd p now r J Z c (success_said r e);
       create_changes = λ M I W cwd p now o J Z c h e clock w. create_changes M I W cwd p now o J Z c w clock
-          (value-said o.answer o.handle h e);
+          (value_said o.answer o.handle h e);
       delete_leaves = λ M I W cwd p now r J Z c e clock w. delete_leaves M I W cwd p now r J Z c w clock (success_said r e);
     }

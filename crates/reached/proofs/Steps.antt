@@ -23,8 +23,8 @@ use Rattle.read_dir.specs.declared.Step.{Step}
 use Rattle.read_dir.specs.declared.Step.TheVariants as step
 use Rattle.read_dir.specs.Walk.{walk}
 use Rattle.read_dir.specs.Cursor.{start, cursor_walk, on_step, Stepped, items, at_offset, len_of}
-use Rattle.read_dir.proofs.Passes.{len-ends, pass_none, pass_more}
-use Rattle.read_dir.proofs.Along.{start-walk, passed-less}
+use Rattle.read_dir.proofs.Passes.{len_ends, pass_none, pass_more}
+use Rattle.read_dir.proofs.Along.{start-walk, passed_less}
 use Rattle.reached.specs.Reach.{if_dir, on_dir, any_in, reaches}
 use Rattle.reached.specs.Passing.{PassedFiles, SteppedDir}
 
@@ -36,9 +36,9 @@ module _ (A : Area) (I : List ℕ) (target : ℕ) where
   reach_here zero a e = sym (eq-eqb target a e)
   reach_here (suc d) a e = sym (pick_true true _ (eq-eqb target a e))
 
-  pub reach-last : (d a : ℕ) → (target ≡ a → ⊥) → d ≡ 0 → false ≡ reaches A I target d a
+  pub reach_last : (d a : ℕ) → (target ≡ a → ⊥) → d ≡ 0 → false ≡ reaches A I target d a
   unfolding reaches
-  reach-last d a e z = sym (ap (λ (k : ℕ). reaches A I target k a) z ∙ ne_eqb target a e)
+  reach_last d a e z = sym (ap (λ (k : ℕ). reaches A I target k a) z ∙ ne_eqb target a e)
 
   -- elsewhere it is what the walk says, a level further down
   reach-walk : (d m a : ℕ) → (target ≡ a → ⊥) → (d ≡ 0 → ⊥) → m ≡ d - 1 → reaches A I target d a ≡ any_in (on_dir (reaches A I target m)) (walk A I a)
@@ -50,9 +50,9 @@ module _ (A : Area) (I : List ℕ) (target : ℕ) where
 -- ---- over entries that are no directory's
 
 -- the kind of a byte, as code compares it
-kind-byte : (b : ℕ) → is_dir (kind_at b) ≡ eqb b 0
+kind_byte_lem : (b : ℕ) → is_dir (kind_at b) ≡ eqb b 0
 unfolding kind_at
-kind-byte b = go (either (eqb b 0))
+kind_byte_lem b = go (either (eqb b 0))
   where
     go : (eqb b 0 ≡ true) ⊎ (eqb b 0 ≡ false) → is_dir (pick (eqb b 0) Dir (pick (eqb b 1) File Device)) ≡ eqb b 0
     go (inl y) = ap is_dir (pick_true _ _ y) ∙ sym y
@@ -60,21 +60,21 @@ kind-byte b = go (either (eqb b 0))
         ap is_dir (pick_false _ _ y)
         ∙ pick_case (λ (k : Kind). is_dir k ≡ false) (eqb b 1) File Device (λ _. refl) (λ _. refl) ∙ sym y
 
-pub dir-byte : (I : List ℕ) (at q : ℕ) → at ≡ q → eqb (get_or I at 0) 0 ≡ is_dir (kind_at (get_or I q 0))
-dir-byte I at q e = ap (λ (k : ℕ). eqb (get_or I k 0) 0) e ∙ sym (kind-byte (get_or I q 0))
+pub dir_byte : (I : List ℕ) (at q : ℕ) → at ≡ q → eqb (get_or I at 0) 0 ≡ is_dir (kind_at (get_or I q 0))
+dir_byte I at q e = ap (λ (k : ℕ). eqb (get_or I k 0) 0) e ∙ sym (kind_byte_lem (get_or I q 0))
 
-kind-leads : (k : Kind) (y : Bool) → is_dir k ≡ false → if_dir k y ≡ false
-kind-leads Dir y z = absurd (not_both refl z)
-kind-leads File y z = refl
-kind-leads Device y z = refl
+kind_leads : (k : Kind) (y : Bool) → is_dir k ≡ false → if_dir k y ≡ false
+kind_leads Dir y z = absurd (not_both refl z)
+kind_leads File y z = refl
+kind_leads Device y z = refl
 
-file-leads : (I : List ℕ) (at : ℕ) (f : ℕ → Bool) (e : DirEntry) → e ≡ entry_at I at → is_dir (kind_at (get_or I at 0)) ≡ false
+file_leads : (I : List ℕ) (at : ℕ) (f : ℕ → Bool) (e : DirEntry) → e ≡ entry_at I at → is_dir (kind_at (get_or I at 0)) ≡ false
     → on_dir f e ≡ false
 unfolding on_dir entry_at
-file-leads I at f e u z = ap (on_dir f) u ∙ kind-leads (kind_at (get_or I at 0)) (f (be 4 I (at + 1))) z
+file_leads I at f e u z = ap (on_dir f) u ∙ kind_leads (kind_at (get_or I at 0)) (f (be 4 I (at + 1))) z
 
-pub head-within : (B : ℕ) (I : List ℕ) (a o n : ℕ) → n ≡ len_of (slot_at B I a o) → (n ≡ 0 → ⊥) → o + 22 < B
-head-within B I a o n q z = omega (arith, len-ends B I a o n q z)
+pub head_within : (B : ℕ) (I : List ℕ) (a o n : ℕ) → n ≡ len_of (slot_at B I a o) → (n ≡ 0 → ⊥) → o + 22 < B
+head_within B I a o n q z = omega (arith, len_ends B I a o n q z)
 
 module _ (A : Area) (I : List ℕ) (c : ReadDir) where
   pub files_none : PassedFiles A I c c
@@ -91,16 +91,16 @@ files_again A I c o n t p u v r z y k =
     record {
       all = λ f.
           pass_more A I (any_in (on_dir f)) c o n (p.all f) u v r z
-          (λ e x w w₁ m. pick_false true _ (file-leads I (place_at A.size c.block.0 o) f e w₁ (sym y ∙ k)));
+          (λ e x w w₁ m. pick_false true _ (file_leads I (place_at A.size c.block.0 o) f e w₁ (sym y ∙ k)));
     }
 
-pub step-dir : (A : Area) (I : List ℕ) (c d : ReadDir) (m : Step) → PassedFiles A I c d → Stepped A I d m → SteppedDir A I c m
-step-dir A I c d m p w = record { from = d; passed = p; stepped = w }
+pub step_dir : (A : Area) (I : List ℕ) (c d : ReadDir) (m : Step) → PassedFiles A I c d → Stepped A I d m → SteppedDir A I c m
+step_dir A I c d m p w = record { from = d; passed = p; stepped = w }
 
-pub dir-less : (A : Area) (I : List ℕ) (c : ReadDir) (m : Step) (e : DirEntry) (p : Place) (k : ReadDir) → SteppedDir A I c m
+pub dir_less : (A : Area) (I : List ℕ) (c : ReadDir) (m : Step) (e : DirEntry) (p : Place) (k : ReadDir) → SteppedDir A I c m
     → m ≡ step.Entry e p k → items (cursor_walk A I k) < items (cursor_walk A I c)
-dir-less A I c m e p k w g =
-    passed-less A I w.from m w.stepped (any_in (on_dir (λ _. false))) c e p k (w.passed.all (λ _. false)) g
+dir_less A I c m e p k w g =
+    passed_less A I w.from m w.stepped (any_in (on_dir (λ _. false))) c e p k (w.passed.all (λ _. false)) g
 
 -- ---- along the walk
 
@@ -116,39 +116,39 @@ module _ (A : Area) (I : List ℕ) (c : ReadDir) (m : Step) (w : SteppedDir A I 
       sym (ap (any_in (on_dir (reaches A I target d))) (w.stepped.walked ∙ ap (on_step A I) g))
       ∙ (w.passed.all (reaches A I target d)).says ∙ inv
 
-  pub rest-again : (e : DirEntry) (p : Place) (k : ReadDir) (t : Bool) → m ≡ step.Entry e p k → t ≡ on_dir (reaches A I target d) e → t ≡ false
+  pub rest_again : (e : DirEntry) (p : Place) (k : ReadDir) (t : Bool) → m ≡ step.Entry e p k → t ≡ on_dir (reaches A I target d) e → t ≡ false
       → rest A I target d k ≡ rest A I target d c₀
   unfolding rest any_in
-  rest-again e p k t g h f = sym (pick_false true _ (sym h ∙ f)) ∙ found (step.Entry e p k) g
+  rest_again e p k t g h f = sym (pick_false true _ (sym h ∙ f)) ∙ found (step.Entry e p k) g
 
   module _ (depth : ℕ) (dir : Addr) (b : c₀ ≡ start A dir) (o : target ≡ dir.0 → ⊥) (z : depth ≡ 0 → ⊥) (l : d ≡ depth - 1) where
     whole : rest A I target d c₀ ≡ reaches A I target depth dir.0
     unfolding rest
     whole = ap (any_in (on_dir (reaches A I target d))) (start-walk A I c₀ dir b) ∙ sym (reach-walk A I target depth d dir.0 o z l)
 
-    pub rest-hit : (e : DirEntry) (p : Place) (k : ReadDir) (t : Bool) → m ≡ step.Entry e p k → t ≡ on_dir (reaches A I target d) e → t ≡ true
+    pub rest_hit : (e : DirEntry) (p : Place) (k : ReadDir) (t : Bool) → m ≡ step.Entry e p k → t ≡ on_dir (reaches A I target d) e → t ≡ true
         → true ≡ reaches A I target depth dir.0
     unfolding any_in
-    rest-hit e p k t g h f = sym (pick_true true _ (sym h ∙ f)) ∙ found (step.Entry e p k) g ∙ whole
+    rest_hit e p k t g h f = sym (pick_true true _ (sym h ∙ f)) ∙ found (step.Entry e p k) g ∙ whole
 
     pub rest_end : m ≡ step.End → false ≡ reaches A I target depth dir.0
     unfolding any_in
     rest_end g = found step.End g ∙ whole
 
-    pub rest-bad : m ≡ step.Damaged → false ≡ reaches A I target depth dir.0
+    pub rest_bad : m ≡ step.Damaged → false ≡ reaches A I target depth dir.0
     unfolding any_in
-    rest-bad g = found step.Damaged g ∙ whole
+    rest_bad g = found step.Damaged g ∙ whole
 
 -- ---- an entry
 
 module _ (f : ℕ → Bool) (e : DirEntry) where
-  pub entry-file : e.kind ≡ File → false ≡ on_dir f e
+  pub entry_file : e.kind ≡ File → false ≡ on_dir f e
   unfolding on_dir
-  entry-file k = sym (ap (λ (x : Kind). if_dir x (f e.addr.0)) k)
+  entry_file k = sym (ap (λ (x : Kind). if_dir x (f e.addr.0)) k)
 
-  pub entry-device : e.kind ≡ Device → false ≡ on_dir f e
+  pub entry_device : e.kind ≡ Device → false ≡ on_dir f e
   unfolding on_dir
-  entry-device k = sym (ap (λ (x : Kind). if_dir x (f e.addr.0)) k)
+  entry_device k = sym (ap (λ (x : Kind). if_dir x (f e.addr.0)) k)
 
   pub entry_down : (r : Bool) → e.kind ≡ Dir → r ≡ f e.addr.0 → r ≡ on_dir f e
   unfolding on_dir

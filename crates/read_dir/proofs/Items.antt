@@ -36,26 +36,26 @@ pub record Item (A : Area) (I : List ℕ) (e : DirEntry) (a o : ℕ) (x : List �
   pub name : x ≡ name_at I (place_at A.size a o) e.len
 
 module _ (A : Area) (I : List ℕ) where
-  entries-each : (a : ℕ) (w : Walk) → A.first ≤ a → a < A.end → Each (Item A I) w → (f o : ℕ) → Each (Item A I) (entries_from A I f a o w)
+  entries_each : (a : ℕ) (w : Walk) → A.first ≤ a → a < A.end → Each (Item A I) w → (f o : ℕ) → Each (Item A I) (entries_from A I f a o w)
   unfolding shown
-  entries-each a w h l i =
+  entries_each a w h l i =
       entries_ind A I a w (λ o v. Each (Item A I) v) (λ o. i)
       (λ o e v p q.
       pick_case (Each (Item A I)) (eqb e.addr.0 0) _ _ (λ _. q)
       (λ z. (record { from = h; below = l; stands = p; address = eqb-false _ _ z; name = refl }, q)))
 
-  pub chain-each : (k a : ℕ) → Each (Item A I) (chain_from A I k a)
-  chain-each =
+  pub chain_each : (k a : ℕ) → Each (Item A I) (chain_from A I k a)
+  chain_each =
       chain_ind A I (λ k a w. Each (Item A I) w) (λ k a. tt)
-      (λ k a h l z. entries-each a finished h l tt A.size 0)
-      (λ k a w h l z q. entries-each a w h l q A.size 0)
+      (λ k a h l z. entries_each a finished h l tt A.size 0)
+      (λ k a w h l z q. entries_each a w h l q A.size 0)
 
 -- ---- an answer of a lookup
 
 -- What holds of each entry holds of the one that is found, under the name asked for;
-found-each : (P : DirEntry → ℕ → ℕ → List ℕ → Type 0) (name : List ℕ) (w : Walk) (e : DirEntry) (p : Place) → Each P w → find_in name w ≡ found.At e p → P e p.block.0 p.offset name
+found_each : (P : DirEntry → ℕ → ℕ → List ℕ → Type 0) (name : List ℕ) (w : Walk) (e : DirEntry) (p : Place) → Each P w → find_in name w ≡ found.At e p → P e p.block.0 p.offset name
 unfolding find_in
-found-each P name (item d a o x w) e p i f = go (either (same x name)) (λ g. found-each P name w e p i.1 g)
+found_each P name (item d a o x w) e p i f = go (either (same x name)) (λ g. found_each P name w e p i.1 g)
   where
     go : (same x name ≡ true) ⊎ (same x name ≡ false) → (find_in name w ≡ found.At e p → P e p.block.0 p.offset name) → P e p.block.0 p.offset name
     go (inl t) ih =
@@ -67,12 +67,12 @@ found-each P name (item d a o x w) e p i f = go (either (same x name)) (λ g. fo
         let ro : o ≡ p.offset = ap (λ (y : Place). y.offset) qp in
         rw (← qe, ← ra, ← ro, ← qx) i.0
     go (inr t) ih = ih (sym (pick_false _ _ t) ∙ f)
-found-each P name finished e p i f = absurd (let z : ◌≡◌ {A = ℕ} 0 1 = cc in omega arith)
-found-each P name damaged e p i f = absurd (let z : ◌≡◌ {A = ℕ} 0 1 = cc in omega arith)
+found_each P name finished e p i f = absurd (let z : ◌≡◌ {A = ℕ} 0 1 = cc in omega arith)
+found_each P name damaged e p i f = absurd (let z : ◌≡◌ {A = ℕ} 0 1 = cc in omega arith)
 
 -- so it is an entry of the directory under that name.
-pub found-item : (A : Area) (I : List ℕ) (dir : ℕ) (name : List ℕ) (e : DirEntry) (p : Place) → find_in name (walk A I dir) ≡ found.At e p → Item A I e p.block.0 p.offset name
-found-item A I dir name e p f = found-each (Item A I) name (walk A I dir) e p (chain-each A I (A.end - A.first) dir) f
+pub found_item : (A : Area) (I : List ℕ) (dir : ℕ) (name : List ℕ) (e : DirEntry) (p : Place) → find_in name (walk A I dir) ≡ found.At e p → Item A I e p.block.0 p.offset name
+found_item A I dir name e p f = found_each (Item A I) name (walk A I dir) e p (chain_each A I (A.end - A.first) dir) f
 
 -- ---- a listing past the last entry
 

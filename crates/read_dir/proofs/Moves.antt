@@ -24,7 +24,7 @@ use Rattle.read_dir.specs.declared.ReadDir.{ReadDir}
 use Rattle.read_dir.specs.declared.Place.{Place}
 use Rattle.read_dir.specs.declared.Move.{Move}
 use Rattle.read_dir.specs.declared.Move.TheVariants as move
-use Rattle.read_dir.proofs.Unroll.{area_in_lem, area-low, area-high, area_true, entries_stop, entries_over, entries-item, onwards, onwards-end, onwards-go, chain-rest, rest-none, rest_in, rest_out}
+use Rattle.read_dir.proofs.Unroll.{area_in_lem, area_low, area_high, area_true, entries_stop, entries_over, entries_item, onwards, onwards_end, onwards_go, chain_rest, rest_none, rest_in, rest_out}
 
 -- ---- the ways out, as code has them
 
@@ -32,24 +32,24 @@ pub over_zero : (c : ReadDir) (e : DirEntry) → e.addr.0 ≡ 0 → move.Go (pas
 unfolding over_move
 over_zero c e z = sym (pick_true _ _ (eq-eqb _ _ z))
 
-pub over-entry : (c : ReadDir) (e : DirEntry) → (e.addr.0 ≡ 0 → ⊥) → move.Entry e (here c) (past c e) ≡ over_move c e
+pub over_entry : (c : ReadDir) (e : DirEntry) → (e.addr.0 ≡ 0 → ⊥) → move.Entry e (here c) (past c e) ≡ over_move c e
 unfolding over_move
-over-entry c e z = sym (pick_false _ _ (ne_eqb _ _ z))
+over_entry c e z = sym (pick_false _ _ (ne_eqb _ _ z))
 
 -- z and m are the size and the address of the linked block that code makes
 module _ (B : ℕ) (I : List ℕ) (c : ReadDir) (z m : ℕ) (to : Addr) (r : z ≡ B) (p : m ≡ c.block.0) (q : to.0 ≡ next z I m) where
-  to-next : to.0 ≡ next B I c.block.0
-  to-next = q ∙ ap (λ (x : ℕ). next x I m) r ∙ ap (next B I) p
+  to_next : to.0 ≡ next B I c.block.0
+  to_next = q ∙ ap (λ (x : ℕ). next x I m) r ∙ ap (next B I) p
 
-  pub hop-end : to.0 ≡ 0 → move.End ≡ hop_move B I c
+  pub hop_end : to.0 ≡ 0 → move.End ≡ hop_move B I c
   unfolding hop_move
-  hop-end y = sym (pick_true _ _ (eq-eqb _ _ (sym to-next ∙ y)))
+  hop_end y = sym (pick_true _ _ (eq-eqb _ _ (sym to_next ∙ y)))
 
-  pub hop-go : (to.0 ≡ 0 → ⊥) → move.Go (record { block = to; offset = 0; left = c.left - 1 }) ≡ hop_move B I c
+  pub hop_go : (to.0 ≡ 0 → ⊥) → move.Go (record { block = to; offset = 0; left = c.left - 1 }) ≡ hop_move B I c
   unfolding hop_move
-  hop-go y =
-      ap (λ (x : ℕ). move.Go (record { block = record { 0 = x }; offset = 0; left = c.left - 1 })) to-next
-      ∙ sym (pick_false _ _ (ne_eqb _ _ (λ e. y (to-next ∙ e))))
+  hop_go y =
+      ap (λ (x : ℕ). move.Go (record { block = record { 0 = x }; offset = 0; left = c.left - 1 })) to_next
+      ∙ sym (pick_false _ _ (ne_eqb _ _ (λ e. y (to_next ∙ e))))
 
 module _ (A : Area) (I : List ℕ) (c : ReadDir) where
   pub move_spent : c.left ≡ 0 → move.Damaged ≡ move_at A I c
@@ -58,11 +58,11 @@ module _ (A : Area) (I : List ℕ) (c : ReadDir) where
 
   pub move_low : (c.left ≡ 0 → ⊥) → c.block.0 < A.first → move.Damaged ≡ move_at A I c
   unfolding move_at
-  move_low z h = sym (pick_false _ _ (ne_eqb _ _ z) ∙ pick_false _ _ (area-low A I c.block.0 h))
+  move_low z h = sym (pick_false _ _ (ne_eqb _ _ z) ∙ pick_false _ _ (area_low A I c.block.0 h))
 
   pub move_high : (c.left ≡ 0 → ⊥) → A.end ≤ c.block.0 → move.Damaged ≡ move_at A I c
   unfolding move_at
-  move_high z h = sym (pick_false _ _ (ne_eqb _ _ z) ∙ pick_false _ _ (area-high A I c.block.0 h))
+  move_high z h = sym (pick_false _ _ (ne_eqb _ _ z) ∙ pick_false _ _ (area_high A I c.block.0 h))
 
   -- outside the area it is damage, whatever may be read
   move_out : in_area A I c.block.0 ≡ false → move.Damaged ≡ move_at A I c
@@ -87,8 +87,8 @@ module _ (A : Area) (I : List ℕ) (c : ReadDir) where
     pub move_entry : (e : DirEntry) → x ≡ slot.Entry e → r ≡ over_move c e → r ≡ move_at A I c
     move_entry e q g = g ∙ sym (decoded ∙ ap (on_decoded A.size I c) q)
 
-pub decoded-ends : (z : ℕ) {B : ℕ} (I : List ℕ) (a o : ℕ) (x : Slot) (e : DirEntry) → BlockSize B → z ≡ B → x ≡ slot_at z I a o → x ≡ slot.Entry e → o + 18 + e.len < 2 ^ 64
-decoded-ends z I a o x e s r p q = omega (arith, (slot_stands z I a o e (sym p ∙ q)).ends, s.most)
+pub decoded_ends : (z : ℕ) {B : ℕ} (I : List ℕ) (a o : ℕ) (x : Slot) (e : DirEntry) → BlockSize B → z ≡ B → x ≡ slot_at z I a o → x ≡ slot.Entry e → o + 18 + e.len < 2 ^ 64
+decoded_ends z I a o x e s r p q = omega (arith, (slot_stands z I a o e (sym p ∙ q)).ends, s.most)
 
 -- ---- what a move leaves to be walked
 
@@ -120,9 +120,9 @@ module _ (A : Area) (I : List ℕ) where
         go (inr t) =
             let y : e.addr.0 ≡ 0 → ⊥ = eqb-false _ _ t in
             rest_in A I c.left c.block.0 c.offset z h l
-            ∙ entries-item A I c.block.0 c.offset (onwards A I (c.left - 1) c.block.0) e p y
+            ∙ entries_item A I c.block.0 c.offset (onwards A I (c.left - 1) c.block.0) e p y
             ∙ ap (item e c.block.0 c.offset (name_at I (place_at A.size c.block.0 c.offset) e.len)) (sym (rest_in A I c.left c.block.0 (c.offset + header + e.len) z h l))
-            ∙ ap on_move (over-entry c e y)
+            ∙ ap on_move (over_entry c e y)
 
     hop_walks : slot_at A.size I c.block.0 c.offset ≡ slot.Stop → cursor_walk A I c ≡ on_move (hop_move A.size I c)
     hop_walks p =
@@ -133,13 +133,13 @@ module _ (A : Area) (I : List ℕ) where
         go : (eqb (next A.size I c.block.0) 0 ≡ true) ⊎ (eqb (next A.size I c.block.0) 0 ≡ false) → onwards A I (c.left - 1) c.block.0 ≡ on_move (hop_move A.size I c)
         go (inl t) =
             let y : next A.size I c.block.0 ≡ 0 = eqb-true _ _ t in
-            onwards-end A I (c.left - 1) c.block.0 y
-            ∙ ap on_move (hop-end A.size I c A.size c.block.0 (record { 0 = next A.size I c.block.0 }) refl refl refl y)
+            onwards_end A I (c.left - 1) c.block.0 y
+            ∙ ap on_move (hop_end A.size I c A.size c.block.0 (record { 0 = next A.size I c.block.0 }) refl refl refl y)
         go (inr t) =
             let y : next A.size I c.block.0 ≡ 0 → ⊥ = eqb-false _ _ t in
-            onwards-go A I (c.left - 1) c.block.0 y
-            ∙ chain-rest A I (c.left - 1) (next A.size I c.block.0)
-            ∙ ap on_move (hop-go A.size I c A.size c.block.0 (record { 0 = next A.size I c.block.0 }) refl refl refl y)
+            onwards_go A I (c.left - 1) c.block.0 y
+            ∙ chain_rest A I (c.left - 1) (next A.size I c.block.0)
+            ∙ ap on_move (hop_go A.size I c A.size c.block.0 (record { 0 = next A.size I c.block.0 }) refl refl refl y)
 
     slot_walks : (x : Slot) → slot_at A.size I c.block.0 c.offset ≡ x → cursor_walk A I c ≡ on_move (on_decoded A.size I c x)
     slot_walks (slot.Entry e) p = over_walks e p
@@ -158,7 +158,7 @@ module _ (A : Area) (I : List ℕ) where
       go : Dec (0 < c.left) → (in_area A I c.block.0 ≡ true) ⊎ (in_area A I c.block.0 ≡ false) → cursor_walk A I c ≡ on_move (move_at A I c)
       go (no p) t =
           let z : c.left ≡ 0 = omega arith in
-          rest-none A I c.left c.block.0 c.offset z ∙ ap on_move (move_spent A I c z)
+          rest_none A I c.left c.block.0 c.offset z ∙ ap on_move (move_spent A I c z)
       go (yes p) (inl t) =
           let q = area_true A I c.block.0 t in
           slot_walks c p q.0 q.1 (slot_at A.size I c.block.0 c.offset) refl ∙ ap on_move (sym (move_in A I c (omega arith) t))
@@ -180,9 +180,9 @@ module _ (A : Area) (I : List ℕ) where
 unfoldable pub moves : Area → ReadDir → ℕ
 moves A c = suc A.size * c.left + (A.size - c.offset)
 
-block-less : (B k : ℕ) → 0 < k → suc B * (k - 1) + suc B ≡ suc B * k
-block-less B zero h = absurd (omega arith)
-block-less B (suc k) h =
+block_less : (B k : ℕ) → 0 < k → suc B * (k - 1) + suc B ≡ suc B * k
+block_less B zero h = absurd (omega arith)
+block_less B (suc k) h =
     let e : suc k - 1 ≡ k = omega arith in
     rw e (sym (mul-suc (suc B) k))
 
@@ -198,7 +198,7 @@ module _ (A : Area) (I : List ℕ) (c : ReadDir) where
   slot_falls z (slot.Entry e) p =
       let l : c.offset + 18 + e.len ≤ A.size - 5 = (slot_stands A.size I c.block.0 c.offset e p).ends in
       pick_case (Falls A (moves A c)) (eqb e.addr.0 0) _ _ (λ _. omega arith) (λ _. tt)
-  slot_falls z slot.Stop p = pick_case (Falls A (moves A c)) (eqb (next A.size I c.block.0) 0) _ _ (λ _. tt) (λ _. omega (arith, block-less A.size c.left z))
+  slot_falls z slot.Stop p = pick_case (Falls A (moves A c)) (eqb (next A.size I c.block.0) 0) _ _ (λ _. tt) (λ _. omega (arith, block_less A.size c.left z))
 
   move_falls : Falls A (moves A c) (move_at A I c)
   move_falls = go (dec_lt 0 c.left) (either (in_area A I c.block.0))
@@ -211,22 +211,22 @@ module _ (A : Area) (I : List ℕ) (c : ReadDir) where
 
 -- how `next` goes along its moves: m is the move from c, and what remains from c is what remained from c₀
 module _ (A : Area) (I : List ℕ) (c₀ c : ReadDir) (m : Move) (e : m ≡ move_at A I c) where
-  pub go-less : (d : ReadDir) → m ≡ move.Go d → moves A d < moves A c
-  go-less d g = subst (Falls A (moves A c)) (sym e ∙ g) (move_falls A I c)
+  pub go_less : (d : ReadDir) → m ≡ move.Go d → moves A d < moves A c
+  go_less d g = subst (Falls A (moves A c)) (sym e ∙ g) (move_falls A I c)
 
   module _ (i : cursor_walk A I c ≡ cursor_walk A I c₀) where
     made : cursor_walk A I c₀ ≡ on_move A I m
     made = sym i ∙ unroll A I c ∙ ap (on_move A I) (sym e)
 
-    pub go-again : (d : ReadDir) → m ≡ move.Go d → cursor_walk A I d ≡ cursor_walk A I c₀
-    go-again d g = sym (made ∙ ap (on_move A I) g)
+    pub go_again : (d : ReadDir) → m ≡ move.Go d → cursor_walk A I d ≡ cursor_walk A I c₀
+    go_again d g = sym (made ∙ ap (on_move A I) g)
 
-    pub step-entry : (x : DirEntry) (p : Place) (d : ReadDir) → m ≡ move.Entry x p d → Stepped A I c₀ (step.Entry x p d)
-    step-entry x p d g =
+    pub step_entry : (x : DirEntry) (p : Place) (d : ReadDir) → m ≡ move.Entry x p d → Stepped A I c₀ (step.Entry x p d)
+    step_entry x p d g =
         record { walked = made ∙ ap (on_move A I) g; inside = subst (MoveIn A I) (sym e ∙ g) (move_lies A I c) }
 
     pub step_end : m ≡ move.End → Stepped A I c₀ step.End
     step_end g = record { walked = made ∙ ap (on_move A I) g; inside = tt }
 
-    pub step-damaged : m ≡ move.Damaged → Stepped A I c₀ step.Damaged
-    step-damaged g = record { walked = made ∙ ap (on_move A I) g; inside = tt }
+    pub step_damaged : m ≡ move.Damaged → Stepped A I c₀ step.Damaged
+    step_damaged g = record { walked = made ∙ ap (on_move A I) g; inside = tt }

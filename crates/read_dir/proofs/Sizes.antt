@@ -31,25 +31,25 @@ weigh finished = 0
 weigh damaged = 0
 
 -- The sum of a directory, where there is one.
-sum-weigh : (w : Walk) (s t : ℕ) → sum_from s w ≡ summed.Total t → t ≡ s + weigh w
+sum_weigh : (w : Walk) (s t : ℕ) → sum_from s w ≡ summed.Total t → t ≡ s + weigh w
 unfolding sum_from weigh
-sum-weigh (item e a o x w) s t p = omega (arith, sum-weigh w (s + (header + e.len)) t p)
-sum-weigh finished s t p = let q : s ≡ t = cc in omega arith
-sum-weigh damaged s t p = absurd (let z : ◌≡◌ {A = ℕ} 0 1 = cc in omega arith)
+sum_weigh (item e a o x w) s t p = omega (arith, sum_weigh w (s + (header + e.len)) t p)
+sum_weigh finished s t p = let q : s ≡ t = cc in omega arith
+sum_weigh damaged s t p = absurd (let z : ◌≡◌ {A = ℕ} 0 1 = cc in omega arith)
 
 module _ (A : Area) (I : List ℕ) where
   -- the entries of a block from offset o on
-  entries-weigh : (a : ℕ) (w : Walk) (f o : ℕ) → weigh (entries_from A I f a o w) ≤ (A.size - 5 - o) + weigh w
+  entries_weigh : (a : ℕ) (w : Walk) (f o : ℕ) → weigh (entries_from A I f a o w) ≤ (A.size - 5 - o) + weigh w
   unfolding shown weigh
-  entries-weigh a w =
+  entries_weigh a w =
       entries_ind A I a w (λ o v. weigh v ≤ (A.size - 5 - o) + weigh w) (λ o. omega arith)
       (λ o e v p h.
       let l : o + 18 + e.len ≤ A.size - 5 = (slot_stands A.size I a o e p).ends in
       pick_case (λ (u : Walk). weigh u ≤ (A.size - 5 - o) + weigh w) (eqb e.addr.0 0) _ _ (λ _. omega arith) (λ _. omega arith))
 
-  entries-count : (a : ℕ) (w : Walk) (f o : ℕ) → 19 * items (entries_from A I f a o w) ≤ (A.size - 5 - o) + 19 * items w
+  entries_count : (a : ℕ) (w : Walk) (f o : ℕ) → 19 * items (entries_from A I f a o w) ≤ (A.size - 5 - o) + 19 * items w
   unfolding shown items
-  entries-count a w =
+  entries_count a w =
       entries_ind A I a w (λ o v. 19 * items v ≤ (A.size - 5 - o) + 19 * items w) (λ o. omega arith)
       (λ o e v p h.
       let s = slot_stands A.size I a o e p in
@@ -58,19 +58,19 @@ module _ (A : Area) (I : List ℕ) where
       pick_case (λ (u : Walk). 19 * items u ≤ (A.size - 5 - o) + 19 * items w) (eqb e.addr.0 0) _ _ (λ _. omega arith) (λ _. omega arith))
 
   -- a chain of which k blocks may be read
-  chain-weigh : (k a : ℕ) → weigh (chain_from A I k a) ≤ (A.size - 5) * k
+  chain_weigh : (k a : ℕ) → weigh (chain_from A I k a) ≤ (A.size - 5) * k
   unfolding weigh
-  chain-weigh =
+  chain_weigh =
       chain_ind A I (λ k a w. weigh w ≤ (A.size - 5) * k) (λ k a. omega arith)
-      (λ k a h l z. omega (arith, entries-weigh a finished A.size 0, mul-suc (A.size - 5) k))
-      (λ k a w h l z q. omega (arith, entries-weigh a w A.size 0, mul-suc (A.size - 5) k))
+      (λ k a h l z. omega (arith, entries_weigh a finished A.size 0, mul-suc (A.size - 5) k))
+      (λ k a w h l z q. omega (arith, entries_weigh a w A.size 0, mul-suc (A.size - 5) k))
 
-  chain-count : (k a : ℕ) → 19 * items (chain_from A I k a) ≤ (A.size - 5) * k
+  chain_count : (k a : ℕ) → 19 * items (chain_from A I k a) ≤ (A.size - 5) * k
   unfolding items
-  chain-count =
+  chain_count =
       chain_ind A I (λ k a w. 19 * items w ≤ (A.size - 5) * k) (λ k a. omega arith)
-      (λ k a h l z. omega (arith, entries-count a finished A.size 0, mul-suc (A.size - 5) k))
-      (λ k a w h l z q. omega (arith, entries-count a w A.size 0, mul-suc (A.size - 5) k))
+      (λ k a h l z. omega (arith, entries_count a finished A.size 0, mul-suc (A.size - 5) k))
+      (λ k a w h l z q. omega (arith, entries_count a w A.size 0, mul-suc (A.size - 5) k))
 
 -- five bytes of each block hold no entry, so of blocks that make 32 bits together the entries make fewer
 pub bytes_fit : (B k n : ℕ) → k ≤ n → B * n ≤ 4294967296 → (B - 5) * k < 2 ^ 32
@@ -87,15 +87,15 @@ bytes_fit B (suc k) n h l = go (dec_lt B 5)
 
 -- so the numbers of a walk's entries fit 32 bits, and so does their sum.
 module _ (A : Area) (I : List ℕ) (a : ℕ) (h : A.size * A.end ≤ 4294967296) where
-  area-fits : (A.size - 5) * (A.end - A.first) < 2 ^ 32
-  area-fits = bytes_fit A.size (A.end - A.first) A.end (omega arith) h
+  area_fits : (A.size - 5) * (A.end - A.first) < 2 ^ 32
+  area_fits = bytes_fit A.size (A.end - A.first) A.end (omega arith) h
 
   pub count_fits : items (walk A I a) < 2 ^ 32
-  count_fits = omega (arith, chain-count A I (A.end - A.first) a, area-fits)
+  count_fits = omega (arith, chain_count A I (A.end - A.first) a, area_fits)
 
-  pub weigh-fits : weigh (walk A I a) < 2 ^ 32
-  weigh-fits = omega (arith, chain-weigh A I (A.end - A.first) a, area-fits)
+  pub weigh_fits : weigh (walk A I a) < 2 ^ 32
+  weigh_fits = omega (arith, chain_weigh A I (A.end - A.first) a, area_fits)
 
 -- The numbers of the entries that a listing from i on shows: past the last entry there is none.
-pub skip-fits : (i : ℕ) (w : Walk) → i < 2 ^ 32 → items w < 2 ^ 32 → i + items (skip i w) < 2 ^ 32
-skip-fits i w h k = omega (arith, skip_count i w)
+pub skip_fits : (i : ℕ) (w : Walk) → i < 2 ^ 32 → items w < 2 ^ 32 → i + items (skip i w) < 2 ^ 32
+skip_fits i w h k = omega (arith, skip_count i w)

@@ -23,11 +23,11 @@ module _ (A : Area) (I : List ℕ) (a : ℕ) where
   pub area_in_lem : A.first ≤ a → a < A.end → in_area A I a ≡ true
   area_in_lem h k = rw (le-leb _ _ h, lt-ltb _ _ k)
 
-  pub area-low : a < A.first → in_area A I a ≡ false
-  area-low h = rw (lt-leb _ _ h)
+  pub area_low : a < A.first → in_area A I a ≡ false
+  area_low h = rw (lt-leb _ _ h)
 
-  pub area-high : A.end ≤ a → in_area A I a ≡ false
-  area-high h = go (leb A.first a) (le-ltb a A.end h)
+  pub area_high : A.end ≤ a → in_area A I a ≡ false
+  area_high h = go (leb A.first a) (le-ltb a A.end h)
     where
       go : (t : Bool) {u : Bool} → u ≡ false → (t && u) ≡ false
       go true e = e
@@ -43,9 +43,9 @@ module _ (A : Area) (I : List ℕ) (a : ℕ) where
 
 -- ---- the entries of a block
 
-on-entry : (x : Slot) (e : DirEntry) (k : DirEntry → Walk) (w : Walk) → x ≡ Entry e → on_slot x k w ≡ k e
+on_entry_lem : (x : Slot) (e : DirEntry) (k : DirEntry → Walk) (w : Walk) → x ≡ Entry e → on_slot x k w ≡ k e
 unfolding on_slot
-on-entry x e k w p = rw p
+on_entry_lem x e k w p = rw p
 
 on_stop : (x : Slot) (k : DirEntry → Walk) (w : Walk) → x ≡ Stop → on_slot x k w ≡ w
 unfolding on_slot
@@ -61,9 +61,9 @@ module _ (A : Area) (I : List ℕ) where
   unfolding shown
   shown_zero e a o w z = pick_true _ _ (eq-eqb _ _ z)
 
-  shown-item : (e : DirEntry) (a o : ℕ) (w : Walk) → (e.addr.0 ≡ 0 → ⊥) → shown A I e a o w ≡ item e a o (name_at I (place_at A.size a o) e.len) w
+  shown_item : (e : DirEntry) (a o : ℕ) (w : Walk) → (e.addr.0 ≡ 0 → ⊥) → shown A I e a o w ≡ item e a o (name_at I (place_at A.size a o) e.len) w
   unfolding shown
-  shown-item e a o w z = pick_false _ _ (ne_eqb _ _ z)
+  shown_item e a o w z = pick_false _ _ (ne_eqb _ _ z)
 
   past_end_lem : (f a o : ℕ) (w : Walk) → A.size ≤ o → entries_from A I f a o w ≡ w
   unfolding entries_from
@@ -78,26 +78,26 @@ module _ (A : Area) (I : List ℕ) where
   enough (suc f) (suc g) a o w p q =
       on_same (slot_at A.size I a o) _ _ w (λ e. ap (shown A I e a o) (enough f g a (o + header + e.len) w (omega arith) (omega arith)))
 
-  entries-once : (a o : ℕ) (w : Walk)
+  entries_once : (a o : ℕ) (w : Walk)
       → entries_from A I A.size a o w ≡ on_slot (slot_at A.size I a o) (λ e. shown A I e a o (entries_from A I A.size a (o + header + e.len) w)) w
   unfolding entries_from
-  entries-once a o w = enough A.size (suc A.size) a o w (omega arith) (omega arith)
+  entries_once a o w = enough A.size (suc A.size) a o w (omega arith) (omega arith)
 
   module _ (a o : ℕ) (w : Walk) where
     -- where the block's entries stop
     pub entries_stop : slot_at A.size I a o ≡ Stop → entries_from A I A.size a o w ≡ w
-    entries_stop p = entries-once a o w ∙ on_stop (slot_at A.size I a o) _ w p
+    entries_stop p = entries_once a o w ∙ on_stop (slot_at A.size I a o) _ w p
 
     -- at an entry; one with address 0 is passed over
-    entries-entry : (e : DirEntry) → slot_at A.size I a o ≡ Entry e → entries_from A I A.size a o w ≡ shown A I e a o (entries_from A I A.size a (o + header + e.len) w)
-    entries-entry e p = entries-once a o w ∙ on-entry (slot_at A.size I a o) e _ w p
+    entries_entry : (e : DirEntry) → slot_at A.size I a o ≡ Entry e → entries_from A I A.size a o w ≡ shown A I e a o (entries_from A I A.size a (o + header + e.len) w)
+    entries_entry e p = entries_once a o w ∙ on_entry_lem (slot_at A.size I a o) e _ w p
 
     pub entries_over : (e : DirEntry) → slot_at A.size I a o ≡ Entry e → e.addr.0 ≡ 0 → entries_from A I A.size a o w ≡ entries_from A I A.size a (o + header + e.len) w
-    entries_over e p z = entries-entry e p ∙ shown_zero e a o _ z
+    entries_over e p z = entries_entry e p ∙ shown_zero e a o _ z
 
-    pub entries-item : (e : DirEntry) → slot_at A.size I a o ≡ Entry e → (e.addr.0 ≡ 0 → ⊥)
+    pub entries_item : (e : DirEntry) → slot_at A.size I a o ≡ Entry e → (e.addr.0 ≡ 0 → ⊥)
         → entries_from A I A.size a o w ≡ item e a o (name_at I (place_at A.size a o) e.len) (entries_from A I A.size a (o + header + e.len) w)
-    entries-item e p z = entries-entry e p ∙ shown-item e a o _ z
+    entries_item e p z = entries_entry e p ∙ shown_item e a o _ z
 
   -- ---- the blocks of a chain
 
@@ -105,21 +105,21 @@ module _ (A : Area) (I : List ℕ) where
   abbrev pub onwards : ℕ → ℕ → Walk
   onwards k a = pick (eqb (next A.size I a) 0) finished (chain_from A I k (next A.size I a))
 
-  pub onwards-end : (k a : ℕ) → next A.size I a ≡ 0 → onwards k a ≡ finished
-  onwards-end k a z = pick_true _ _ (eq-eqb _ _ z)
+  pub onwards_end : (k a : ℕ) → next A.size I a ≡ 0 → onwards k a ≡ finished
+  onwards_end k a z = pick_true _ _ (eq-eqb _ _ z)
 
-  pub onwards-go : (k a : ℕ) → (next A.size I a ≡ 0 → ⊥) → onwards k a ≡ chain_from A I k (next A.size I a)
-  onwards-go k a z = pick_false _ _ (ne_eqb _ _ z)
+  pub onwards_go : (k a : ℕ) → (next A.size I a ≡ 0 → ⊥) → onwards k a ≡ chain_from A I k (next A.size I a)
+  onwards_go k a z = pick_false _ _ (ne_eqb _ _ z)
 
   -- A chain is what remains from its first offset.
-  pub chain-rest : (k a : ℕ) → chain_from A I k a ≡ rest_from A I k a 0
+  pub chain_rest : (k a : ℕ) → chain_from A I k a ≡ rest_from A I k a 0
   unfolding chain_from rest_from
-  chain-rest zero a = refl
-  chain-rest (suc k) a = refl
+  chain_rest zero a = refl
+  chain_rest (suc k) a = refl
 
-  pub rest-none : (k a o : ℕ) → k ≡ 0 → rest_from A I k a o ≡ damaged
+  pub rest_none : (k a o : ℕ) → k ≡ 0 → rest_from A I k a o ≡ damaged
   unfolding rest_from
-  rest-none k a o z = rw z
+  rest_none k a o z = rw z
 
   pub rest_in : (k a o : ℕ) → 0 < k → A.first ≤ a → a < A.end → rest_from A I k a o ≡ entries_from A I A.size a o (onwards (k - 1) a)
   unfolding rest_from
@@ -135,8 +135,8 @@ module _ (A : Area) (I : List ℕ) where
 
   -- The same of a chain from its first block on.
   module _ (k a : ℕ) where
-    pub chain-out : in_area A I a ≡ false → chain_from A I k a ≡ damaged
-    chain-out e = chain-rest k a ∙ rest_out k a 0 e
+    pub chain_out : in_area A I a ≡ false → chain_from A I k a ≡ damaged
+    chain_out e = chain_rest k a ∙ rest_out k a 0 e
 
 -- ---- induction along a walk
 

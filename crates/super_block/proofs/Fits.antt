@@ -7,8 +7,8 @@ use native.Mathlib.Omega.{arith}
 use lib.ListN.{length}
 use Rattle.block.specs.Block.{BlockSize}
 use Rattle.model.specs.Geometry.{Mount, Geo, block_size, map_at, area_of, numbered, geo_at, format_geo, Sound, open_refusal, format_refusal}
-use Rattle.model.proofs.Areas.{size-known, area, few}
-use Rattle.model.proofs.Opens.{opens-sound, format-sound}
+use Rattle.model.proofs.Areas.{size_known, area, few}
+use Rattle.model.proofs.Opens.{opens_sound, format_sound}
 use Rattle.model.specs.Volume.{Volume, max_depth}
 use Rattle.model.proofs.OneVolume.{well_formed_geo}
 use Rattle.super_block.specs.declared.SuperBlock.{SuperBlock}
@@ -25,7 +25,7 @@ pub fit_of : (g : Geo) (I : List ℕ) → Sound g (length I) → Fit (super_bloc
 fit_of g I s =
     record {
       size = refl;
-      known = size-known g (length I) s;
+      known = size_known g (length I) s;
       bitmap = refl;
       area = refl;
       bits = refl;
@@ -36,22 +36,22 @@ fit_of g I s =
     }
 
 -- so does a struct that was read from the image, or made for it
-pub opened-fit : (M : Mount) (I : List ℕ) (s : SuperBlock) → open_refusal M I ≡ 0 → s ≡ super_block (geo_at M I) → Fit s I
-opened-fit M I s e f = subst (λ (x : SuperBlock). Fit x I) (sym f) (fit_of (geo_at M I) I (opens-sound M I e).0)
+pub opened_fit : (M : Mount) (I : List ℕ) (s : SuperBlock) → open_refusal M I ≡ 0 → s ≡ super_block (geo_at M I) → Fit s I
+opened_fit M I s e f = subst (λ (x : SuperBlock). Fit x I) (sym f) (fit_of (geo_at M I) I (opens_sound M I e).0)
 
-pub made-fit : (M : Mount) (I : List ℕ) (s : SuperBlock) → format_refusal M (length I) ≡ 0 → s ≡ super_block (format_geo M (length I)) → Fit s I
-made-fit M I s e f = subst (λ (x : SuperBlock). Fit x I) (sym f) (fit_of (format_geo M (length I)) I (format-sound M (length I) e))
+pub made_fit : (M : Mount) (I : List ℕ) (s : SuperBlock) → format_refusal M (length I) ≡ 0 → s ≡ super_block (format_geo M (length I)) → Fit s I
+made_fit M I s e f = subst (λ (x : SuperBlock). Fit x I) (sym f) (fit_of (format_geo M (length I)) I (format_sound M (length I) e))
 
 -- its numbers are then those of the image, or those that are made
 pub opened-geo : (M : Mount) (I : List ℕ) (s : SuperBlock) → s ≡ super_block (geo_at M I) → geo_of s ≡ geo_at M I
 opened-geo M I s f = ap geo_of f
 
-pub made-geo : (M : Mount) (len : ℕ) (s : SuperBlock) → s ≡ super_block (format_geo M len) → geo_of s ≡ format_geo M len
-made-geo M len s f = ap geo_of f
+pub made_geo : (M : Mount) (len : ℕ) (s : SuperBlock) → s ≡ super_block (format_geo M len) → geo_of s ≡ format_geo M len
+made_geo M len s f = ap geo_of f
 
 -- it goes by the image's length alone
-pub fit-long : {s : SuperBlock} {I J : List ℕ} → length J ≡ length I → Fit s I → Fit s J
-fit-long {s} e f =
+pub fit_long : {s : SuperBlock} {I J : List ℕ} → length J ≡ length I → Fit s I → Fit s J
+fit_long {s} e f =
     record {
       size = f.size;
       known = f.known;
@@ -104,37 +104,37 @@ placed {s} {I} f =
     }
 
 -- the area is that of the numbers,
-pub area-is : {s : SuperBlock} {I : List ℕ} → Fit s I → area_in s ≡ area_of (geo_of s)
-area-is {s} f = λ i. record { size = f.size i; first = f.area i; end = s.blocks }
+pub area_is : {s : SuperBlock} {I : List ℕ} → Fit s I → area_in s ≡ area_of (geo_of s)
+area_is {s} f = λ i. record { size = f.size i; first = f.area i; end = s.blocks }
 
 -- the bitmap begins where the definitions have it,
 pub from_is : {s : SuperBlock} {I : List ℕ} {at : ℕ} → Fit s I → at ≡ s.size * s.bitmap.0 → at ≡ block_size (geo_of s) * map_at (geo_of s)
 from_is {s} f e = e ∙ ap (λ (a : ℕ). s.size * a) f.bitmap ∙ ap (λ (z : ℕ). z * map_at (geo_of s)) f.size
 
 -- what has the struct's size has a size that blocks have,
-pub made-known : {z : ℕ} (s : SuperBlock) (I : List ℕ) → Fit s I → z ≡ s.size → BlockSize z
-made-known s I f e = subst BlockSize (sym e) f.known
+pub made_known : {z : ℕ} (s : SuperBlock) (I : List ℕ) → Fit s I → z ≡ s.size → BlockSize z
+made_known s I f e = subst BlockSize (sym e) f.known
 
 -- there is a data area,
-pub area-inside : {s : SuperBlock} {I : List ℕ} → Fit s I → s.area.0 ≤ s.blocks
-area-inside f = omega (arith, (placed f).some_data)
+pub area_inside : {s : SuperBlock} {I : List ℕ} → Fit s I → s.area.0 ≤ s.blocks
+area_inside f = omega (arith, (placed f).some_data)
 
 -- blocks are few,
-pub few-blocks : {s : SuperBlock} {I : List ℕ} → Fit s I → s.blocks ≤ 8388608
-few-blocks f = (placed f).few
+pub few_blocks : {s : SuperBlock} {I : List ℕ} → Fit s I → s.blocks ≤ 8388608
+few_blocks f = (placed f).few
 
 -- and each lies in the image, and in every image of its length
-pub fit-inside : (s : SuperBlock) (I J : List ℕ) (a b : ℕ) → Fit s I → length J ≡ length I → a ≡ b → b < s.blocks → s.size * a + s.size ≤ length J
-fit-inside s I J a b f e q h =
+pub fit_inside : (s : SuperBlock) (I J : List ℕ) (a b : ℕ) → Fit s I → length J ≡ length I → a ≡ b → b < s.blocks → s.size * a + s.size ≤ length J
+fit_inside s I J a b f e q h =
     let k : suc a ≤ s.blocks = omega arith in
     omega (arith, f.inside, mul-le-mul_left s.size k, mul-suc s.size a)
 
 -- The volume of a checked image, by the struct's own numbers.
-pub ready-volume : (s : SuperBlock) (I : List ℕ) (r : Ready s I) → Volume (geo_of s) I max_depth r.well.tree
-ready-volume s I r =
+pub ready_volume : (s : SuperBlock) (I : List ℕ) (r : Ready s I) → Volume (geo_of s) I max_depth r.well.tree
+ready_volume s I r =
     let w = r.well in
     let e : geo_at (mount_of s) I ≡ geo_of s = λ i. numbered (mount_of s) (sym r.version i) (sym r.count i) in
     subst (λ (g : Geo). Volume g I max_depth w.tree) (well_formed_geo (mount_of s) I w ∙ e) w.volume
 
-pub ready-fit : (s : SuperBlock) (I : List ℕ) → Ready s I → Fit s I
-ready-fit s I r = r.fit
+pub ready_fit : (s : SuperBlock) (I : List ℕ) → Ready s I → Fit s I
+ready_fit s I r = r.fit

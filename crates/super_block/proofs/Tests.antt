@@ -10,124 +10,124 @@ use lib.ListN.{length, get_or, take, drop, length-append, length-replicate}
 use borrow.Author.Tests.{eq-eqb, ne_eqb, lt-ltb, le-ltb, not-true, not-false}
 use Rattle.wire.specs.Be.{be, bytes, splice, zeros}
 use Rattle.wire.specs.Pick.{pick, same}
-use Rattle.wire.proofs.Numbers.{splice-append, length-bytes}
+use Rattle.wire.proofs.Numbers.{splice-append, length_bytes}
 use Rattle.wire.proofs.Picks.{pick_true, pick_false}
 use Rattle.block.specs.Block.{BlockSize}
 use Rattle.model.specs.Geometry.{Geo, block_size, code_size, last_code, mount, numbered, geo_at, version_at, code_at, count_at, open_refusal, format_refusal, format_geo, map_size, map_at, map_blocks, data_at, map_bits, reach, image_limit, bad_image, bad_version, bad_mark, bad_count, signature, super_bytes}
 use Rattle.model.specs.Render.{padded}
-use Rattle.model.proofs.Areas.{area, few, size-known}
-use Rattle.model.proofs.Opens.{code-good, good-image, open_1, open_2, open_3, open_0, open_code, opens-sound, format_1, format_3, format_0, format-code, format-sound}
+use Rattle.model.proofs.Areas.{area, few, size_known}
+use Rattle.model.proofs.Opens.{code_good, good_image, open_1, open_2, open_3, open_0, open_code, opens_sound, format_1, format_3, format_0, format_code, format_sound}
 use Rattle.super_block.specs.declared.SuperBlock.{SuperBlock}
 use Rattle.super_block.specs.Super.{geo_of, super_block, Fair, Fit, super_written}
 
 -- ---- refusals 1, 2 and 3: z is the block size that code has
 
 module _ (K c len : ℕ) where
-  pub image-empty : len ≡ 0 → true ≡ bad_image (mount K c) len
+  pub image_empty : len ≡ 0 → true ≡ bad_image (mount K c) len
   unfolding bad_image
-  image-empty e = simp (eq-eqb _ _ e)
+  image_empty e = simp (eq-eqb _ _ e)
 
   module _ {z : ℕ} (q : z ≡ code_size c) where
     pub image_odd : (len ≡ 0 → ⊥) → (len % z ≡ 0 → ⊥) → true ≡ bad_image (mount K c) len
     unfolding bad_image
     image_odd a b = subst (λ (y : ℕ). (len % y ≡ 0 → ⊥) → true ≡ bad_image (mount K c) len) (sym q) (λ h. simp (ne_eqb _ _ a, ne_eqb _ _ h)) b
 
-    pub image-over : (len ≡ 0 → ⊥) → len % z ≡ 0 → image_limit < len → true ≡ bad_image (mount K c) len
+    pub image_over : (len ≡ 0 → ⊥) → len % z ≡ 0 → image_limit < len → true ≡ bad_image (mount K c) len
     unfolding bad_image
-    image-over a b l =
+    image_over a b l =
         subst (λ (y : ℕ). len % y ≡ 0 → true ≡ bad_image (mount K c) len) (sym q) (λ h. simp (ne_eqb _ _ a, eq-eqb _ _ h, lt-ltb _ _ l)) b
 
-    pub image-last : (len ≡ 0 → ⊥) → len % z ≡ 0 → len ≤ image_limit → leb (len / z) (K + 2) ≡ bad_image (mount K c) len
+    pub image_last : (len ≡ 0 → ⊥) → len % z ≡ 0 → len ≤ image_limit → leb (len / z) (K + 2) ≡ bad_image (mount K c) len
     unfolding bad_image
-    image-last a b l =
+    image_last a b l =
         subst (λ (y : ℕ). len % y ≡ 0 → leb (len / y) (K + 2) ≡ bad_image (mount K c) len) (sym q)
         (λ h. simp (ne_eqb _ _ a, eq-eqb _ _ h, le-ltb _ _ l)) b
 
 -- the version
 module _ (v c : ℕ) where
-  pub version-new : v ≡ 2 → false ≡ bad_version v c
+  pub version_new : v ≡ 2 → false ≡ bad_version v c
   unfolding bad_version
-  version-new e = simp (eq-eqb _ _ e)
+  version_new e = simp (eq-eqb _ _ e)
 
-  pub version-none : (v ≡ 2 → ⊥) → (v ≡ 1 → ⊥) → true ≡ bad_version v c
+  pub version_none : (v ≡ 2 → ⊥) → (v ≡ 1 → ⊥) → true ≡ bad_version v c
   unfolding bad_version
-  version-none a b = simp (ne_eqb _ _ a, ne_eqb _ _ b)
+  version_none a b = simp (ne_eqb _ _ a, ne_eqb _ _ b)
 
-  pub version-old : (v ≡ 2 → ⊥) → v ≡ 1 → not (eqb c 0) ≡ bad_version v c
+  pub version_old : (v ≡ 2 → ⊥) → v ≡ 1 → not (eqb c 0) ≡ bad_version v c
   unfolding bad_version
-  version-old a b = simp (ne_eqb _ _ a, eq-eqb _ _ b)
+  version_old a b = simp (ne_eqb _ _ a, eq-eqb _ _ b)
 
 -- the mark, where the superblock begins at byte `at`
 module _ (K c : ℕ) (I : List ℕ) {z at : ℕ} (q : z ≡ code_size c) (w : at ≡ z * K) where
-  at-is : at ≡ code_size c * K
-  at-is = w ∙ ap (λ (y : ℕ). y * K) q
+  at_is : at ≡ code_size c * K
+  at_is = w ∙ ap (λ (y : ℕ). y * K) q
 
-  letters-is : same (take 8 (drop at I)) signature ≡ same (take 8 (drop (code_size c * K) I)) signature
-  letters-is = ap (λ (y : ℕ). same (take 8 (drop y I)) signature) at-is
+  letters_is : same (take 8 (drop at I)) signature ≡ same (take 8 (drop (code_size c * K) I)) signature
+  letters_is = ap (λ (y : ℕ). same (take 8 (drop y I)) signature) at_is
 
   code_is : get_or I (at + 9) 0 ≡ code_at (mount K c) I
   unfolding code_at
-  code_is = ap (λ (y : ℕ). get_or I (y + 9) 0) at-is
+  code_is = ap (λ (y : ℕ). get_or I (y + 9) 0) at_is
 
-  version-is : get_or I (at + 8) 0 ≡ version_at (mount K c) I
+  version_is : get_or I (at + 8) 0 ≡ version_at (mount K c) I
   unfolding version_at
-  version-is = ap (λ (y : ℕ). get_or I (y + 8) 0) at-is
+  version_is = ap (λ (y : ℕ). get_or I (y + 8) 0) at_is
 
-  count-is : {n : ℕ} → n ≡ be 4 I (at + 10) → n ≡ count_at (mount K c) I
+  count_is : {n : ℕ} → n ≡ be 4 I (at + 10) → n ≡ count_at (mount K c) I
   unfolding count_at
-  count-is e = e ∙ ap (λ (y : ℕ). be 4 I (y + 10)) at-is
+  count_is e = e ∙ ap (λ (y : ℕ). be 4 I (y + 10)) at_is
 
-  pub mark-place : code_size c * K + 10 ≤ length I → at + 8 ≤ length I
-  mark-place h = omega (arith, at-is)
+  pub mark_place : code_size c * K + 10 ≤ length I → at + 8 ≤ length I
+  mark_place h = omega (arith, at_is)
 
   pub code_in : code_size c * K + 10 ≤ length I → at + 9 < length I
-  code_in h = omega (arith, at-is)
+  code_in h = omega (arith, at_is)
 
   pub version_in : code_size c * K + 10 ≤ length I → at + 8 < length I
-  version_in h = omega (arith, at-is)
+  version_in h = omega (arith, at_is)
 
-  pub mark-letters : {b : Bool} → b ≡ same (take 8 (drop at I)) signature → not b ≡ true → true ≡ bad_mark (mount K c) I
+  pub mark_letters : {b : Bool} → b ≡ same (take 8 (drop at I)) signature → not b ≡ true → true ≡ bad_mark (mount K c) I
   unfolding bad_mark
-  mark-letters {b} e h = sym (simp (sym letters-is, sym e, not-true b h))
+  mark_letters {b} e h = sym (simp (sym letters_is, sym e, not-true b h))
 
   pub mark_code : {b : Bool} → b ≡ same (take 8 (drop at I)) signature → not b ≡ false → {x : ℕ} → x ≡ get_or I (at + 9) 0 → (x ≡ c → ⊥) → true ≡ bad_mark (mount K c) I
   unfolding bad_mark
-  mark_code {b} e h f d = sym (simp (sym letters-is, sym e, not-false b h, ne_eqb (code_at (mount K c) I) c (λ y. d (f ∙ code_is ∙ y))))
+  mark_code {b} e h f d = sym (simp (sym letters_is, sym e, not-false b h, ne_eqb (code_at (mount K c) I) c (λ y. d (f ∙ code_is ∙ y))))
 
-  pub mark-version : {b r : Bool} → b ≡ same (take 8 (drop at I)) signature → not b ≡ false → {x : ℕ} → x ≡ get_or I (at + 9) 0 → x ≡ c
+  pub mark_version : {b r : Bool} → b ≡ same (take 8 (drop at I)) signature → not b ≡ false → {x : ℕ} → x ≡ get_or I (at + 9) 0 → x ≡ c
       → r ≡ bad_version (get_or I (at + 8) 0) c → r ≡ bad_mark (mount K c) I
   unfolding bad_mark
-  mark-version {b} {r} e h x d f =
-      f ∙ ap (λ (y : ℕ). bad_version y c) version-is
-      ∙ sym (simp (sym letters-is, sym e, not-false b h, eq-eqb (code_at (mount K c) I) c (sym code_is ∙ sym x ∙ d)))
+  mark_version {b} {r} e h x d f =
+      f ∙ ap (λ (y : ℕ). bad_version y c) version_is
+      ∙ sym (simp (sym letters_is, sym e, not-false b h, eq-eqb (code_at (mount K c) I) c (sym code_is ∙ sym x ∙ d)))
 
 -- the count: r is N, and u one more than the bits of a bitmap block, as code computes them
 module _ (K c v n len : ℕ) {z : ℕ} (q : z ≡ code_size c) where
-  abbrev told-count : Bool
-  told-count = bad_count (numbered (mount K c) v n) len
+  abbrev told_count : Bool
+  told_count = bad_count (numbered (mount K c) v n) len
 
-  pub count-over : len / z < n → true ≡ told-count
+  pub count_over : len / z < n → true ≡ told_count
   unfolding bad_count
-  count-over a = subst (λ (y : ℕ). len / y < n → true ≡ bad_count (numbered (mount K c) v n) len) (sym q) (λ h. simp (lt-ltb _ _ h)) a
+  count_over a = subst (λ (y : ℕ). len / y < n → true ≡ bad_count (numbered (mount K c) v n) len) (sym q) (λ h. simp (lt-ltb _ _ h)) a
 
   inside : n ≤ len / z → n ≤ len / code_size c
   inside a = subst (λ (y : ℕ). n ≤ len / y) q a
 
-  pub count-few : n ≤ len / z → {r : ℕ} → r ≡ n - (K + 2) → (v ≡ 1 → ⊥) → r < 2 → true ≡ told-count
+  pub count_few : n ≤ len / z → {r : ℕ} → r ≡ n - (K + 2) → (v ≡ 1 → ⊥) → r < 2 → true ≡ told_count
   unfolding bad_count pick
-  count-few a e o h = simp (le-ltb _ _ (inside a), ne_eqb v 1 o, lt-ltb (n - (K + 2)) 2 (omega arith))
+  count_few a e o h = simp (le-ltb _ _ (inside a), ne_eqb v 1 o, lt-ltb (n - (K + 2)) 2 (omega arith))
 
   module _ (a : n ≤ len / z) {r u : ℕ} (e : r ≡ n - (K + 2)) (f : u ≡ 8 * z + 1) where
     unit_is : u ≡ 8 * code_size c + 1
     unit_is = f ∙ ap (λ (y : ℕ). 8 * y + 1) q
 
-    pub count-old : v ≡ 1 → ltb r u ≡ told-count
+    pub count_old : v ≡ 1 → ltb r u ≡ told_count
     unfolding bad_count pick
-    count-old o = rw (e, unit_is) (simp (le-ltb _ _ (inside a), eq-eqb v 1 o))
+    count_old o = rw (e, unit_is) (simp (le-ltb _ _ (inside a), eq-eqb v 1 o))
 
-    pub count-last : (v ≡ 1 → ⊥) → 2 ≤ r → eqb (r % u) 1 ≡ told-count
+    pub count_last : (v ≡ 1 → ⊥) → 2 ≤ r → eqb (r % u) 1 ≡ told_count
     unfolding bad_count pick
-    count-last o h = rw (e, unit_is) (simp (le-ltb _ _ (inside a), ne_eqb v 1 o, le-ltb (n - (K + 2)) 2 (omega arith)))
+    count_last o h = rw (e, unit_is) (simp (le-ltb _ _ (inside a), ne_eqb v 1 o, le-ltb (n - (K + 2)) 2 (omega arith)))
 
 -- what a test says, by the bool that code has of it
 told : {a b c : Bool} → a ≡ b → a ≡ c → b ≡ c
@@ -137,8 +137,8 @@ told p q = sym p ∙ q
 
 -- a place in a superblock is within a word
 module _ {K z at : ℕ} (h : K < 2 ^ 32) (b : BlockSize z) (e : at ≡ z * K) where
-  pub version-fits : at + 8 < 2 ^ 64
-  version-fits = omega (arith, mul-le-mul_right K b.most)
+  pub version_fits : at + 8 < 2 ^ 64
+  version_fits = omega (arith, mul-le-mul_right K b.most)
 
   pub code_fits : at + 9 < 2 ^ 64
   code_fits = omega (arith, mul-le-mul_right K b.most)
@@ -154,11 +154,11 @@ size_double {c} h n = let e : 1 ≡ c = one c h n in (ap code_size e, record { l
 
 -- ---- the numbers of n blocks at K
 
-pub maps-old : (v x y : ℕ) → v ≡ 1 → x ≡ pick (eqb v 1) x y
-maps-old v x y e = sym (pick_true x y (eq-eqb v 1 e))
+pub maps_old : (v x y : ℕ) → v ≡ 1 → x ≡ pick (eqb v 1) x y
+maps_old v x y e = sym (pick_true x y (eq-eqb v 1 e))
 
-pub maps-new : (v x y : ℕ) → (v ≡ 1 → ⊥) → y ≡ pick (eqb v 1) x y
-maps-new v x y e = sym (pick_false x y (ne_eqb v 1 e))
+pub maps_new : (v x y : ℕ) → (v ≡ 1 → ⊥) → y ≡ pick (eqb v 1) x y
+maps_new v x y e = sym (pick_false x y (ne_eqb v 1 e))
 
 pub span_few : {z p : ℕ} → BlockSize z → p ≡ 8 * z → p ≤ 8192
 span_few h e = omega (arith, h.most)
@@ -167,14 +167,14 @@ module _ (K c v n : ℕ) (f : Fair (numbered (mount K c) v n)) where
   abbrev g : Geo
   g = numbered (mount K c) v n
 
-  n-few : n ≤ 8388608
-  n-few = few g f.image f.sound
+  n_few : n ≤ 8388608
+  n_few = few g f.image f.sound
 
-  pub left-few : (a : ℕ) → n - a ≤ 8388608
-  left-few a = omega (arith, n-few)
+  pub left_few : (a : ℕ) → n - a ≤ 8388608
+  left_few a = omega (arith, n_few)
 
-  pub whole-fits : (p : ℕ) → p * (n / p) < 2 ^ 32
-  whole-fits p = omega (arith, n-few, mul-div-le n p)
+  pub whole_fits : (p : ℕ) → p * (n / p) < 2 ^ 32
+  whole_fits p = omega (arith, n_few, mul-div-le n p)
 
   -- p bits for a bitmap block, b of them
   module _ {z p a b : ℕ} (ez : z ≡ code_size c) (ep : p ≡ 8 * z) (ea : a ≡ K + 2)
@@ -182,34 +182,34 @@ module _ (K c v n : ℕ) (f : Fair (numbered (mount K c) v n)) where
     span_is : p ≡ map_size g
     span_is = ep ∙ ap (λ (y : ℕ). 8 * y) ez
 
-    maps-is : b ≡ map_blocks g
+    maps_is : b ≡ map_blocks g
     unfolding map_blocks
-    maps-is = eb ∙ (λ i. pick (eqb v 1) ((n - ea i) / (span_is i + 1)) ((n - ea i + span_is i) / (span_is i + 1)))
+    maps_is = eb ∙ (λ i. pick (eqb v 1) ((n - ea i) / (span_is i + 1)) ((n - ea i + span_is i) / (span_is i + 1)))
 
     data_is : a + b ≡ data_at g
     unfolding data_at
-    data_is = λ i. ea i + maps-is i
+    data_is = λ i. ea i + maps_is i
 
     bits_is : p * b ≡ map_bits g
     unfolding data_at
     bits_is =
         let e : data_at g - map_at g ≡ map_blocks g = omega arith in
-        (λ i. span_is i * maps-is i) ∙ mul_assoc 8 (block_size g) (map_blocks g) ∙ ap (λ (y : ℕ). 8 * (block_size g * y)) (sym e)
+        (λ i. span_is i * maps_is i) ∙ mul_assoc 8 (block_size g) (map_blocks g) ∙ ap (λ (y : ℕ). 8 * (block_size g * y)) (sym e)
 
     pub data_fits : a + b < 2 ^ 32
-    data_fits = omega (arith, data_is, (area g f.image f.sound).some_data, n-few)
+    data_fits = omega (arith, data_is, (area g f.image f.sound).some_data, n_few)
 
     pub data_below : {d : ℕ} → d ≡ a + b → d ≤ n
     data_below e = omega (arith, data_is, (area g f.image f.sound).some_data)
 
     pub bits_fit : p * b < 2 ^ 32
-    bits_fit = omega (arith, bits_is, (area g f.image f.sound).few_bits, n-few, (size-known g f.image f.sound).most)
+    bits_fit = omega (arith, bits_is, (area g f.image f.sound).few_bits, n_few, (size_known g f.image f.sound).most)
 
-    reach-is : {d w l r : ℕ} → d ≡ a + b → w ≡ p * (n / p) → l ≡ min (n - d) w → r ≡ min l (p * b) → r ≡ reach g
+    reach_is : {d w l r : ℕ} → d ≡ a + b → w ≡ p * (n / p) → l ≡ min (n - d) w → r ≡ min l (p * b) → r ≡ reach g
     unfolding reach
-    reach-is ed ew el er =
+    reach_is ed ew el er =
         let whole = ew ∙ (λ i. span_is i * (n / span_is i)) in
-        er ∙ (λ i. min ((el ∙ (λ j. min (n - (ed ∙ data_is) j) (whole j))) i) (span_is i * maps-is i))
+        er ∙ (λ i. min ((el ∙ (λ j. min (n - (ed ∙ data_is) j) (whole j))) i) (span_is i * maps_is i))
 
     pub made : {d w l r : ℕ} → d ≡ a + b → w ≡ p * (n / p) → l ≡ min (n - d) w → r ≡ min l (p * b)
         → ◌≡◌ {A = SuperBlock}
@@ -234,14 +234,14 @@ module _ (K c v n : ℕ) (f : Fair (numbered (mount K c) v n)) where
           bitmap = record { 0 = ea i };
           area = record { 0 = (ed ∙ data_is) i };
           bits = bits_is i;
-          reach = reach-is ed ew el er i;
+          reach = reach_is ed ew el er i;
         }
 
 -- ---- reading and making
 
 module _ (K c len : ℕ) {a : Bool} (p : a ≡ bad_image (mount K c) len) (q : a ≡ false) where
   abbrev image : (1 ≤ len) × (len % code_size c ≡ 0) × (len ≤ image_limit) × (K + 2 < len / code_size c)
-  image = good-image (mount K c) len (told p q)
+  image = good_image (mount K c) len (told p q)
 
   top_in : code_size c * K + code_size c ≤ len
   top_in =
@@ -251,12 +251,12 @@ module _ (K c len : ℕ) {a : Bool} (p : a ≡ bad_image (mount K c) len) (q : a
   pub mark_in : code_size c * K + 10 ≤ len
   mark_in = omega (arith, top_in, one-le-pow c 2 (lit< tt))
 
-  pub blocks-fit : {z : ℕ} → BlockSize z → len / z < 2 ^ 32
-  blocks-fit {z} h = omega (arith, mul-div-le len z, mul-le-mul_right (len / z) h.least, image.2)
+  pub blocks_fit : {z : ℕ} → BlockSize z → len / z < 2 ^ 32
+  blocks_fit {z} h = omega (arith, mul-div-le len z, mul-le-mul_right (len / z) h.least, image.2)
 
   module _ {z at : ℕ} (e : z ≡ code_size c) (w : at ≡ z * K) where
     at_in : at + 14 ≤ len
-    at_in = omega (arith, at-is K c [] e w, top_in, one-le-pow c 2 (lit< tt))
+    at_in = omega (arith, at_is K c [] e w, top_in, one-le-pow c 2 (lit< tt))
 
     pub byte_in : at + 8 < len
     byte_in = omega (arith, at_in)
@@ -272,65 +272,65 @@ module _ (K c len : ℕ) {a : Bool} (p : a ≡ bad_image (mount K c) len) (q : a
 
 module _ (K c : ℕ) (I : List ℕ) (h : c ≤ last_code) {a : Bool} (p : a ≡ bad_image (mount K c) (length I)) where
   pub read_1 : a ≡ true → open_refusal (mount K c) I ≡ 1
-  read_1 q = open_1 (mount K c) I (code-good (mount K c) h) (told p q)
+  read_1 q = open_1 (mount K c) I (code_good (mount K c) h) (told p q)
 
   module _ (q : a ≡ false) {b : Bool} (r : b ≡ bad_mark (mount K c) I) where
     pub read_2 : b ≡ true → open_refusal (mount K c) I ≡ 2
-    read_2 s = open_2 (mount K c) I (code-good (mount K c) h) (told p q) (told r s)
+    read_2 s = open_2 (mount K c) I (code_good (mount K c) h) (told p q) (told r s)
 
     module _ (s : b ≡ false) {z at v n : ℕ} (e : z ≡ code_size c) (w : at ≡ z * K) (ev : v ≡ get_or I (at + 8) 0) (en : n ≡ be 4 I (at + 10))
         {d : Bool} (t : d ≡ bad_count (numbered (mount K c) v n) (length I)) where
-      geo-read : numbered (mount K c) v n ≡ geo_at (mount K c) I
-      geo-read = λ i. numbered (mount K c) ((ev ∙ version-is K c I e w) i) (count-is K c I e w en i)
+      geo_read : numbered (mount K c) v n ≡ geo_at (mount K c) I
+      geo_read = λ i. numbered (mount K c) ((ev ∙ version_is K c I e w) i) (count_is K c I e w en i)
 
-      count-read : d ≡ bad_count (geo_at (mount K c) I) (length I)
-      count-read = t ∙ ap (λ (x : Geo). bad_count x (length I)) geo-read
+      count_read : d ≡ bad_count (geo_at (mount K c) I) (length I)
+      count_read = t ∙ ap (λ (x : Geo). bad_count x (length I)) geo_read
 
       pub read_3 : d ≡ true → open_refusal (mount K c) I ≡ 3
-      read_3 u = open_3 (mount K c) I (code-good (mount K c) h) (told p q) (told r s) (told count-read u)
+      read_3 u = open_3 (mount K c) I (code_good (mount K c) h) (told p q) (told r s) (told count_read u)
 
       module _ (u : d ≡ false) where
         opens : open_refusal (mount K c) I ≡ 0
-        opens = open_0 (mount K c) I (code-good (mount K c) h) (told p q) (told r s) (told count-read u)
+        opens = open_0 (mount K c) I (code_good (mount K c) h) (told p q) (told r s) (told count_read u)
 
         pub read_fair : Fair (numbered (mount K c) v n)
-        read_fair = subst Fair (sym geo-read) (record { image = length I; sound = (opens-sound (mount K c) I opens).0 })
+        read_fair = subst Fair (sym geo_read) (record { image = length I; sound = (opens_sound (mount K c) I opens).0 })
 
         pub read_0 : {x : SuperBlock} → x ≡ super_block (numbered (mount K c) v n)
             → (open_refusal (mount K c) I ≡ 0) × (x ≡ super_block (geo_at (mount K c) I))
-        read_0 y = (opens, y ∙ ap super_block geo-read)
+        read_0 y = (opens, y ∙ ap super_block geo_read)
 
 module _ (K c len : ℕ) (h : c ≤ last_code) {a : Bool} (p : a ≡ bad_image (mount K c) len) where
   pub make_1 : a ≡ true → format_refusal (mount K c) len ≡ 1
-  make_1 q = format_1 (mount K c) len (code-good (mount K c) h) (told p q)
+  make_1 q = format_1 (mount K c) len (code_good (mount K c) h) (told p q)
 
   module _ (q : a ≡ false) {z n : ℕ} (e : z ≡ code_size c) (en : n ≡ len / z) {d : Bool} (t : d ≡ bad_count (numbered (mount K c) 2 n) len) where
-    geo-made : numbered (mount K c) 2 n ≡ format_geo (mount K c) len
-    geo-made = λ i. numbered (mount K c) 2 ((en ∙ ap (λ (y : ℕ). len / y) e) i)
+    geo_made : numbered (mount K c) 2 n ≡ format_geo (mount K c) len
+    geo_made = λ i. numbered (mount K c) 2 ((en ∙ ap (λ (y : ℕ). len / y) e) i)
 
-    count-made : d ≡ bad_count (format_geo (mount K c) len) len
-    count-made = t ∙ ap (λ (x : Geo). bad_count x len) geo-made
+    count_made : d ≡ bad_count (format_geo (mount K c) len) len
+    count_made = t ∙ ap (λ (x : Geo). bad_count x len) geo_made
 
     pub make_3 : d ≡ true → format_refusal (mount K c) len ≡ 3
-    make_3 u = format_3 (mount K c) len (code-good (mount K c) h) (told p q) (told count-made u)
+    make_3 u = format_3 (mount K c) len (code_good (mount K c) h) (told p q) (told count_made u)
 
     module _ (u : d ≡ false) where
       makes : format_refusal (mount K c) len ≡ 0
-      makes = format_0 (mount K c) len (code-good (mount K c) h) (told p q) (told count-made u)
+      makes = format_0 (mount K c) len (code_good (mount K c) h) (told p q) (told count_made u)
 
       pub make_fair : Fair (numbered (mount K c) 2 n)
-      make_fair = subst Fair (sym geo-made) (record { image = len; sound = format-sound (mount K c) len makes })
+      make_fair = subst Fair (sym geo_made) (record { image = len; sound = format_sound (mount K c) len makes })
 
       pub make_0 : {x : SuperBlock} → x ≡ super_block (numbered (mount K c) 2 n)
           → (format_refusal (mount K c) len ≡ 0) × (x ≡ super_block (format_geo (mount K c) len))
-      make_0 y = (makes, y ∙ ap super_block geo-made)
+      make_0 y = (makes, y ∙ ap super_block geo_made)
 
 -- a size code above the last is refused first
-pub read-code : (K c : ℕ) (I : List ℕ) → last_code < c → open_refusal (mount K c) I ≡ 2
-read-code K c I h = open_code (mount K c) I h
+pub read_code : (K c : ℕ) (I : List ℕ) → last_code < c → open_refusal (mount K c) I ≡ 2
+read_code K c I h = open_code (mount K c) I h
 
 pub made_code : (K c len : ℕ) → last_code < c → format_refusal (mount K c) len ≡ 2
-made_code K c len h = format-code (mount K c) len h
+made_code K c len h = format_code (mount K c) len h
 
 -- ---- the stores
 
@@ -343,8 +343,8 @@ super_stored g I M v at m eat em eM h large =
     let N : List ℕ = bytes 4 g.n in
     let U : List ℕ = bytes 4 v in
     let lm : length M ≡ 10 = ap length eM in
-    let ln : length N ≡ 4 = length-bytes 4 g.n in
-    let lv : length U ≡ 4 = length-bytes 4 v in
+    let ln : length N ≡ 4 = length_bytes 4 g.n in
+    let lv : length U ≡ 4 = length_bytes 4 v in
     let a : splice (splice I at M) (at + length M) N ≡ splice I at (M ++ N) = splice-append M N I at (omega arith) in
     let a' : splice (splice I at M) (at + 10) N ≡ splice I at (M ++ N) = subst (λ (x : ℕ). splice (splice I at M) (at + x) N ≡ splice I at (M ++ N)) lm a in
     let lmn : length (M ++ N) ≡ 14 = rw length-append (omega arith) in

@@ -7,7 +7,7 @@ use native.Mathlib.Omega.{arith}
 use Rattle.wire.specs.Pick.{pick}
 use Rattle.wire.proofs.Picks.{pick_false, pick_case}
 use Rattle.text.specs.Text.{Range, from_to, inside, Row, row, table, never, begun, step, text_from, is_text, slash}
-use Rattle.text.proofs.Rows.{range-high}
+use Rattle.text.proofs.Rows.{range_high}
 
 -- ---- around a slash
 
@@ -51,35 +51,35 @@ unfolding begun
 begun-slash [] c h = never-slash
 begun-slash (row r rs ∷ more) c h = pick_case NoSlash (inside r c) rs (begun more c) (λ e. h.0) (λ e. begun-slash more c h.1)
 
-pub step-slash : (rs : List Range) (c : ℕ) → NoSlash rs → NoSlash (step rs c)
+pub step_slash : (rs : List Range) (c : ℕ) → NoSlash rs → NoSlash (step rs c)
 unfolding step
-step-slash [] c h = begun-slash table c table-slash
-step-slash (r ∷ rs) c h = pick_case NoSlash (inside r c) rs never (λ e. h.1) (λ e. never-slash)
+step_slash [] c h = begun-slash table c table-slash
+step_slash (r ∷ rs) c h = pick_case NoSlash (inside r c) rs never (λ e. h.1) (λ e. never-slash)
 
 -- nothing is text where a byte is due that there is not
-pub never-text : (l : List ℕ) → text_from never l ≡ false
+pub never_text : (l : List ℕ) → text_from never l ≡ false
 unfolding text_from step inside
-never-text [] = refl
-never-text (c ∷ l) = ap (λ (rs : List Range). text_from rs l) (pick_false _ _ (none c)) ∙ never-text l
+never_text [] = refl
+never_text (c ∷ l) = ap (λ (rs : List Range). text_from rs l) (pick_false _ _ (none c)) ∙ never_text l
   where
     none : (c : ℕ) → inside (from_to 1 0) c ≡ false
     none zero = refl
-    none (suc k) = range-high 1 0 (suc k) (omega arith)
+    none (suc k) = range_high 1 0 (suc k) (omega arith)
 
-slash-whole : begun table slash ≡ []
+slash_whole : begun table slash ≡ []
 unfolding begun inside pick
-slash-whole = refl
+slash_whole = refl
 
-pub from-slash : (rs : List Range) (l m : List ℕ) → NoSlash rs → text_from rs (l ++ (slash ∷ m)) ≡ text_from rs l && is_text m
+pub from_slash : (rs : List Range) (l m : List ℕ) → NoSlash rs → text_from rs (l ++ (slash ∷ m)) ≡ text_from rs l && is_text m
 unfolding text_from step
-from-slash [] [] m h = ap (λ (rs : List Range). text_from rs m) slash-whole
-from-slash (r ∷ rs) [] m h = ap (λ (qs : List Range). text_from qs m) (pick_false _ _ h.0) ∙ never-text m
-from-slash rs (c ∷ l) m h = from-slash (step rs c) l m (step-slash rs c h)
+from_slash [] [] m h = ap (λ (rs : List Range). text_from rs m) slash_whole
+from_slash (r ∷ rs) [] m h = ap (λ (qs : List Range). text_from qs m) (pick_false _ _ h.0) ∙ never_text m
+from_slash rs (c ∷ l) m h = from_slash (step rs c) l m (step_slash rs c h)
 
-pub text-none : is_text [] ≡ true
+pub text_none : is_text [] ≡ true
 unfolding text_from
-text-none = refl
+text_none = refl
 
 -- THE LAW: bytes with a slash in them are text exactly if those before it and those behind it are.
-pub text-slash : (l m : List ℕ) → is_text (l ++ (slash ∷ m)) ≡ is_text l && is_text m
-text-slash l m = from-slash [] l m tt
+pub text_slash : (l m : List ℕ) → is_text (l ++ (slash ∷ m)) ≡ is_text l && is_text m
+text_slash l m = from_slash [] l m tt

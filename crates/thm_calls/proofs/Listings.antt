@@ -33,10 +33,10 @@ module _ {X : Type 0} where
       pick_true _ _ (lt-ltb (b + (14 + length e.name)) cap (omega arith)) ∙ ap suc (all_fit cap (b + (14 + length e.name)) es (omega arith))
 
   -- not more go in than there are
-  few-fit : (cap b : ℕ) (es : List (Entry X)) → fitting cap b es ≤ length es
+  few_fit : (cap b : ℕ) (es : List (Entry X)) → fitting cap b es ≤ length es
   unfolding fitting
-  few-fit cap b [] = omega arith
-  few-fit cap b (e ∷ es) = go (either (ltb (b + (14 + length e.name)) cap)) (few-fit cap (b + (14 + length e.name)) es)
+  few_fit cap b [] = omega arith
+  few_fit cap b (e ∷ es) = go (either (ltb (b + (14 + length e.name)) cap)) (few_fit cap (b + (14 + length e.name)) es)
     where
       go : (ltb (b + (14 + length e.name)) cap ≡ true) ⊎ (ltb (b + (14 + length e.name)) cap ≡ false)
           → fitting cap (b + (14 + length e.name)) es ≤ length es → fitting cap b (e ∷ es) ≤ length (e ∷ es)
@@ -50,7 +50,7 @@ module _ {X : Type 0} where
 
   listed_count : (i cap : ℕ) (es : List (Entry X)) → fitting cap 0 (drop i es) ≡ length (listed_from i cap es)
   unfolding listed_from
-  listed_count i cap es = sym (length-take-le (fitting cap 0 (drop i es)) (drop i es) (few-fit cap 0 (drop i es)))
+  listed_count i cap es = sym (length-take-le (fitting cap 0 (drop i es)) (drop i es) (few_fit cap 0 (drop i es)))
 
 -- ---- the entries of a walk
 
@@ -155,13 +155,13 @@ module _ {X : Type 0} (v : View X) where
     remaining = tells_skip i (entries_of bs) (walk_of v bs) (tells_walk bs)
 
     -- The answer is the bytes of the entries that it shows, and the number after them; the bytes are those of their records.
-    pub dir-counts : list_from cap 0 i (skip i (walk_of v bs)) ≡ listed.Records (records_long (listed_from i cap (entries_of bs))) (i + length (listed_from i cap (entries_of bs)))
+    pub dir_counts : list_from cap 0 i (skip i (walk_of v bs)) ≡ listed.Records (records_long (listed_from i cap (entries_of bs))) (i + length (listed_from i cap (entries_of bs)))
     unfolding listed_from
-    dir-counts =
+    dir_counts =
         let a : 0 + records_long (listed_from i cap (entries_of bs)) ≡ records_long (listed_from i cap (entries_of bs)) = zero-add _ in
         let c : i + fitting cap 0 (drop i (entries_of bs)) ≡ i + length (listed_from i cap (entries_of bs)) = ap (λ (k : ℕ). i + k) (listed_count i cap (entries_of bs)) in
         listing_counts cap (drop i (entries_of bs)) (skip i (walk_of v bs)) 0 i remaining ∙ λ j. listed.Records (a j) (c j)
 
-    pub dir-records : records_from cap 0 (skip i (walk_of v bs)) ≡ records_of v (listed_from i cap (entries_of bs))
+    pub dir_records : records_from cap 0 (skip i (walk_of v bs)) ≡ records_of v (listed_from i cap (entries_of bs))
     unfolding listed_from
-    dir-records = listing_records cap (drop i (entries_of bs)) (skip i (walk_of v bs)) 0 remaining
+    dir_records = listing_records cap (drop i (entries_of bs)) (skip i (walk_of v bs)) 0 remaining

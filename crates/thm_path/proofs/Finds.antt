@@ -12,8 +12,8 @@ use Rattle.model.specs.Tree.{Name, Entry, Block, Below, Tree, any, first, then, 
 use Rattle.model.specs.Render.{View, blocks_at, view, offset}
 use Rattle.model.specs.Geometry.{area_of, Geo, block_size}
 use Rattle.model.specs.Volume.{Laid}
-use Rattle.model.proofs.Lists.{not_some, any-there, first-here, first-there, none-head, none_tail}
-use Rattle.model.proofs.Others.{lookup-here, lookup-there}
+use Rattle.model.proofs.Lists.{not_some, any_there, first_here, first_there, none_head, none_tail}
+use Rattle.model.proofs.Others.{lookup_here, lookup_there}
 use Rattle.dir_entry.specs.declared.DirEntry.{DirEntry}
 use Rattle.dir_entry.specs.Shown.{head_of}
 use Rattle.read_dir.specs.declared.Place.{Place}
@@ -35,9 +35,9 @@ module _ {X : Type 0} (n : Name) where
     where
       go : (called n x ≡ true) ⊎ (called n x ≡ false) → ((e : Entry X) × (first (called n) es ≡ some e)) ⊎ (any (called n) es ≡ false)
           → ((e : Entry X) × (first (called n) (x ∷ es) ≡ some e)) ⊎ (any (called n) (x ∷ es) ≡ false)
-      go (inl c) r = inl (x, first-here (called n) x es c)
-      go (inr c) (inl r) = inl (r.0, first-there (called n) x es c ∙ r.1)
-      go (inr c) (inr r) = inr (any-there (called n) x es c ∙ r)
+      go (inl c) r = inl (x, first_here (called n) x es c)
+      go (inr c) (inl r) = inl (r.0, first_there (called n) x es c ∙ r.1)
+      go (inr c) (inr r) = inr (any_there (called n) x es c ∙ r)
 
   -- A name is in a directory, or absent.
   pub lookup_or : (bs : List (Block X)) → ((e : Entry X) × (lookup n bs ≡ some e)) ⊎ Absent n bs
@@ -48,60 +48,60 @@ module _ {X : Type 0} (n : Name) where
       go : ((e : Entry X) × (first (called n) b.entries ≡ some e)) ⊎ (any (called n) b.entries ≡ false)
           → (holds n b ≡ true) ⊎ (holds n b ≡ false)
           → ((e : Entry X) × (lookup n bs ≡ some e)) ⊎ Absent n bs → ((e : Entry X) × (lookup n (b ∷ bs) ≡ some e)) ⊎ Absent n (b ∷ bs)
-      go (inl r) (inl c) q = inl (r.0, lookup-here n b bs c ∙ r.1)
+      go (inl r) (inl c) q = inl (r.0, lookup_here n b bs c ∙ r.1)
       go (inr r) (inl c) q = absurd (not_both c r)
-      go r (inr c) (inl q) = inl (q.0, lookup-there n b bs c ∙ q.1)
-      go r (inr c) (inr q) = inr (any-there (holds n) b bs c ∙ q)
+      go r (inr c) (inl q) = inl (q.0, lookup_there n b bs c ∙ q.1)
+      go r (inr c) (inr q) = inr (any_there (holds n) b bs c ∙ q)
 
   module _ (v : View X) (a : ℕ) where
     -- in a block
-    items-here : (es : List (Entry X)) (o : ℕ) (w : Walk) (e : Entry X) → first (called n) es ≡ some e
+    items_here : (es : List (Entry X)) (o : ℕ) (w : Walk) (e : Entry X) → first (called n) es ≡ some e
         → find_in n (items_of v a o es w) ≡ found.At (head_of v e) (placed a (o + offset n es))
     unfolding first items_of find_in offset called
-    items-here [] o w e f = absurd (not_some refl f)
-    items-here (x ∷ es) o w e f = go (either (called n x)) (items-here es (o + weight x) w e)
+    items_here [] o w e f = absurd (not_some refl f)
+    items_here (x ∷ es) o w e f = go (either (called n x)) (items_here es (o + weight x) w e)
       where
         go : (called n x ≡ true) ⊎ (called n x ≡ false)
             → (first (called n) es ≡ some e → find_in n (items_of v a (o + weight x) es w) ≡ found.At (head_of v e) (placed a (o + weight x + offset n es)))
             → find_in n (items_of v a o (x ∷ es) w) ≡ found.At (head_of v e) (placed a (o + offset n (x ∷ es)))
         go (inl c) r =
-            let both : some x ≡ some e = sym (first-here (called n) x es c) ∙ f in
+            let both : some x ≡ some e = sym (first_here (called n) x es c) ∙ f in
             let k : x ≡ e = cc in
             let z : o ≡ o + offset n (x ∷ es) = sym (ap (λ (j : ℕ). o + j) (pick_true 0 (weight x + offset n es) c) ∙ add-zero o) in
             pick_true _ _ (same_swap x.name n ∙ c) ∙ λ i. found.At (head_of v (k i)) (placed a (z i))
         go (inr c) r =
             let z : o + weight x + offset n es ≡ o + offset n (x ∷ es)
             = add_assoc o (weight x) (offset n es) ∙ sym (ap (λ (j : ℕ). o + j) (pick_false 0 (weight x + offset n es) c)) in
-            pick_false _ _ (same_swap x.name n ∙ c) ∙ r (sym (first-there (called n) x es c) ∙ f) ∙ λ i. found.At (head_of v e) (placed a (z i))
+            pick_false _ _ (same_swap x.name n ∙ c) ∙ r (sym (first_there (called n) x es c) ∙ f) ∙ λ i. found.At (head_of v e) (placed a (z i))
 
-    items-there : (es : List (Entry X)) (o : ℕ) (w : Walk) → any (called n) es ≡ false → find_in n (items_of v a o es w) ≡ find_in n w
+    items_there : (es : List (Entry X)) (o : ℕ) (w : Walk) → any (called n) es ≡ false → find_in n (items_of v a o es w) ≡ find_in n w
     unfolding items_of find_in
-    items-there [] o w h = refl
-    items-there (x ∷ es) o w h =
-        pick_false _ _ (same_swap x.name n ∙ (unfold called in none-head (called n) x es h)) ∙ items-there es (o + weight x) w (none_tail (called n) x es h)
+    items_there [] o w h = refl
+    items_there (x ∷ es) o w h =
+        pick_false _ _ (same_swap x.name n ∙ (unfold called in none_head (called n) x es h)) ∙ items_there es (o + weight x) w (none_tail (called n) x es h)
 
   module _ (v : View X) where
     -- The entry of a name is found in the walk, at its place,
-    pub walk-finds : (bs : List (Block X)) (e : Entry X) → lookup n bs ≡ some e → find_in n (walk_of v bs) ≡ found.At (head_of v e) (spot_of n bs)
+    pub walk_finds : (bs : List (Block X)) (e : Entry X) → lookup n bs ≡ some e → find_in n (walk_of v bs) ≡ found.At (head_of v e) (spot_of n bs)
     unfolding lookup first then walk_of spot_of
-    walk-finds [] e l = absurd (not_some refl l)
-    walk-finds (b ∷ bs) e l = go (either (holds n b)) (walk-finds bs e)
+    walk_finds [] e l = absurd (not_some refl l)
+    walk_finds (b ∷ bs) e l = go (either (holds n b)) (walk_finds bs e)
       where
         go : (holds n b ≡ true) ⊎ (holds n b ≡ false) → (lookup n bs ≡ some e → find_in n (walk_of v bs) ≡ found.At (head_of v e) (spot_of n bs))
             → find_in n (walk_of v (b ∷ bs)) ≡ found.At (head_of v e) (spot_of n (b ∷ bs))
         go (inl c) r =
-            items-here v b.at b.entries 0 (walk_of v bs) e (sym (lookup-here n b bs c) ∙ l)
+            items_here v b.at b.entries 0 (walk_of v bs) e (sym (lookup_here n b bs c) ∙ l)
             ∙ ap (λ (j : ℕ). found.At (head_of v e) (placed b.at j)) (zero-add (offset n b.entries))
             ∙ ap (found.At (head_of v e)) (sym (pick_true (placed b.at (offset n b.entries)) (spot_of n bs) c))
         go (inr c) r =
-            items-there v b.at b.entries 0 (walk_of v bs) (unfold holds in c) ∙ r (sym (lookup-there n b bs c) ∙ l)
+            items_there v b.at b.entries 0 (walk_of v bs) (unfold holds in c) ∙ r (sym (lookup_there n b bs c) ∙ l)
             ∙ ap (found.At (head_of v e)) (sym (pick_false (placed b.at (offset n b.entries)) (spot_of n bs) c))
 
     -- and a name that is absent is missing there.
     pub walk_misses : (bs : List (Block X)) → Absent n bs → find_in n (walk_of v bs) ≡ found.Missing
     unfolding walk_of find_in
     walk_misses [] h = refl
-    walk_misses (b ∷ bs) h = items-there v b.at b.entries 0 (walk_of v bs) (unfold holds in none-head (holds n) b bs h) ∙ walk_misses bs (none_tail (holds n) b bs h)
+    walk_misses (b ∷ bs) h = items_there v b.at b.entries 0 (walk_of v bs) (unfold holds in none_head (holds n) b bs h) ∙ walk_misses bs (none_tail (holds n) b bs h)
 
 -- ---- the entries in order
 
@@ -127,39 +127,39 @@ module _ (g : Geo) (I : List ℕ) (d : ℕ) (t : Tree d) (u : ℕ) (p : List Nam
   abbrev at_path : Walk
   at_path = walk (area_of g) I (blocks_at s.1)
 
-  abbrev view-there : View (Below s.0)
-  view-there = view (block_size g) s.0
+  abbrev view_there : View (Below s.0)
+  view_there = view (block_size g) s.0
 
   -- A name of the directory is found, with what its entry shows and its place.
-  pub find-is : (n : Name) (e : Entry (Below s.0)) → lookup n s.1 ≡ some e → find_in n at_path ≡ found.At (head_of view-there e) (spot_of n s.1)
-  find-is n e k = ap (find_in n) (walk_is g I d t u p s l f) ∙ walk-finds n view-there s.1 e k
+  pub find_is : (n : Name) (e : Entry (Below s.0)) → lookup n s.1 ≡ some e → find_in n at_path ≡ found.At (head_of view_there e) (spot_of n s.1)
+  find_is n e k = ap (find_in n) (walk_is g I d t u p s l f) ∙ walk_finds n view_there s.1 e k
 
   -- A name that the directory has not is missing.
   pub find-missing : (n : Name) → Absent n s.1 → find_in n at_path ≡ found.Missing
-  find-missing n k = ap (find_in n) (walk_is g I d t u p s l f) ∙ walk_misses n view-there s.1 k
+  find-missing n k = ap (find_in n) (walk_is g I d t u p s l f) ∙ walk_misses n view_there s.1 k
 
   -- There is no third case: what is found is an entry of the tree,
-  pub found-is : (n : Name) (r : DirEntry) (q : Place) → find_in n at_path ≡ found.At r q
-      → (e : Entry (Below s.0)) × (lookup n s.1 ≡ some e) × (r ≡ head_of view-there e) × (q ≡ spot_of n s.1)
-  found-is n r q k = go (lookup_or n s.1)
+  pub found_is : (n : Name) (r : DirEntry) (q : Place) → find_in n at_path ≡ found.At r q
+      → (e : Entry (Below s.0)) × (lookup n s.1 ≡ some e) × (r ≡ head_of view_there e) × (q ≡ spot_of n s.1)
+  found_is n r q k = go (lookup_or n s.1)
     where
       go : ((e : Entry (Below s.0)) × (lookup n s.1 ≡ some e)) ⊎ Absent n s.1
-          → (e : Entry (Below s.0)) × (lookup n s.1 ≡ some e) × (r ≡ head_of view-there e) × (q ≡ spot_of n s.1)
-      go (inl h) = let m = find-is n h.0 h.1 in let x : r ≡ head_of view-there h.0 = cc in let y : q ≡ spot_of n s.1 = cc in (h.0, h.1, x, y)
+          → (e : Entry (Below s.0)) × (lookup n s.1 ≡ some e) × (r ≡ head_of view_there e) × (q ≡ spot_of n s.1)
+      go (inl h) = let m = find_is n h.0 h.1 in let x : r ≡ head_of view_there h.0 = cc in let y : q ≡ spot_of n s.1 = cc in (h.0, h.1, x, y)
       go (inr h) = let m = find-missing n h in let z : ◌≡◌ {A = ℕ} 0 1 = cc in absurd (omega arith)
 
   -- a name that is missing is absent,
-  pub missing-is : (n : Name) → find_in n at_path ≡ found.Missing → Absent n s.1
-  missing-is n k = go (lookup_or n s.1)
+  pub missing_is : (n : Name) → find_in n at_path ≡ found.Missing → Absent n s.1
+  missing_is n k = go (lookup_or n s.1)
     where
       go : ((e : Entry (Below s.0)) × (lookup n s.1 ≡ some e)) ⊎ Absent n s.1 → Absent n s.1
-      go (inl h) = let m = find-is n h.0 h.1 in let z : ◌≡◌ {A = ℕ} 0 1 = cc in absurd (omega arith)
+      go (inl h) = let m = find_is n h.0 h.1 in let z : ◌≡◌ {A = ℕ} 0 1 = cc in absurd (omega arith)
       go (inr h) = h
 
   -- The sum is the directory's size.
   pub sum_is : sum_from 0 at_path ≡ summed.Total (sum s.1)
-  sum_is = ap (sum_from 0) (walk_is g I d t u p s l f) ∙ walk-sum view-there s.1 0 ∙ ap summed.Total (zero-add (sum s.1))
+  sum_is = ap (sum_from 0) (walk_is g I d t u p s l f) ∙ walk-sum view_there s.1 0 ∙ ap summed.Total (zero-add (sum s.1))
 
   -- The entries of the walk are those of the directory, each once, in order.
-  pub list_is : items_in at_path ≡ map (pair_of view-there) (entries_of s.1)
-  list_is = ap items_in (walk_is g I d t u p s l f) ∙ walk_list view-there s.1
+  pub list_is : items_in at_path ≡ map (pair_of view_there) (entries_of s.1)
+  list_is = ap items_in (walk_is g I d t u p s l f) ∙ walk_list view_there s.1

@@ -13,13 +13,13 @@ use Rattle.model.specs.Render.{count}
 use Rattle.thm_survey.specs.Survey.{claim}
 
 module _ (A : Area) (I : List ℕ) (a : ℕ) (seen : List ℕ) where
-  pub claim-below : a < A.first → claim A I a seen ≡ none
+  pub claim_below : a < A.first → claim A I a seen ≡ none
   unfolding claim
-  claim-below h = pick_false _ _ (ap (λ (b : Bool). (b && ltb a A.end) && eqb (count a seen) 0) (lt-leb A.first a h))
+  claim_below h = pick_false _ _ (ap (λ (b : Bool). (b && ltb a A.end) && eqb (count a seen) 0) (lt-leb A.first a h))
 
-  pub claim-above : A.first ≤ a → A.end ≤ a → claim A I a seen ≡ none
+  pub claim_above : A.first ≤ a → A.end ≤ a → claim A I a seen ≡ none
   unfolding claim
-  claim-above h k = pick_false _ _ (ap (λ (b : Bool). (b && ltb a A.end) && eqb (count a seen) 0) (le-leb A.first a h) ∙ ap (λ (b : Bool). b && eqb (count a seen) 0) (le-ltb a A.end k))
+  claim_above h k = pick_false _ _ (ap (λ (b : Bool). (b && ltb a A.end) && eqb (count a seen) 0) (le-leb A.first a h) ∙ ap (λ (b : Bool). b && eqb (count a seen) 0) (le-ltb a A.end k))
 
   pub claim-taken : A.first ≤ a → a < A.end → count a seen ≡ 1 → claim A I a seen ≡ none
   unfolding claim
@@ -27,8 +27,8 @@ module _ (A : Area) (I : List ℕ) (a : ℕ) (seen : List ℕ) where
       pick_false _ _ (ap (λ (b : Bool). (b && ltb a A.end) && eqb (count a seen) 0) (le-leb A.first a h) ∙ ap (λ (b : Bool). b && eqb (count a seen) 0) (lt-ltb a A.end k)
       ∙ ne_eqb (count a seen) 0 (λ z. omega arith))
 
-  pub claim-free : A.first ≤ a → a < A.end → count a seen ≡ 0 → claim A I a seen ≡ some (a ∷ seen)
+  pub claim_free : A.first ≤ a → a < A.end → count a seen ≡ 0 → claim A I a seen ≡ some (a ∷ seen)
   unfolding claim
-  claim-free h k e =
+  claim_free h k e =
       pick_true _ _ (ap (λ (b : Bool). (b && ltb a A.end) && eqb (count a seen) 0) (le-leb A.first a h) ∙ ap (λ (b : Bool). b && eqb (count a seen) 0) (lt-ltb a A.end k)
       ∙ eq-eqb (count a seen) 0 e)

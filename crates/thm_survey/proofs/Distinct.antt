@@ -16,10 +16,10 @@ unfoldable pub times : Name → List Name → ℕ
 times x [] = 0
 times x (y ∷ ys) = pick (same x y) 1 0 + times x ys
 
-pub times-append : (x : Name) (ys zs : List Name) → times x (ys ++ zs) ≡ times x ys + times x zs
+pub times_append : (x : Name) (ys zs : List Name) → times x (ys ++ zs) ≡ times x ys + times x zs
 unfolding times
-times-append x [] zs = omega arith
-times-append x (y ∷ ys) zs = omega (arith, times-append x ys zs)
+times_append x [] zs = omega arith
+times_append x (y ∷ ys) zs = omega (arith, times_append x ys zs)
 
 times_none : (x : Name) (ys : List Name) → one_of x ys ≡ false → times x ys ≡ 0
 unfolding one_of any times
@@ -31,10 +31,10 @@ times_none x (y ∷ ys) h = go (either (same x y)) (times_none x ys)
     go (inr e) r = omega (arith, pick_false {A = ℕ} 1 0 e, r (sym (pick_false true (any (same x) ys) e) ∙ h))
 
 -- In a list of distinct names each stands once at most.
-pub distinct-once : (ys : List Name) → distinct ys ≡ true → (x : Name) → times x ys ≤ 1
+pub distinct_once : (ys : List Name) → distinct ys ≡ true → (x : Name) → times x ys ≤ 1
 unfolding distinct times
-distinct-once [] h x = omega arith
-distinct-once (y ∷ ys) h x = go (either (same x y)) (distinct-once ys p.1 x)
+distinct_once [] h x = omega arith
+distinct_once (y ∷ ys) h x = go (either (same x y)) (distinct_once ys p.1 x)
   where
     p : (not (one_of y ys) ≡ true) × (distinct ys ≡ true)
     p = and_both (not (one_of y ys)) (distinct ys) h
@@ -56,9 +56,9 @@ not_one x (y ∷ ys) z = go (either (same x y)) (not_one x ys)
     go (inr f) r = pick_false _ _ f ∙ r (omega arith)
 
 -- A list in which each stands once at most is distinct.
-pub once-distinct : (xs : List Name) → ((x : Name) → times x xs ≤ 1) → distinct xs ≡ true
+pub once_distinct : (xs : List Name) → ((x : Name) → times x xs ≤ 1) → distinct xs ≡ true
 unfolding times distinct
-once-distinct [] h = refl
-once-distinct (x ∷ xs) h =
+once_distinct [] h = refl
+once_distinct (x ∷ xs) h =
     let z : times x xs ≡ 0 = omega (arith, h x, pick_true {A = ℕ} 1 0 (same_refl x)) in
-    rw (not_one x xs z) (once-distinct xs (λ y. omega (arith, h y)))
+    rw (not_one x xs z) (once_distinct xs (λ y. omega (arith, h y)))

@@ -12,7 +12,7 @@ use Rattle.read_dir.specs.Walk.{walk}
 use Rattle.thm_survey.specs.Survey.{all_names, blocks_of, seen_of}
 use Rattle.thm_survey.specs.Steps.{open_dir}
 use Rattle.thm_survey.proofs.Walked.{open_is}
-use Rattle.thm_survey.proofs.Seen.{then-then, then_same, seen-then, then_pass, seen_pass, then-seen}
+use Rattle.thm_survey.proofs.Seen.{then-then, then_same, seen_then, then_pass, seen_pass, then_seen}
 
 module _ (A : Area) (I : List ℕ) where
   -- A directory's blocks, then its names, then whatever follows.
@@ -20,7 +20,7 @@ module _ (A : Area) (I : List ℕ) where
       → then (seen_of (open_dir A I a seen)) f ≡ then (blocks_of A I a seen) (λ c. pick (distinct (all_names c.found)) (f c.seen) none)
   unfolding open_dir
   open_then a seen f =
-      then-seen _ f
+      then_seen _ f
       ∙ then-then (blocks_of A I a seen) _ _
       ∙ then_same (blocks_of A I a seen) _ _ (λ c _. then_pass (distinct (all_names c.found)) c (λ c. f c.seen))
 
@@ -30,8 +30,8 @@ module _ (A : Area) (I : List ℕ) where
       ≡ then (seen_of (blocks_of A I a seen)) (λ s. pick (ends (walk A I a) && distinct (names_in (walk A I a))) (some s) none)
   unfolding open_dir
   open_steps a seen =
-      seen-then (blocks_of A I a seen) _
+      seen_then (blocks_of A I a seen) _
       ∙ then_same (blocks_of A I a seen) _ _ (λ c q.
       seen_pass (distinct (all_names c.found)) c
       ∙ ap (λ (t : Bool). pick t (some c.seen) none) (sym (open_is A I a seen c q)))
-      ∙ sym (then-seen (blocks_of A I a seen) (λ s. pick (ends (walk A I a) && distinct (names_in (walk A I a))) (some s) none))
+      ∙ sym (then_seen (blocks_of A I a seen) (λ s. pick (ends (walk A I a) && distinct (names_in (walk A I a))) (some s) none))

@@ -40,8 +40,8 @@ module _ (B : ℕ) (I : List ℕ) (a : ℕ) where
       ap (λ (z : Option (List Raw)). pick (passes e (name_at I (place_at B a o) e.len)) (then z (λ rs. some (record { head = e; name = name_at I (place_at B a o) e.len } ∷ rs))) none)
       (raws_bound f k (o + header + e.len) w five (omega arith) (omega arith)))
 
-  pub raws-step : (o : ℕ) → o ≤ B - 5 → 5 ≤ B → raws_from B I B a o ≡ on_slot (slot_at B I a o) (reads B o) (stops o)
-  raws-step o l five = go B refl
+  pub raws_step : (o : ℕ) → o ≤ B - 5 → 5 ≤ B → raws_from B I B a o ≡ on_slot (slot_at B I a o) (reads B o) (stops o)
+  raws_step o l five = go B refl
     where
       go : (f : ℕ) → f ≡ B → raws_from B I B a o ≡ on_slot (slot_at B I a o) (reads B o) (stops o)
       go zero e = absurd (omega arith)

@@ -26,10 +26,10 @@ then_test true o f = refl
 then_test false o f = refl
 
 -- what is claimed, step by step
-pub seen-then : {X Y : Type 0} (o : Option X) (f : X → Option (Claimed Y)) → seen_of (then o f) ≡ then o (λ x. seen_of (f x))
+pub seen_then : {X Y : Type 0} (o : Option X) (f : X → Option (Claimed Y)) → seen_of (then o f) ≡ then o (λ x. seen_of (f x))
 unfolding seen_of then
-seen-then none f = refl
-seen-then (some x) f = refl
+seen_then none f = refl
+seen_then (some x) f = refl
 
 pub seen_test : {X : Type 0} (t : Bool) (o : Option (Claimed X)) → seen_of (pick t o none) ≡ pick t (seen_of o) none
 unfolding seen_of then pick
@@ -47,20 +47,20 @@ unfolding seen_of
 seen_pass t c = then_pass t c (λ c. some c.seen)
 
 -- a test after a step, which must hold whatever is found
-pub seen-after : {X : Type 0} (t : Bool) (o : Option (Claimed X)) → then o (λ c. pick t (some c.seen) none) ≡ pick t (seen_of o) none
+pub seen_after : {X : Type 0} (t : Bool) (o : Option (Claimed X)) → then o (λ c. pick t (some c.seen) none) ≡ pick t (seen_of o) none
 unfolding seen_of then pick
-seen-after true none = refl
-seen-after true (some c) = refl
-seen-after false none = refl
-seen-after false (some c) = refl
+seen_after true none = refl
+seen_after true (some c) = refl
+seen_after false none = refl
+seen_after false (some c) = refl
 
 -- what is done with what is claimed
-pub then-seen : {X Y : Type 0} (o : Option (Claimed X)) (f : List ℕ → Option Y) → then (seen_of o) f ≡ then o (λ c. f c.seen)
+pub then_seen : {X Y : Type 0} (o : Option (Claimed X)) (f : List ℕ → Option Y) → then (seen_of o) f ≡ then o (λ c. f c.seen)
 unfolding seen_of then
-then-seen none f = refl
-then-seen (some c) f = refl
+then_seen none f = refl
+then_seen (some c) f = refl
 
-pub seen-with : {X Y : Type 0} (f : X → Y) (o : Option (Claimed X)) → seen_of (with_found f o) ≡ seen_of o
+pub seen_with : {X Y : Type 0} (f : X → Y) (o : Option (Claimed X)) → seen_of (with_found f o) ≡ seen_of o
 unfolding seen_of with_found then
-seen-with f none = refl
-seen-with f (some c) = refl
+seen_with f none = refl
+seen_with f (some c) = refl

@@ -14,7 +14,7 @@ use Rattle.block.specs.Block.{Area}
 use Rattle.model.specs.Tree.{then}
 use Rattle.model.specs.Render.{count}
 use Rattle.model.proofs.Lists.{not_some}
-use Rattle.model.proofs.Counts.{count_same, count-other, count_none, count-append}
+use Rattle.model.proofs.Counts.{count_same, count_other, count_none, count_append}
 use Rattle.read_dir.specs.Walk.{in_area}
 use Rattle.thm_survey.specs.Survey.{Claimed, with_found, claim}
 
@@ -29,30 +29,30 @@ module _ {A : Type 0} (P : A → Type 0) where
   each_none = record { is = λ x e. absurd (not_some refl e) }
 
   -- x is found
-  pub each-some : (x : A) → P x → Each P (some x)
-  each-some x p = record { is = λ y e. let q : x ≡ y = cc in subst P q p }
+  pub each_some : (x : A) → P x → Each P (some x)
+  each_some x p = record { is = λ y e. let q : x ≡ y = cc in subst P q p }
 
   -- what follows a step that found something
-  pub each-then : {B : Type 0} (o : Option B) (f : B → Option A) → ((x : B) → o ≡ some x → Each P (f x)) → Each P (then o f)
+  pub each_then : {B : Type 0} (o : Option B) (f : B → Option A) → ((x : B) → o ≡ some x → Each P (f x)) → Each P (then o f)
   unfolding then
-  each-then none f h = each_none
-  each-then (some x) f h = h x refl
+  each_then none f h = each_none
+  each_then (some x) f h = h x refl
 
   -- one of two, by a test
-  pub each-pick : (t : Bool) (o p : Option A) → (t ≡ true → Each P o) → (t ≡ false → Each P p) → Each P (pick t o p)
+  pub each_pick : (t : Bool) (o p : Option A) → (t ≡ true → Each P o) → (t ≡ false → Each P p) → Each P (pick t o p)
   unfolding pick
-  each-pick true o p h k = h refl
-  each-pick false o p h k = k refl
+  each_pick true o p h k = h refl
+  each_pick false o p h k = k refl
 
   -- a test that must hold
   pub each_test : (t : Bool) (o : Option A) → (t ≡ true → Each P o) → Each P (pick t o none)
-  each_test t o h = each-pick t o none h (λ _. each_none)
+  each_test t o h = each_pick t o none h (λ _. each_none)
 
 -- what is made of what was found
-pub each-with : {X Y : Type 0} (P : Claimed Y → Type 0) (f : X → Y) (o : Option (Claimed X))
+pub each_with : {X Y : Type 0} (P : Claimed Y → Type 0) (f : X → Y) (o : Option (Claimed X))
     → ((c : Claimed X) → o ≡ some c → P (record { found = f c.found; seen = c.seen })) → Each P (with_found f o)
 unfolding with_found
-each-with P f o h = each-then P o _ (λ c e. each-some P _ (h c e))
+each_with P f o h = each_then P o _ (λ c e. each_some P _ (h c e))
 
 -- ---- the blocks that are claimed
 
@@ -64,25 +64,25 @@ pub record Claims (A : Area) (seen now xs : List ℕ) : Type 0 where
 
 module _ (A : Area) where
   -- nothing was claimed
-  pub claims-none : (seen : List ℕ) → Claims A seen seen []
-  claims-none seen = record { counted = λ i. omega (arith, count_none i); range = λ i h. absurd (omega (arith, count_none i)); once = λ i h. h }
+  pub claims_none : (seen : List ℕ) → Claims A seen seen []
+  claims_none seen = record { counted = λ i. omega (arith, count_none i); range = λ i h. absurd (omega (arith, count_none i)); once = λ i h. h }
 
   -- first xs, then ys
-  pub claims-both : (r s t xs ys : List ℕ) → Claims A r s xs → Claims A s t ys → Claims A r t (xs ++ ys)
-  claims-both r s t xs ys c d =
+  pub claims_both : (r s t xs ys : List ℕ) → Claims A r s xs → Claims A s t ys → Claims A r t (xs ++ ys)
+  claims_both r s t xs ys c d =
       record {
-        counted = λ i. omega (arith, c.counted i, d.counted i, count-append i xs ys);
+        counted = λ i. omega (arith, c.counted i, d.counted i, count_append i xs ys);
         range = λ i h. go i h (dec_lt 0 (count i xs));
         once = λ i h. d.once i (c.once i h);
       }
     where
       go : (i : ℕ) → 1 ≤ count i (xs ++ ys) → Dec (0 < count i xs) → (A.first ≤ i) × (i < A.end)
       go i h (yes p) = c.range i p
-      go i h (no p) = d.range i (omega (arith, count-append i xs ys))
+      go i h (no p) = d.range i (omega (arith, count_append i xs ys))
 
   -- the order of the blocks is no matter
-  pub claims-same : (s t xs ys : List ℕ) → ((i : ℕ) → count i ys ≡ count i xs) → Claims A s t xs → Claims A s t ys
-  claims-same s t xs ys e c =
+  pub claims_same : (s t xs ys : List ℕ) → ((i : ℕ) → count i ys ≡ count i xs) → Claims A s t xs → Claims A s t ys
+  claims_same s t xs ys e c =
       record { counted = λ i. omega (arith, c.counted i, e i); range = λ i h. c.range i (omega (arith, e i)); once = c.once }
 
   -- A block that is claimed is in D..n-1, and it alone is claimed.
@@ -96,22 +96,22 @@ module _ (A : Area) where
     where
       at : (i : ℕ) → Dec (i ≡ a) → count i (a ∷ seen) ≡ count i seen + count i (a ∷ [])
       at i (yes e) = omega (arith, count_same i a seen e, count_same i a [] e, count_none i)
-      at i (no e) = omega (arith, count-other i a seen e, count-other i a [] e, count_none i)
+      at i (no e) = omega (arith, count_other i a seen e, count_other i a [] e, count_none i)
 
       within : (i : ℕ) → 1 ≤ count i (a ∷ []) → Dec (i ≡ a) → (A.first ≤ i) × (i < A.end)
       within i k (yes e) = (omega arith, omega arith)
-      within i k (no e) = absurd (omega (arith, count-other i a [] e, count_none i))
+      within i k (no e) = absurd (omega (arith, count_other i a [] e, count_none i))
 
       few : (i : ℕ) → count i seen ≤ 1 → Dec (i ≡ a) → count i (a ∷ seen) ≤ 1
       few i k (yes e) = let y : count i seen ≡ 0 = ap (λ (j : ℕ). count j seen) e ∙ z in omega (arith, count_same i a seen e)
-      few i k (no e) = omega (arith, count-other i a seen e)
+      few i k (no e) = omega (arith, count_other i a seen e)
 
   -- So it is wherever `claim` answers.
-  pub each-claim : (I : List ℕ) (a : ℕ) (seen : List ℕ) → Each (Claim a seen) (claim A I a seen)
+  pub each_claim : (I : List ℕ) (a : ℕ) (seen : List ℕ) → Each (Claim a seen) (claim A I a seen)
   unfolding claim
-  each-claim I a seen =
+  each_claim I a seen =
       each_test (Claim a seen) (in_area A I a && eqb (count a seen) 0) (some (a ∷ seen))
       (λ t.
       let p = and_both (in_area A I a) (eqb (count a seen) 0) t in
       let q = and_both (leb A.first a) (ltb a A.end) p.0 in
-      each-some (Claim a seen) (a ∷ seen) (one-claim a seen (leb-true A.first a q.0) (ltb-true a A.end q.1) (eqb-true (count a seen) 0 p.1)))
+      each_some (Claim a seen) (a ∷ seen) (one-claim a seen (leb-true A.first a q.0) (ltb-true a A.end q.1) (eqb-true (count a seen) 0 p.1)))

@@ -25,8 +25,8 @@ use Rattle.read_dir.specs.Walk as walks
 use Rattle.text.specs.Text.{is_name}
 use Rattle.check_names.specs.Names.{distinct, names_in, ends}
 use Rattle.thm_survey.specs.Survey.{Raw, RawBlock, names_of, all_names, has_some, Claimed, on_slot, passes, claim, raws_from, later_of, blocks_of}
-use Rattle.thm_survey.proofs.SoundLaws.{Each, each_none, each-some, each-then, each-pick, each_test, each-with, Claim, each-claim}
-use Rattle.thm_survey.proofs.SoundCells.{part-long}
+use Rattle.thm_survey.proofs.SoundLaws.{Each, each_none, each_some, each_then, each_pick, each_test, each_with, Claim, each_claim}
+use Rattle.thm_survey.proofs.SoundCells.{part_long}
 
 -- ---- the walk of blocks that are found
 
@@ -40,25 +40,25 @@ blocks_walk [] = finished
 blocks_walk (b ∷ bs) = raws_walk b.at 0 b.raws (blocks_walk bs)
 
 -- its names, and that it ends
-raws-names : (a o : ℕ) (rs : List Raw) (w : Walk) → names_in (raws_walk a o rs w) ≡ names_of rs ++ names_in w
+raws_names : (a o : ℕ) (rs : List Raw) (w : Walk) → names_in (raws_walk a o rs w) ≡ names_of rs ++ names_in w
 unfolding raws_walk names_in names_of
-raws-names a o [] w = refl
-raws-names a o (r ∷ rs) w = ap (λ (l : List Name). r.name ∷ l) (raws-names a (o + header + r.head.len) rs w)
+raws_names a o [] w = refl
+raws_names a o (r ∷ rs) w = ap (λ (l : List Name). r.name ∷ l) (raws_names a (o + header + r.head.len) rs w)
 
-walk-names : (bs : List RawBlock) → names_in (blocks_walk bs) ≡ all_names bs
+walk_names : (bs : List RawBlock) → names_in (blocks_walk bs) ≡ all_names bs
 unfolding blocks_walk names_in all_names
-walk-names [] = refl
-walk-names (b ∷ bs) = raws-names b.at 0 b.raws (blocks_walk bs) ∙ ap (λ (l : List Name). names_of b.raws ++ l) (walk-names bs)
+walk_names [] = refl
+walk_names (b ∷ bs) = raws_names b.at 0 b.raws (blocks_walk bs) ∙ ap (λ (l : List Name). names_of b.raws ++ l) (walk_names bs)
 
-raws-ends : (a o : ℕ) (rs : List Raw) (w : Walk) → ends (raws_walk a o rs w) ≡ ends w
+raws_ends : (a o : ℕ) (rs : List Raw) (w : Walk) → ends (raws_walk a o rs w) ≡ ends w
 unfolding raws_walk ends
-raws-ends a o [] w = refl
-raws-ends a o (r ∷ rs) w = raws-ends a (o + header + r.head.len) rs w
+raws_ends a o [] w = refl
+raws_ends a o (r ∷ rs) w = raws_ends a (o + header + r.head.len) rs w
 
 walk_ends : (bs : List RawBlock) → ends (blocks_walk bs) ≡ true
 unfolding blocks_walk ends
 walk_ends [] = refl
-walk_ends (b ∷ bs) = raws-ends b.at 0 b.raws (blocks_walk bs) ∙ walk_ends bs
+walk_ends (b ∷ bs) = raws_ends b.at 0 b.raws (blocks_walk bs) ∙ walk_ends bs
 
 -- ---- whatever is found is what the walk gives
 
@@ -76,16 +76,16 @@ unfolding on_slot
 each_at P (slot.Entry e) f o h k = h e refl
 each_at P slot.Stop f o h k = k refl
 
-passes-address : (e : DirEntry) (x : Name) → passes e x ≡ true → eqb e.addr.0 0 ≡ false
+passes_address : (e : DirEntry) (x : Name) → passes e x ≡ true → eqb e.addr.0 0 ≡ false
 unfolding passes
-passes-address e x h = not-true (eqb e.addr.0 0) (and_both (not (eqb e.addr.0 0)) (is_name x) h).0
+passes_address e x h = not-true (eqb e.addr.0 0) (and_both (not (eqb e.addr.0 0)) (is_name x) h).0
 
 module _ (A : Area) (I : List ℕ) where
   -- the walk at an entry that passes, and where the entries stop
-  entry-walk : (f a o : ℕ) (e : DirEntry) (w : Walk) → slot_at A.size I a o ≡ slot.Entry e → eqb e.addr.0 0 ≡ false
+  entry_walk : (f a o : ℕ) (e : DirEntry) (w : Walk) → slot_at A.size I a o ≡ slot.Entry e → eqb e.addr.0 0 ≡ false
       → entries_from A I (suc f) a o w ≡ item e a o (name_at I (place_at A.size a o) e.len) (entries_from A I f a (o + header + e.len) w)
   unfolding entries_from walks.on_slot shown
-  entry-walk f a o e w s z =
+  entry_walk f a o e w s z =
       ap (λ (x : Slot). walks.on_slot x (λ e. shown A I e a o (entries_from A I f a (o + header + e.len) w)) w) s
       ∙ pick_false _ _ z
 
@@ -96,22 +96,22 @@ module _ (A : Area) (I : List ℕ) where
   abbrev Walks : ℕ → ℕ → ℕ → List Raw → Type 0
   Walks f a o rs = (w : Walk) → entries_from A I f a o w ≡ raws_walk a o rs w
 
-  each-walk : (f a o : ℕ) → Each (Walks f a o) (raws_from A.size I f a o)
+  each_walk : (f a o : ℕ) → Each (Walks f a o) (raws_from A.size I f a o)
   unfolding raws_from raws_walk
-  each-walk zero a o = each_none (Walks zero a o)
-  each-walk (suc f) a o =
+  each_walk zero a o = each_none (Walks zero a o)
+  each_walk (suc f) a o =
       each_at (Walks (suc f) a o) (slot_at A.size I a o) _ _
       (λ e q. each_test (Walks (suc f) a o) (passes e (name_at I (place_at A.size a o) e.len)) _
-      (λ t. each-then (Walks (suc f) a o) (raws_from A.size I f a (o + header + e.len)) _
-      (λ rs g. each-some (Walks (suc f) a o) _
-      (λ w. entry-walk f a o e w q (passes-address e (name_at I (place_at A.size a o) e.len) t)
-      ∙ ap (item e a o (name_at I (place_at A.size a o) e.len)) ((each-walk f a (o + header + e.len)).is rs g w)))))
+      (λ t. each_then (Walks (suc f) a o) (raws_from A.size I f a (o + header + e.len)) _
+      (λ rs g. each_some (Walks (suc f) a o) _
+      (λ w. entry_walk f a o e w q (passes_address e (name_at I (place_at A.size a o) e.len) t)
+      ∙ ap (item e a o (name_at I (place_at A.size a o) e.len)) ((each_walk f a (o + header + e.len)).is rs g w)))))
       (λ q. each_test (Walks (suc f) a o) (zero_from I (place_at A.size a o) (A.size - 4 - o)) _
-      (λ _. each-some (Walks (suc f) a o) [] (λ w. stop_walk f a o w q)))
+      (λ _. each_some (Walks (suc f) a o) [] (λ w. stop_walk f a o w q)))
 
   -- The entries that `raws_from` finds are those of the walk.
-  raws-walk : (f a o : ℕ) (rs : List Raw) → raws_from A.size I f a o ≡ some rs → (w : Walk) → entries_from A I f a o w ≡ raws_walk a o rs w
-  raws-walk f a o rs g w = (each-walk f a o).is rs g w
+  raws_walk_lem : (f a o : ℕ) (rs : List Raw) → raws_from A.size I f a o ≡ some rs → (w : Walk) → entries_from A I f a o w ≡ raws_walk a o rs w
+  raws_walk_lem f a o rs g w = (each_walk f a o).is rs g w
 
   -- Their names are as long as they say.
   each_long : (a : ℕ) → A.size * a + A.size ≤ length I → (f o : ℕ) → Each (All LongName) (raws_from A.size I f a o)
@@ -123,21 +123,21 @@ module _ (A : Area) (I : List ℕ) where
       let s : Stands A.size I a o e = slot_stands A.size I a o e q in
       let l : place_at A.size a o + header + e.len ≤ length I = omega (arith, s.offset, s.ends) in
       each_test (All LongName) (passes e (name_at I (place_at A.size a o) e.len)) _
-      (λ t. each-then (All LongName) (raws_from A.size I f a (o + header + e.len)) _
-      (λ rs g. each-some (All LongName) _ (sym (part-long I (place_at A.size a o + header) e.len l), (each_long a whole f (o + header + e.len)).is rs g))))
-      (λ q. each_test (All LongName) (zero_from I (place_at A.size a o) (A.size - 4 - o)) _ (λ _. each-some (All LongName) [] tt))
+      (λ t. each_then (All LongName) (raws_from A.size I f a (o + header + e.len)) _
+      (λ rs g. each_some (All LongName) _ (sym (part_long I (place_at A.size a o + header) e.len l), (each_long a whole f (o + header + e.len)).is rs g))))
+      (λ q. each_test (All LongName) (zero_from I (place_at A.size a o) (A.size - 4 - o)) _ (λ _. each_some (All LongName) [] tt))
 
-  raws-long : (f a o : ℕ) (rs : List Raw) → A.size * a + A.size ≤ length I → raws_from A.size I f a o ≡ some rs → All LongName rs
-  raws-long f a o rs whole g = (each_long a whole f o).is rs g
+  raws_long : (f a o : ℕ) (rs : List Raw) → A.size * a + A.size ≤ length I → raws_from A.size I f a o ≡ some rs → All LongName rs
+  raws_long f a o rs whole g = (each_long a whole f o).is rs g
 
   -- ---- a directory's blocks
 
   -- a claimed block is in the area
-  claim-area : (a : ℕ) (seen now : List ℕ) → claim A I a seen ≡ some now → in_area A I a ≡ true
+  claim_area : (a : ℕ) (seen now : List ℕ) → claim A I a seen ≡ some now → in_area A I a ≡ true
   unfolding claim
-  claim-area a seen now e =
+  claim_area a seen now e =
       (each_test (λ _. in_area A I a ≡ true) (in_area A I a && eqb (count a seen) 0) (some (a ∷ seen))
-      (λ t. each-some (λ _. in_area A I a ≡ true) (a ∷ seen) (and_both (in_area A I a) (eqb (count a seen) 0) t).0)).is now e
+      (λ t. each_some (λ _. in_area A I a ≡ true) (a ∷ seen) (and_both (in_area A I a) (eqb (count a seen) 0) t).0)).is now e
 
   -- what is walked from address a on, where k blocks more may be read; a may be 0
   abbrev onward : ℕ → ℕ → Walk
@@ -147,78 +147,78 @@ module _ (A : Area) (I : List ℕ) where
       → onward k (next A.size I a) ≡ blocks_walk bs → chain_from A I (suc k) a ≡ blocks_walk (record { at = a; raws = rs } ∷ bs)
   unfolding chain_from blocks_walk
   block_more k a seen now rs bs e g h =
-      pick_true _ _ (claim-area a seen now e) ∙ ap (entries_from A I A.size a 0) h ∙ raws-walk A.size a 0 rs g (blocks_walk bs)
+      pick_true _ _ (claim_area a seen now e) ∙ ap (entries_from A I A.size a 0) h ∙ raws_walk_lem A.size a 0 rs g (blocks_walk bs)
 
   abbrev Onward : ℕ → ℕ → Claimed (List RawBlock) → Type 0
   Onward k a c = onward k a ≡ blocks_walk c.found
 
-  later-none : (k a : ℕ) → eqb a 0 ≡ true → onward k a ≡ blocks_walk []
+  later_none : (k a : ℕ) → eqb a 0 ≡ true → onward k a ≡ blocks_walk []
   unfolding blocks_walk
-  later-none k a t = pick_true _ _ t
+  later_none k a t = pick_true _ _ t
 
-  later-walk : (k a : ℕ) (seen : List ℕ) → Each (Onward k a) (later_of A I k a seen)
+  later_walk : (k a : ℕ) (seen : List ℕ) → Each (Onward k a) (later_of A I k a seen)
   unfolding later_of
-  later-walk zero a seen = each_test (Onward zero a) (eqb a 0) _ (λ t. each-some (Onward zero a) _ (later-none zero a t))
-  later-walk (suc k) a seen =
-      each-pick (Onward (suc k) a) (eqb a 0) _ _
-      (λ t. each-some (Onward (suc k) a) _ (later-none (suc k) a t))
-      (λ t. each-then (Onward (suc k) a) (claim A I a seen) _
-      (λ now e. each-then (Onward (suc k) a) (raws_from A.size I A.size a 0) _
+  later_walk zero a seen = each_test (Onward zero a) (eqb a 0) _ (λ t. each_some (Onward zero a) _ (later_none zero a t))
+  later_walk (suc k) a seen =
+      each_pick (Onward (suc k) a) (eqb a 0) _ _
+      (λ t. each_some (Onward (suc k) a) _ (later_none (suc k) a t))
+      (λ t. each_then (Onward (suc k) a) (claim A I a seen) _
+      (λ now e. each_then (Onward (suc k) a) (raws_from A.size I A.size a 0) _
       (λ rs g. each_test (Onward (suc k) a) (has_some rs) _
-      (λ _. each-with (Onward (suc k) a) _ (later_of A I k (next A.size I a) now)
-      (λ c f. pick_false _ _ t ∙ block_more k a seen now rs c.found e g ((later-walk k (next A.size I a) now).is c f))))))
+      (λ _. each_with (Onward (suc k) a) _ (later_of A I k (next A.size I a) now)
+      (λ c f. pick_false _ _ t ∙ block_more k a seen now rs c.found e g ((later_walk k (next A.size I a) now).is c f))))))
 
   abbrev Whole : ℕ → Claimed (List RawBlock) → Type 0
   Whole a c = walk A I a ≡ blocks_walk c.found
 
-  each-blocks : (a : ℕ) (seen : List ℕ) → Each (Whole a) (blocks_of A I a seen)
+  each_blocks : (a : ℕ) (seen : List ℕ) → Each (Whole a) (blocks_of A I a seen)
   unfolding blocks_of
-  each-blocks a seen =
-      each-then (Whole a) (claim A I a seen) _
-      (λ now e. each-then (Whole a) (raws_from A.size I A.size a 0) _
-      (λ rs g. each-with (Whole a) _ (later_of A I (A.end - A.first - 1) (next A.size I a) now)
+  each_blocks a seen =
+      each_then (Whole a) (claim A I a seen) _
+      (λ now e. each_then (Whole a) (raws_from A.size I A.size a 0) _
+      (λ rs g. each_with (Whole a) _ (later_of A I (A.end - A.first - 1) (next A.size I a) now)
       (λ c f.
-      let k : Claim A a seen now = (each-claim A I a seen).is now e in
+      let k : Claim A a seen now = (each_claim A I a seen).is now e in
       let m : A.end - A.first ≡ suc (A.end - A.first - 1) = omega (arith, k.low, k.high) in
-      ap (λ (j : ℕ). chain_from A I j a) m ∙ block_more (A.end - A.first - 1) a seen now rs c.found e g ((later-walk (A.end - A.first - 1) (next A.size I a) now).is c f))))
+      ap (λ (j : ℕ). chain_from A I j a) m ∙ block_more (A.end - A.first - 1) a seen now rs c.found e g ((later_walk (A.end - A.first - 1) (next A.size I a) now).is c f))))
 
   -- The blocks that `blocks_of` finds are those of the walk.
   pub blocks-walk : (a : ℕ) (seen : List ℕ) (c : Claimed (List RawBlock)) → blocks_of A I a seen ≡ some c → walk A I a ≡ blocks_walk c.found
-  blocks-walk a seen c q = (each-blocks a seen).is c q
+  blocks-walk a seen c q = (each_blocks a seen).is c q
 
   -- So the walk ends, and its names are distinct where those of the blocks are.
   pub open_is : (a : ℕ) (seen : List ℕ) (c : Claimed (List RawBlock)) → blocks_of A I a seen ≡ some c
       → (ends (walk A I a) && distinct (names_in (walk A I a))) ≡ distinct (all_names c.found)
-  open_is a seen c q = rw (blocks-walk a seen c q, walk_ends, walk-names)
+  open_is a seen c q = rw (blocks-walk a seen c q, walk_ends, walk_names)
 
   -- ---- where the volume's blocks are whole, the names are as long as their entries say
 
   module _ (fits : A.end * A.size ≤ length I) where
-    claimed-long : (a : ℕ) (seen now : List ℕ) (rs : List Raw) → claim A I a seen ≡ some now → raws_from A.size I A.size a 0 ≡ some rs → All LongName rs
-    claimed-long a seen now rs e g = raws-long A.size a 0 rs (row_inside A.size A.end (length I) a fits ((each-claim A I a seen).is now e).high) g
+    claimed_long : (a : ℕ) (seen now : List ℕ) (rs : List Raw) → claim A I a seen ≡ some now → raws_from A.size I A.size a 0 ≡ some rs → All LongName rs
+    claimed_long a seen now rs e g = raws_long A.size a 0 rs (row_inside A.size A.end (length I) a fits ((each_claim A I a seen).is now e).high) g
 
     abbrev Long : Claimed (List RawBlock) → Type 0
     Long c = LongNames c.found
 
-    later-long : (k a : ℕ) (seen : List ℕ) → Each Long (later_of A I k a seen)
+    later_long : (k a : ℕ) (seen : List ℕ) → Each Long (later_of A I k a seen)
     unfolding later_of
-    later-long zero a seen = each_test Long (eqb a 0) _ (λ _. each-some Long _ tt)
-    later-long (suc k) a seen =
-        each-pick Long (eqb a 0) _ _
-        (λ _. each-some Long _ tt)
-        (λ _. each-then Long (claim A I a seen) _
-        (λ now e. each-then Long (raws_from A.size I A.size a 0) _
+    later_long zero a seen = each_test Long (eqb a 0) _ (λ _. each_some Long _ tt)
+    later_long (suc k) a seen =
+        each_pick Long (eqb a 0) _ _
+        (λ _. each_some Long _ tt)
+        (λ _. each_then Long (claim A I a seen) _
+        (λ now e. each_then Long (raws_from A.size I A.size a 0) _
         (λ rs g. each_test Long (has_some rs) _
-        (λ _. each-with Long _ (later_of A I k (next A.size I a) now)
-        (λ c f. (claimed-long a seen now rs e g, (later-long k (next A.size I a) now).is c f))))))
+        (λ _. each_with Long _ (later_of A I k (next A.size I a) now)
+        (λ c f. (claimed_long a seen now rs e g, (later_long k (next A.size I a) now).is c f))))))
 
-    all-long : (a : ℕ) (seen : List ℕ) → Each Long (blocks_of A I a seen)
+    all_long : (a : ℕ) (seen : List ℕ) → Each Long (blocks_of A I a seen)
     unfolding blocks_of
-    all-long a seen =
-        each-then Long (claim A I a seen) _
-        (λ now e. each-then Long (raws_from A.size I A.size a 0) _
-        (λ rs g. each-with Long _ (later_of A I (A.end - A.first - 1) (next A.size I a) now)
-        (λ c f. (claimed-long a seen now rs e g, (later-long (A.end - A.first - 1) (next A.size I a) now).is c f))))
+    all_long a seen =
+        each_then Long (claim A I a seen) _
+        (λ now e. each_then Long (raws_from A.size I A.size a 0) _
+        (λ rs g. each_with Long _ (later_of A I (A.end - A.first - 1) (next A.size I a) now)
+        (λ c f. (claimed_long a seen now rs e g, (later_long (A.end - A.first - 1) (next A.size I a) now).is c f))))
 
-    pub blocks-long : (a : ℕ) (seen : List ℕ) (c : Claimed (List RawBlock)) → blocks_of A I a seen ≡ some c → LongNames c.found
-    blocks-long a seen c q = (all-long a seen).is c q
+    pub blocks_long : (a : ℕ) (seen : List ℕ) (c : Claimed (List RawBlock)) → blocks_of A I a seen ≡ some c → LongNames c.found
+    blocks_long a seen c q = (all_long a seen).is c q

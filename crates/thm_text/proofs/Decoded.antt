@@ -11,11 +11,11 @@ use borrow.Author.Tests.{ltb-true, ltb-false, leb-true, leb-false, eqb-true, eqb
 use Rattle.wire.proofs.Picks.{either}
 use Rattle.text.specs.Text.{tail, table, never, begun, is_text}
 use Rattle.text.specs.Awaited.{ranges}
-use Rattle.text.proofs.Rows.{one_byte, two_bytes, after_E0, after_ED, three-bytes, after_F0, four_bytes, after_F4, low_control}
-use Rattle.text.proofs.Rows.{no-first, above-all}
+use Rattle.text.proofs.Rows.{one_byte, two_bytes, after_E0, after_ED, three_bytes, after_F0, four_bytes, after_F4, low_control}
+use Rattle.text.proofs.Rows.{no_first, above_all}
 use Rattle.thm_text.specs.Characters.{Character, Characters, encoded, encoded_all}
-use Rattle.thm_text.proofs.Steps.{Tested, Next, next-back, first_back, first-never, encoded-one, encoded-two}
-use Rattle.thm_text.proofs.Steps.{encoded-three, encoded-four}
+use Rattle.thm_text.proofs.Steps.{Tested, Next, next_back, first_back, first_never, encoded-one, encoded_two}
+use Rattle.thm_text.proofs.Steps.{encoded_three, encoded_four}
 
 -- the character that stands first, and text behind it
 record Head (l : List ℕ) : Type 0 where
@@ -29,8 +29,8 @@ record Head (l : List ℕ) : Type 0 where
 -- ---- from its binary digits, six by six
 
 module _ (m : List ℕ) (t : is_text m ≡ true) where
-  one-head : (c : ℕ) → 0x20 ≤ c → c < 0x7F → Head (c ∷ m)
-  one-head c h k =
+  one_head : (c : ℕ) → 0x20 ≤ c → c < 0x7F → Head (c ∷ m)
+  one_head c h k =
       record {
         number = c;
         rest = m;
@@ -40,8 +40,8 @@ module _ (m : List ℕ) (t : is_text m ≡ true) where
         shorter = omega arith;
       }
 
-  two-head : (u v : ℕ) → 2 ≤ u → u < 32 → v < 64 → Head ((0xC0 + u) ∷ (0x80 + v) ∷ m)
-  two-head u v p q h =
+  two_head : (u v : ℕ) → 2 ≤ u → u < 32 → v < 64 → Head ((0xC0 + u) ∷ (0x80 + v) ∷ m)
+  two_head u v p q h =
       record {
         number = u * 64 + v;
         rest = m;
@@ -52,19 +52,19 @@ module _ (m : List ℕ) (t : is_text m ≡ true) where
               (omega arith);
           last = omega arith;
         };
-        whole = ap (λ (y : List ℕ). y ++ m) (encoded-two u v (u * 64 + v) refl h (omega arith) (omega arith));
+        whole = ap (λ (y : List ℕ). y ++ m) (encoded_two u v (u * 64 + v) refl h (omega arith) (omega arith));
         goes_on = t;
         shorter = omega arith;
       }
 
-  three-head : (u v w : ℕ) → u < 16 → v < 64 → w < 64 → 0x800 ≤ u * 4096 + v * 64
+  three_head : (u v w : ℕ) → u < 16 → v < 64 → w < 64 → 0x800 ≤ u * 4096 + v * 64
       → (u * 4096 + v * 64 + 63 < 0xD800) ⊎ (0xE000 ≤ u * 4096 + v * 64) → Head ((0xE0 + u) ∷ (0x80 + v) ∷ (0x80 + w) ∷ m)
-  three-head u v w q h k p s =
+  three_head u v w q h k p s =
       record {
         number = u * 4096 + v * 64 + w;
         rest = m;
         good = record { no_control = omega arith; no_delete = λ e. omega arith; no_surrogate = side s; last = omega arith };
-        whole = ap (λ (y : List ℕ). y ++ m) (encoded-three u v w (u * 4096 + v * 64 + w) refl h k (omega arith) (omega arith));
+        whole = ap (λ (y : List ℕ). y ++ m) (encoded_three u v w (u * 4096 + v * 64 + w) refl h k (omega arith) (omega arith));
         goes_on = t;
         shorter = omega arith;
       }
@@ -74,9 +74,9 @@ module _ (m : List ℕ) (t : is_text m ≡ true) where
       side (inl a) = inl (omega arith)
       side (inr a) = inr (omega arith)
 
-  four-head : (u v w z : ℕ) → v < 64 → w < 64 → z < 64 → 0x10000 ≤ u * 262144 + v * 4096 → u * 262144 + v * 4096 + 4095 ≤ 0x10FFFF
+  four_head : (u v w z : ℕ) → v < 64 → w < 64 → z < 64 → 0x10000 ≤ u * 262144 + v * 4096 → u * 262144 + v * 4096 + 4095 ≤ 0x10FFFF
       → Head ((0xF0 + u) ∷ (0x80 + v) ∷ (0x80 + w) ∷ (0x80 + z) ∷ m)
-  four-head u v w z h k i p q =
+  four_head u v w z h k i p q =
       record {
         number = u * 262144 + v * 4096 + w * 64 + z;
         rest = m;
@@ -87,7 +87,7 @@ module _ (m : List ℕ) (t : is_text m ≡ true) where
               (omega arith);
           last = omega arith;
         };
-        whole = ap (λ (y : List ℕ). y ++ m) (encoded-four u v w z (u * 262144 + v * 4096 + w * 64 + z) refl h k i (omega arith));
+        whole = ap (λ (y : List ℕ). y ++ m) (encoded_four u v w z (u * 262144 + v * 4096 + w * 64 + z) refl h k i (omega arith));
         goes_on = t;
         shorter = omega arith;
       }
@@ -101,22 +101,22 @@ split a c h = omega arith
 module _ (c : ℕ) (l : List ℕ) (t : is_text (c ∷ l) ≡ true) where
   two_at : 0xC2 ≤ c → c < 0xE0 → Head (c ∷ l)
   unfolding ranges
-  two_at p q = go (next-back 0x80 0xBF [] l (first_back c l (ranges 1 0x80 0xBF) (two_bytes c _ refl p q) t))
+  two_at p q = go (next_back 0x80 0xBF [] l (first_back c l (ranges 1 0x80 0xBF) (two_bytes c _ refl p q) t))
     where
       go : Next 0x80 0xBF [] l → Head (c ∷ l)
       go n =
           let d = n.byte in
           let low = n.low in
           let high = n.high in
-          let x = two-head n.rest n.goes_on (c - 0xC0) (d - 0x80) (omega arith) (omega arith) (omega arith) in
+          let x = two_head n.rest n.goes_on (c - 0xC0) (d - 0x80) (omega arith) (omega arith) (omega arith) in
           rw (n.is, ← split 0xC0 c (omega arith), ← split 0x80 d low) x
 
-  three-at : (a b : ℕ) → ranges 2 a b ≡ begun table c → 0xE0 ≤ c → c ≤ 0xEF → 0x80 ≤ a → b ≤ 0xBF
+  three_at : (a b : ℕ) → ranges 2 a b ≡ begun table c → 0xE0 ≤ c → c ≤ 0xEF → 0x80 ≤ a → b ≤ 0xBF
       → ((v : ℕ) → a ≤ 0x80 + v → 0x80 + v ≤ b → 0x800 ≤ (c - 0xE0) * 4096 + v * 64)
       → ((v : ℕ) → a ≤ 0x80 + v → 0x80 + v ≤ b
       → ((c - 0xE0) * 4096 + v * 64 + 63 < 0xD800) ⊎ (0xE000 ≤ (c - 0xE0) * 4096 + v * 64)) → Head (c ∷ l)
   unfolding ranges
-  three-at a b e p q low high least sides = second (next-back a b (tail ∷ []) l (first_back c l (ranges 2 a b) e t))
+  three_at a b e p q low high least sides = second (next_back a b (tail ∷ []) l (first_back c l (ranges 2 a b) e t))
     where
       third : (n : Next a b (tail ∷ []) l) → Next 0x80 0xBF [] n.rest → Head (c ∷ l)
       third n k =
@@ -126,18 +126,18 @@ module _ (c : ℕ) (l : List ℕ) (t : is_text (c ∷ l) ≡ true) where
           let y = k.high in
           let v : 0x80 + (n.byte - 0x80) ≡ n.byte = omega arith in
           let h =
-          three-head k.rest k.goes_on (c - 0xE0) (n.byte - 0x80) (k.byte - 0x80) (omega arith) (omega arith) (omega arith)
+          three_head k.rest k.goes_on (c - 0xE0) (n.byte - 0x80) (k.byte - 0x80) (omega arith) (omega arith) (omega arith)
           (least (n.byte - 0x80) (omega arith) (omega arith)) (sides (n.byte - 0x80) (omega arith) (omega arith)) in
           rw (n.is, k.is, ← split 0xE0 c p, ← v, ← split 0x80 k.byte x) h
 
       second : Next a b (tail ∷ []) l → Head (c ∷ l)
-      second n = third n (next-back 0x80 0xBF [] n.rest n.goes_on)
+      second n = third n (next_back 0x80 0xBF [] n.rest n.goes_on)
 
-  four-at : (a b : ℕ) → ranges 3 a b ≡ begun table c → 0xF0 ≤ c → 0x80 ≤ a → b ≤ 0xBF
+  four_at : (a b : ℕ) → ranges 3 a b ≡ begun table c → 0xF0 ≤ c → 0x80 ≤ a → b ≤ 0xBF
       → ((v : ℕ) → a ≤ 0x80 + v → 0x80 + v ≤ b → 0x10000 ≤ (c - 0xF0) * 262144 + v * 4096)
       → ((v : ℕ) → a ≤ 0x80 + v → 0x80 + v ≤ b → (c - 0xF0) * 262144 + v * 4096 + 4095 ≤ 0x10FFFF) → Head (c ∷ l)
   unfolding ranges
-  four-at a b e p low high least last = second (next-back a b (tail ∷ tail ∷ []) l (first_back c l (ranges 3 a b) e t))
+  four_at a b e p low high least last = second (next_back a b (tail ∷ tail ∷ []) l (first_back c l (ranges 3 a b) e t))
     where
       fourth : (n : Next a b (tail ∷ tail ∷ []) l) (k : Next 0x80 0xBF (tail ∷ []) n.rest) → Next 0x80 0xBF [] k.rest
           → Head (c ∷ l)
@@ -150,61 +150,61 @@ module _ (c : ℕ) (l : List ℕ) (t : is_text (c ∷ l) ≡ true) where
           let s = o.high in
           let v : 0x80 + (n.byte - 0x80) ≡ n.byte = omega arith in
           let h =
-          four-head o.rest o.goes_on (c - 0xF0) (n.byte - 0x80) (k.byte - 0x80) (o.byte - 0x80) (omega arith)
+          four_head o.rest o.goes_on (c - 0xF0) (n.byte - 0x80) (k.byte - 0x80) (o.byte - 0x80) (omega arith)
           (omega arith) (omega arith)
           (least (n.byte - 0x80) (omega arith) (omega arith)) (last (n.byte - 0x80) (omega arith) (omega arith)) in
           rw (n.is, k.is, o.is, ← split 0xF0 c p, ← v, ← split 0x80 k.byte x, ← split 0x80 o.byte r) h
 
       third : (n : Next a b (tail ∷ tail ∷ []) l) → Next 0x80 0xBF (tail ∷ []) n.rest → Head (c ∷ l)
-      third n k = fourth n k (next-back 0x80 0xBF [] k.rest k.goes_on)
+      third n k = fourth n k (next_back 0x80 0xBF [] k.rest k.goes_on)
 
       second : Next a b (tail ∷ tail ∷ []) l → Head (c ∷ l)
-      second n = third n (next-back 0x80 0xBF (tail ∷ []) n.rest n.goes_on)
+      second n = third n (next_back 0x80 0xBF (tail ∷ []) n.rest n.goes_on)
 
   -- ---- by the row that c begins
 
-  threes-at : 0xE0 ≤ c → c ≤ 0xEF → Head (c ∷ l)
-  threes-at p q = go (either (eqb c 0xE0)) (either (eqb c 0xED)) (either (leb c 0xEC))
+  threes_at : 0xE0 ≤ c → c ≤ 0xEF → Head (c ∷ l)
+  threes_at p q = go (either (eqb c 0xE0)) (either (eqb c 0xED)) (either (leb c 0xEC))
     where
       go : Tested (eqb c 0xE0) → Tested (eqb c 0xED) → Tested (leb c 0xEC) → Head (c ∷ l)
       go (inl x) y z =
           let e = eqb-true c 0xE0 x in
-          three-at 0xA0 0xBF (after_E0 c _ refl e) p q (omega arith) (omega arith) (λ v h k. omega arith)
+          three_at 0xA0 0xBF (after_E0 c _ refl e) p q (omega arith) (omega arith) (λ v h k. omega arith)
           (λ v h k. inl (omega arith))
       go (inr x) (inl y) z =
           let e = eqb-true c 0xED y in
-          three-at 0x80 0x9F (after_ED c _ refl e) p q (omega arith) (omega arith) (λ v h k. omega arith)
+          three_at 0x80 0x9F (after_ED c _ refl e) p q (omega arith) (omega arith) (λ v h k. omega arith)
           (λ v h k. inl (omega arith))
       go (inr x) (inr y) (inl z) =
           let d = eqb-false c 0xE0 x in
           let g = leb-true c 0xEC z in
-          three-at 0x80 0xBF (three-bytes c _ refl p q d (eqb-false c 0xED y)) p q (omega arith) (omega arith)
+          three_at 0x80 0xBF (three_bytes c _ refl p q d (eqb-false c 0xED y)) p q (omega arith) (omega arith)
           (λ v h k. omega arith)
           (λ v h k. inl (omega arith))
       go (inr x) (inr y) (inr z) =
           let d = eqb-false c 0xED y in
           let g = leb-false c 0xEC z in
-          three-at 0x80 0xBF (three-bytes c _ refl p q (eqb-false c 0xE0 x) d) p q (omega arith) (omega arith)
+          three_at 0x80 0xBF (three_bytes c _ refl p q (eqb-false c 0xE0 x) d) p q (omega arith) (omega arith)
           (λ v h k. omega arith)
           (λ v h k. inr (omega arith))
 
-  fours-at : 0xF0 ≤ c → Head (c ∷ l)
+  fours_at : 0xF0 ≤ c → Head (c ∷ l)
   unfolding ranges
-  fours-at p = go (either (eqb c 0xF0)) (either (ltb c 0xF4)) (either (eqb c 0xF4))
+  fours_at p = go (either (eqb c 0xF0)) (either (ltb c 0xF4)) (either (eqb c 0xF4))
     where
       go : Tested (eqb c 0xF0) → Tested (ltb c 0xF4) → Tested (eqb c 0xF4) → Head (c ∷ l)
       go (inl x) y z =
           let e = eqb-true c 0xF0 x in
-          four-at 0x90 0xBF (after_F0 c _ refl e) p (omega arith) (omega arith) (λ v h k. omega arith) (λ v h k. omega arith)
+          four_at 0x90 0xBF (after_F0 c _ refl e) p (omega arith) (omega arith) (λ v h k. omega arith) (λ v h k. omega arith)
       go (inr x) (inl y) z =
           let d = eqb-false c 0xF0 x in
           let g = ltb-true c 0xF4 y in
-          four-at 0x80 0xBF (four_bytes c _ refl p d g) p (omega arith) (omega arith) (λ v h k. omega arith)
+          four_at 0x80 0xBF (four_bytes c _ refl p d g) p (omega arith) (omega arith) (λ v h k. omega arith)
           (λ v h k. omega arith)
       go (inr x) (inr y) (inl z) =
           let e = eqb-true c 0xF4 z in
-          four-at 0x80 0x8F (after_F4 c _ refl e) p (omega arith) (omega arith) (λ v h k. omega arith) (λ v h k. omega arith)
-      go (inr x) (inr y) (inr z) = absurd (first-never c l (above-all c never refl (ltb-false c 0xF4 y) (eqb-false c 0xF4 z)) t)
+          four_at 0x80 0x8F (after_F4 c _ refl e) p (omega arith) (omega arith) (λ v h k. omega arith) (λ v h k. omega arith)
+      go (inr x) (inr y) (inr z) = absurd (first_never c l (above_all c never refl (ltb-false c 0xF4 y) (eqb-false c 0xF4 z)) t)
 
   head_of : Head (c ∷ l)
   unfolding ranges
@@ -212,15 +212,15 @@ module _ (c : ℕ) (l : List ℕ) (t : is_text (c ∷ l) ≡ true) where
     where
       go : Tested (ltb c 0x20) → Tested (ltb c 0x7F) → Tested (ltb c 0xC2)
           → Tested (ltb c 0xE0) → Tested (ltb c 0xF0) → Head (c ∷ l)
-      go (inl v) w x y z = absurd (first-never c l (low_control c never refl (ltb-true c 0x20 v)) t)
+      go (inl v) w x y z = absurd (first_never c l (low_control c never refl (ltb-true c 0x20 v)) t)
       go (inr v) (inl w) x y z =
           let h = ltb-false c 0x20 v in
           let k = ltb-true c 0x7F w in
-          one-head l (first_back c l [] (one_byte c [] refl h k) t) c h k
-      go (inr v) (inr w) (inl x) y z = absurd (first-never c l (no-first c never refl (ltb-false c 0x7F w) (ltb-true c 0xC2 x)) t)
+          one_head l (first_back c l [] (one_byte c [] refl h k) t) c h k
+      go (inr v) (inr w) (inl x) y z = absurd (first_never c l (no_first c never refl (ltb-false c 0x7F w) (ltb-true c 0xC2 x)) t)
       go (inr v) (inr w) (inr x) (inl y) z = two_at (ltb-false c 0xC2 x) (ltb-true c 0xE0 y)
-      go (inr v) (inr w) (inr x) (inr y) (inl z) = let k = ltb-true c 0xF0 z in threes-at (ltb-false c 0xE0 y) (omega arith)
-      go (inr v) (inr w) (inr x) (inr y) (inr z) = fours-at (ltb-false c 0xF0 z)
+      go (inr v) (inr w) (inr x) (inr y) (inl z) = let k = ltb-true c 0xF0 z in threes_at (ltb-false c 0xE0 y) (omega arith)
+      go (inr v) (inr w) (inr x) (inr y) (inr z) = fours_at (ltb-false c 0xF0 z)
 
 -- ---- the whole
 
@@ -229,16 +229,16 @@ pub record Decoded (l : List ℕ) : Type 0 where
   pub good : Characters numbers
   pub same : encoded_all numbers ≡ l
 
-decoded-none : Decoded []
+decoded_none : Decoded []
 unfolding encoded_all
-decoded-none = record { numbers = []; good = tt; same = refl }
+decoded_none = record { numbers = []; good = tt; same = refl }
 
 -- with n bytes at most: the first character, and then what is left
-decoded-more : (n : ℕ) → ((m : List ℕ) → length m ≤ n → is_text m ≡ true → Decoded m) → (l : List ℕ) → length l ≤ suc n
+decoded_more : (n : ℕ) → ((m : List ℕ) → length m ≤ n → is_text m ≡ true → Decoded m) → (l : List ℕ) → length l ≤ suc n
     → is_text l ≡ true → Decoded l
 unfolding encoded_all
-decoded-more n r [] h t = decoded-none
-decoded-more n r (c ∷ l) h t =
+decoded_more n r [] h t = decoded_none
+decoded_more n r (c ∷ l) h t =
     let x = head_of c l t in
     let s = x.shorter in
     let d = r x.rest (omega arith) x.goes_on in
@@ -252,10 +252,10 @@ decoded_in : (n : ℕ) → (l : List ℕ) → length l ≤ n → is_text l ≡ t
 decoded_in zero = none
   where
     none : (l : List ℕ) → length l ≤ 0 → is_text l ≡ true → Decoded l
-    none [] h t = decoded-none
+    none [] h t = decoded_none
     none (c ∷ l) h t = absurd (omega arith)
-decoded_in (suc n) = decoded-more n (decoded_in n)
+decoded_in (suc n) = decoded_more n (decoded_in n)
 
 -- THE MEANING, the other way: text is the bytes of characters.
-pub text-decoded : (l : List ℕ) → is_text l ≡ true → Decoded l
-text-decoded l t = decoded_in (length l) l (omega arith) t
+pub text_decoded : (l : List ℕ) → is_text l ≡ true → Decoded l
+text_decoded l t = decoded_in (length l) l (omega arith) t

@@ -23,10 +23,10 @@ unfolding pick inside begun step text_from
 too_long_lem = (refl, refl, refl)
 
 -- U+D800, which is kept for UTF-16, U+110000 and U+140000
-pub no-characters : (is_text (0xED ∷ 0xA0 ∷ 0x80 ∷ []) ≡ false) × (is_text (0xF4 ∷ 0x90 ∷ 0x80 ∷ 0x80 ∷ []) ≡ false)
+pub no_characters : (is_text (0xED ∷ 0xA0 ∷ 0x80 ∷ []) ≡ false) × (is_text (0xF4 ∷ 0x90 ∷ 0x80 ∷ 0x80 ∷ []) ≡ false)
     × (is_text (0xF5 ∷ 0x80 ∷ 0x80 ∷ 0x80 ∷ []) ≡ false)
 unfolding pick inside begun step text_from
-no-characters = (refl, refl, refl)
+no_characters = (refl, refl, refl)
 
 -- the first byte of é alone, its second alone, a slash between them, and a tail byte too large
 pub torn : (is_text (0xC3 ∷ []) ≡ false) × (is_text (0xA9 ∷ []) ≡ false) × (is_text (0xC3 ∷ 0x2F ∷ 0xA9 ∷ []) ≡ false)

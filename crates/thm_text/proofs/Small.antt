@@ -11,8 +11,8 @@ use borrow.Author.Tests.{ltb-true, ltb-false}
 use Rattle.wire.proofs.Picks.{either, not_both, pick_false, pick_case}
 use Rattle.text.specs.Text.{Range, from_to, inside, Row, row, table, never, begun, step, text_from, is_text}
 use Rattle.text.specs.Awaited.{ranges}
-use Rattle.text.proofs.Laws.{never-text}
-use Rattle.text.proofs.Rows.{range-high, above-all}
+use Rattle.text.proofs.Laws.{never_text}
+use Rattle.text.proofs.Rows.{range_high, above_all}
 
 -- what is due ends below 256
 abbrev Ends : Range → Type 0
@@ -26,11 +26,11 @@ abbrev Lows : List Row → Type 0
 Lows [] = Unit {0}
 Lows (row r rs ∷ more) = Low rs × Lows more
 
-never-low : Low never
-never-low = (omega arith, tt)
+never_low : Low never
+never_low = (omega arith, tt)
 
-table-low : Lows table
-table-low =
+table_low : Lows table
+table_low =
     let t : 0xBF < 256 = omega arith in (
       tt,
       (
@@ -57,24 +57,24 @@ table-low =
       ),
     )
 
-begun-low : (t : List Row) (c : ℕ) → Lows t → Low (begun t c)
+begun_low : (t : List Row) (c : ℕ) → Lows t → Low (begun t c)
 unfolding begun
-begun-low [] c h = never-low
-begun-low (row r rs ∷ more) c h = pick_case Low (inside r c) rs (begun more c) (λ e. h.0) (λ e. begun-low more c h.1)
+begun_low [] c h = never_low
+begun_low (row r rs ∷ more) c h = pick_case Low (inside r c) rs (begun more c) (λ e. h.0) (λ e. begun_low more c h.1)
 
-step-low : (rs : List Range) (c : ℕ) → Low rs → Low (step rs c)
+step_low : (rs : List Range) (c : ℕ) → Low rs → Low (step rs c)
 unfolding step
-step-low [] c h = begun-low table c table-low
-step-low (r ∷ rs) c h = pick_case Low (inside r c) rs never (λ e. h.1) (λ e. never-low)
+step_low [] c h = begun_low table c table_low
+step_low (r ∷ rs) c h = pick_case Low (inside r c) rs never (λ e. h.1) (λ e. never_low)
 
 -- no text goes on with more than a byte
-high-range : (r : Range) (c : ℕ) → Ends r → 256 ≤ c → inside r c ≡ false
-high-range (from_to a b) c h k = range-high a b c (omega arith)
+high_range : (r : Range) (c : ℕ) → Ends r → 256 ≤ c → inside r c ≡ false
+high_range (from_to a b) c h k = range_high a b c (omega arith)
 
-high-never : (rs : List Range) (c : ℕ) → Low rs → 256 ≤ c → step rs c ≡ never
+high_never : (rs : List Range) (c : ℕ) → Low rs → 256 ≤ c → step rs c ≡ never
 unfolding step ranges
-high-never [] c h k = sym (above-all c never refl (omega arith) (λ e. omega arith))
-high-never (r ∷ rs) c h k = pick_false _ _ (high-range r c h.0 k)
+high_never [] c h k = sym (above_all c never refl (omega arith) (λ e. omega arith))
+high_never (r ∷ rs) c h k = pick_false _ _ (high_range r c h.0 k)
 
 from_bytes : (rs : List Range) (l : List ℕ) → Low rs → text_from rs l ≡ true → (i : ℕ) → get_or l i 0 < 256
 unfolding text_from
@@ -85,8 +85,8 @@ from_bytes rs (c ∷ l) h t zero = go (either (ltb c 256))
     go (inl e) = ltb-true c 256 e
     go (inr e) =
         absurd
-        (not_both (ap (λ (x : List Range). text_from x l) (sym (high-never rs c h (ltb-false c 256 e))) ∙ t) (never-text l))
-from_bytes rs (c ∷ l) h t (suc i) = from_bytes (step rs c) l (step-low rs c h) t i
+        (not_both (ap (λ (x : List Range). text_from x l) (sym (high_never rs c h (ltb-false c 256 e))) ∙ t) (never_text l))
+from_bytes rs (c ∷ l) h t (suc i) = from_bytes (step rs c) l (step_low rs c h) t i
 
-pub text-bytes : (l : List ℕ) → is_text l ≡ true → (i : ℕ) → get_or l i 0 < 256
-text-bytes l t = from_bytes [] l tt t
+pub text_bytes : (l : List ℕ) → is_text l ≡ true → (i : ℕ) → get_or l i 0 < 256
+text_bytes l t = from_bytes [] l tt t

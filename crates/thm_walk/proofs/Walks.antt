@@ -18,47 +18,47 @@ use Rattle.model.specs.Render.{View, blocks_at, padded, address_of, entry_bytes,
 use Rattle.model.specs.Geometry.{area_of, Geo, block_size, data_at, Sound}
 use Rattle.model.specs.Volume.{All, GoodBlock, GoodBelow, Laid}
 use Rattle.model.proofs.Areas.{area, block_inside}
-use Rattle.model.proofs.Sums.{chain-long}
+use Rattle.model.proofs.Sums.{chain_long}
 use Rattle.model.proofs.Lists.{not_some}
-use Rattle.model.proofs.Others.{lookup-there}
+use Rattle.model.proofs.Others.{lookup_there}
 use Rattle.dir_entry.specs.declared.Slot.{Slot}
 use Rattle.dir_entry.specs.Entry.{header, place_at}
 use Rattle.dir_entry.specs.Shown.{head_of}
-use Rattle.dir_entry.proofs.Shown.{Legible, head-weight, less-left, first-shown, block-stops, slot_is, name-is}
+use Rattle.dir_entry.proofs.Shown.{Legible, head_weight, less_left, first_shown, block_stops, slot_is, name_is}
 use Rattle.read_dir.specs.Walk.{Walk, item, finished, on_slot, in_area, shown, entries_from, chain_from, walk}
 use Rattle.read_dir.specs.Finds.{placed, sum_from}
 use Rattle.read_dir.specs.declared.Place.{Place}
 use Rattle.read_dir.specs.declared.Summed.TheVariants as summed
 use Rattle.thm_walk.specs.Shown.{items_of, walk_of, spot_of}
-use Rattle.thm_walk.proofs.Parts.{Stored, Part, laid-part, part-find, stored_in, stored-few, entries_legible, block_data, chain-after, below-stored, block-next, block-shown}
+use Rattle.thm_walk.proofs.Parts.{Stored, Part, laid_part, part_find, stored_in, stored_few, entries_legible, block_data, chain-after, below_stored, block_next, block_shown}
 
 -- ---- one block
 
 module _ {X : Type 0} (A : Area) (I : List ℕ) (v : View X) (a : ℕ) (inside : A.size * a + A.size ≤ length I) where
   -- one entry, then the others
-  shown-item : (o : ℕ) (e : Entry X) (w : Walk) → Legible v e → o + weight e ≤ A.size - 5 → Shows I (place_at A.size a o) (entry_bytes v e)
+  shown_item : (o : ℕ) (e : Entry X) (w : Walk) → Legible v e → o + weight e ≤ A.size - 5 → Shows I (place_at A.size a o) (entry_bytes v e)
       → shown A I (head_of v e) a o w ≡ item (head_of v e) a o e.name w
   unfolding shown head_of
-  shown-item o e w l h s =
+  shown_item o e w l h s =
       pick_false _ _ (ne_eqb (address_of v e.node) 0 (λ z. omega (arith, l.some_address)))
-      ∙ ap (λ (x : List ℕ). item (head_of v e) a o x w) (name-is A.size I v a inside o e h s)
+      ∙ ap (λ (x : List ℕ). item (head_of v e) a o x w) (name_is A.size I v a inside o e h s)
 
   -- A block that shows entries from offset o on, and zeros after them: they are read, with any bound that the block's rest does not pass.
-  entries-walk : (es : List (Entry X)) (f o : ℕ) (w : Walk) → A.size - o ≤ f → o + used es ≤ A.size - 5 → All (Legible v) es
+  entries_walk : (es : List (Entry X)) (f o : ℕ) (w : Walk) → A.size - o ≤ f → o + used es ≤ A.size - 5 → All (Legible v) es
       → Shows I (place_at A.size a o) (padded (A.size - 4 - o) (entries_bytes v es)) → entries_from A I f a o w ≡ items_of v a o es w
   unfolding entries_from items_of on_slot used entries_bytes
-  entries-walk [] zero o w k h l s = refl
-  entries-walk [] (suc f) o w k h l s =
-      ap (λ (z : Slot). on_slot z (λ d. shown A I d a o (entries_from A I f a (o + header + d.len) w)) w) (block-stops A.size I v a o (omega arith) s)
-  entries-walk (e ∷ es) zero o w k h l s = let y : 18 ≤ weight e = unfold weight in omega arith in absurd (omega arith)
-  entries-walk (e ∷ es) (suc f) o w k h l s =
-      let q = first-shown A.size I v a o e es (unfold entries_bytes in s) in
+  entries_walk [] zero o w k h l s = refl
+  entries_walk [] (suc f) o w k h l s =
+      ap (λ (z : Slot). on_slot z (λ d. shown A I d a o (entries_from A I f a (o + header + d.len) w)) w) (block_stops A.size I v a o (omega arith) s)
+  entries_walk (e ∷ es) zero o w k h l s = let y : 18 ≤ weight e = unfold weight in omega arith in absurd (omega arith)
+  entries_walk (e ∷ es) (suc f) o w k h l s =
+      let q = first_shown A.size I v a o e es (unfold entries_bytes in s) in
       let g : 18 ≤ weight e = unfold weight in omega arith in
       let m : entries_from A I f a (o + weight e) w ≡ items_of v a (o + weight e) es w
-      = entries-walk es f (o + weight e) w (less-left A.size o f (weight e) k (omega arith)) (omega arith) l.1 q.1 in
+      = entries_walk es f (o + weight e) w (less_left A.size o f (weight e) k (omega arith)) (omega arith) l.1 q.1 in
       ap (λ (z : Slot). on_slot z (λ d. shown A I d a o (entries_from A I f a (o + header + d.len) w)) w) (slot_is A.size I v a o e l.0 (omega arith) q.0)
-      ∙ shown-item o e (entries_from A I f a (o + header + (head_of v e).len) w) l.0 (omega arith) q.0
-      ∙ ap (item (head_of v e) a o e.name) (ap (λ (z : ℕ). entries_from A I f a z w) (head-weight v o e) ∙ m)
+      ∙ shown_item o e (entries_from A I f a (o + header + (head_of v e).len) w) l.0 (omega arith) q.0
+      ∙ ap (item (head_of v e) a o e.name) (ap (λ (z : ℕ). entries_from A I f a z w) (head_weight v o e) ∙ m)
 
 -- ---- a chain
 
@@ -75,18 +75,18 @@ module _ (g : Geo) (I : List ℕ) (sound : Sound g (length I)) (d : ℕ) where
   shows = view (block_size g) d
 
   -- one block, then what follows it
-  block-walk : (b : Block (Below d)) (bs : Tree d) (k : ℕ) → GoodBlock (block_size g) (GoodBelow (block_size g) d) b → Stored g I (dir_pieces (block_size g) shows (b ∷ bs))
+  block_walk : (b : Block (Below d)) (bs : Tree d) (k : ℕ) → GoodBlock (block_size g) (GoodBelow (block_size g) d) b → Stored g I (dir_pieces (block_size g) shows (b ∷ bs))
       → chain_from (area_of g) I (suc k) b.at
       ≡ items_of shows b.at 0 b.entries (after_block (area_of g) I k (blocks_at bs))
   unfolding chain_from after_block
-  block-walk b bs k a s =
+  block_walk b bs k a s =
       let A : Area = area_of g in
       let r = block_data g I shows b bs s in
-      let e : All (Legible shows) b.entries = entries_legible g I sound d b.entries a.each (below-stored g I shows b bs s) in
+      let e : All (Legible shows) b.entries = entries_legible g I sound d b.entries a.each (below_stored g I shows b bs s) in
       pick_true _ _ (in_area_lem A I b.at r)
-      ∙ ap (λ (x : ℕ). entries_from A I A.size b.at 0 (after_block A I k x)) (block-next g I shows sound b bs s)
-      ∙ entries-walk A I shows b.at (block_inside g (length I) sound b.at r.1) b.entries A.size 0 (after_block A I k (blocks_at bs)) (omega arith) (omega (arith, a.fits)) e
-      (block-shown g I shows b bs s)
+      ∙ ap (λ (x : ℕ). entries_from A I A.size b.at 0 (after_block A I k x)) (block_next g I shows sound b bs s)
+      ∙ entries_walk A I shows b.at (block_inside g (length I) sound b.at r.1) b.entries A.size 0 (after_block A I k (blocks_at bs)) (omega arith) (omega (arith, a.fits)) e
+      (block_shown g I shows b bs s)
 
   ends : (k : ℕ) → after_block (area_of g) I k (blocks_at {X = Below d} []) ≡ finished
   unfolding after_block blocks_at
@@ -101,18 +101,18 @@ module _ (g : Geo) (I : List ℕ) (sound : Sound g (length I)) (d : ℕ) where
   chain-walk : (b : Block (Below d)) (bs : Tree d) (k : ℕ) → length bs ≤ k → All (GoodBlock (block_size g) (GoodBelow (block_size g) d)) (b ∷ bs)
       → Stored g I (dir_pieces (block_size g) shows (b ∷ bs)) → chain_from (area_of g) I (suc k) b.at ≡ walk_of shows (b ∷ bs)
   unfolding walk_of
-  chain-walk b [] k h a s = block-walk b [] k a.0 s ∙ ap (items_of shows b.at 0 b.entries) (ends k)
+  chain-walk b [] k h a s = block_walk b [] k a.0 s ∙ ap (items_of shows b.at 0 b.entries) (ends k)
   chain-walk b (c ∷ bs) zero h a s = absurd (omega arith)
   chain-walk b (c ∷ bs) (suc k) h a s =
-      block-walk b (c ∷ bs) (suc k) a.0 s
+      block_walk b (c ∷ bs) (suc k) a.0 s
       ∙ ap (items_of shows b.at 0 b.entries) (goes_on c bs (suc k) (chain-after g I shows b (c ∷ bs) s) ∙ chain-walk c bs k (omega arith) a.1 (chain-after g I shows b (c ∷ bs) s))
 
 -- The walk of a directory that the image holds.
-pub part-walk : (g : Geo) (I : List ℕ) (d : ℕ) (t : Tree d) → Part g I d t → walk (area_of g) I (blocks_at t) ≡ walk_of (view (block_size g) d) t
+pub part_walk : (g : Geo) (I : List ℕ) (d : ℕ) (t : Tree d) → Part g I d t → walk (area_of g) I (blocks_at t) ≡ walk_of (view (block_size g) d) t
 unfolding blocks_at render
-part-walk g I d [] p = absurd p.good.packed
-part-walk g I d (b ∷ bs) p =
-    let h : length (b ∷ bs) ≤ g.n - data_at g = omega (arith, chain-long (block_size g) (view (block_size g) d) (b ∷ bs), stored-few g I _ p.stored) in
+part_walk g I d [] p = absurd p.good.packed
+part_walk g I d (b ∷ bs) p =
+    let h : length (b ∷ bs) ≤ g.n - data_at g = omega (arith, chain_long (block_size g) (view (block_size g) d) (b ∷ bs), stored_few g I _ p.stored) in
     let e : g.n - data_at g ≡ suc (g.n - data_at g - 1) = omega arith in
     ap (λ (k : ℕ). chain_from (area_of g) I k b.at) e
     ∙ chain-walk g I p.sound d b bs (g.n - data_at g - 1) (omega arith) p.good.all p.stored
@@ -120,7 +120,7 @@ part-walk g I d (b ∷ bs) p =
 -- A directory of a volume, at whatever path, is walked as the tree has it: every entry in order, each at its place, and no damage.
 pub walk_is : (g : Geo) (I : List ℕ) (d : ℕ) (t : Tree d) (u : ℕ) (p : List Name) (s : Some) → Laid g I d t u → find d p t ≡ some s
     → walk (area_of g) I (blocks_at s.1) ≡ walk_of (view (block_size g) s.0) s.1
-walk_is g I d t u p s l f = part-walk g I s.0 s.1 (part-find g I d p t s (laid-part g I d t u l) f)
+walk_is g I d t u p s l f = part_walk g I s.0 s.1 (part_find g I d p t s (laid_part g I d t u l) f)
 
 -- ---- the sum of the walk, and the place of an entry
 
@@ -129,7 +129,7 @@ module _ {X : Type 0} (v : View X) where
   unfolding items_of sum_from used
   items-sum a [] o s w = ap (λ (j : ℕ). sum_from j w) (sym (add-zero s))
   items-sum a (e ∷ es) o s w =
-      let k : s + (header + (head_of v e).len) + used es ≡ s + (weight e + used es) = omega (arith, head-weight v s e) in
+      let k : s + (header + (head_of v e).len) + used es ≡ s + (weight e + used es) = omega (arith, head_weight v s e) in
       items-sum a es (o + weight e) (s + (header + (head_of v e).len)) w ∙ ap (λ (j : ℕ). sum_from j w) k
 
   pub walk-sum : (bs : List (Block X)) (s : ℕ) → sum_from s (walk_of v bs) ≡ summed.Total (s + sum bs)
@@ -138,14 +138,14 @@ module _ {X : Type 0} (v : View X) where
   walk-sum (b ∷ bs) s = items-sum b.at b.entries 0 s (walk_of v bs) ∙ walk-sum bs (s + used b.entries) ∙ ap summed.Total (add_assoc s (used b.entries) (sum bs))
 
 -- The sum of a directory that the image holds is the tree's.
-pub part-sum : (g : Geo) (I : List ℕ) (d : ℕ) (t : Tree d) → Part g I d t → sum_from 0 (walk (area_of g) I (blocks_at t)) ≡ summed.Total (sum t)
-part-sum g I d t p = ap (sum_from 0) (part-walk g I d t p) ∙ walk-sum (view (block_size g) d) t 0 ∙ ap summed.Total (zero-add (sum t))
+pub part_sum : (g : Geo) (I : List ℕ) (d : ℕ) (t : Tree d) → Part g I d t → sum_from 0 (walk (area_of g) I (blocks_at t)) ≡ summed.Total (sum t)
+part_sum g I d t p = ap (sum_from 0) (part_walk g I d t p) ∙ walk-sum (view (block_size g) d) t 0 ∙ ap summed.Total (zero-add (sum t))
 
 -- The byte of the image where the entry of a name begins.
-pub spot-place : {X : Type 0} (B : ℕ) (n : Name) (bs : List (Block X)) (e : Entry X) → lookup n bs ≡ some e → place_at B (spot_of n bs).block.0 (spot_of n bs).offset ≡ place_of B n bs
+pub spot_place : {X : Type 0} (B : ℕ) (n : Name) (bs : List (Block X)) (e : Entry X) → lookup n bs ≡ some e → place_at B (spot_of n bs).block.0 (spot_of n bs).offset ≡ place_of B n bs
 unfolding lookup first then spot_of place_of
-spot-place B n [] e l = absurd (not_some refl l)
-spot-place {X} B n (b ∷ bs) e l = go (either (holds n b)) (spot-place B n bs e)
+spot_place B n [] e l = absurd (not_some refl l)
+spot_place {X} B n (b ∷ bs) e l = go (either (holds n b)) (spot_place B n bs e)
   where
     place : Place → ℕ
     place q = place_at B q.block.0 q.offset
@@ -153,5 +153,5 @@ spot-place {X} B n (b ∷ bs) e l = go (either (holds n b)) (spot-place B n bs e
     go : (holds n b ≡ true) ⊎ (holds n b ≡ false) → (lookup n bs ≡ some e → place (spot_of n bs) ≡ place_of B n bs) → place (spot_of n (b ∷ bs)) ≡ place_of B n (b ∷ bs)
     go (inl c) r = ap place (pick_true (placed b.at (offset n b.entries)) (spot_of n bs) c) ∙ sym (pick_true (B * b.at + 4 + offset n b.entries) (place_of B n bs) c)
     go (inr c) r =
-        ap place (pick_false (placed b.at (offset n b.entries)) (spot_of n bs) c) ∙ r (sym (lookup-there n b bs c) ∙ l)
+        ap place (pick_false (placed b.at (offset n b.entries)) (spot_of n bs) c) ∙ r (sym (lookup_there n b bs c) ∙ l)
         ∙ sym (pick_false (B * b.at + 4 + offset n b.entries) (place_of B n bs) c)

@@ -33,9 +33,9 @@ module _ (l : List ℕ) (at : ℕ) (vs : List ℕ) (h : at + length vs ≤ lengt
   unfolding splice
   length-splice = simp (length-append, length-take, length-drop) (omega arith)
 
-  pub splice-before : (j : ℕ) → j < at → get_or (splice l at vs) j 0 ≡ get_or l j 0
+  pub splice_before : (j : ℕ) → j < at → get_or (splice l at vs) j 0 ≡ get_or l j 0
   unfolding splice
-  splice-before j p =
+  splice_before j p =
       let e : length (take at l) ≡ at = length-take-le at l (omega arith) in
       get_or-append (take at l) (vs ++ drop (at + length vs) l) 0 j (omega arith) ∙ get_or-take at l j 0 p
 
@@ -93,23 +93,23 @@ be_halves l at n a b e p q = rw e (omega (arith, be-add 4 4 l at), omega arith)
 
 -- ---- bytes
 
-pub length-bytes : (n v : ℕ) → length (bytes n v) ≡ n
+pub length_bytes : (n v : ℕ) → length (bytes n v) ≡ n
 unfolding bytes
-length-bytes zero v = refl
-length-bytes (suc n) v = rw length-append (omega (arith, length-bytes n (v / 256)))
+length_bytes zero v = refl
+length_bytes (suc n) v = rw length-append (omega (arith, length_bytes n (v / 256)))
 
-bytes-add : (m n v : ℕ) → bytes (m + n) v ≡ bytes m (v / 256 ^ n) ++ bytes n v
+bytes_add : (m n v : ℕ) → bytes (m + n) v ≡ bytes m (v / 256 ^ n) ++ bytes n v
 unfolding bytes
-bytes-add m zero v = rw (add-zero, div-one, append-nil)
-bytes-add m (suc n) v = rw (add-suc, pow-succ', ← div-div-eq-div-mul, bytes-add m n (v / 256), append_assoc)
+bytes_add m zero v = rw (add-zero, div-one, append-nil)
+bytes_add m (suc n) v = rw (add-suc, pow-succ', ← div-div-eq-div-mul, bytes_add m n (v / 256), append_assoc)
 
 -- reading what was written
-pub be-bytes : (n v : ℕ) → v < 256 ^ n → be n (bytes n v) 0 ≡ v
+pub be_bytes : (n v : ℕ) → v < 256 ^ n → be n (bytes n v) 0 ≡ v
 unfolding be bytes
-be-bytes zero v h = omega arith
-be-bytes (suc n) v h =
-    let k : length (bytes n (v / 256)) ≡ n = length-bytes n (v / 256) in
-    let ih : be n (bytes n (v / 256)) 0 ≡ v / 256 = be-bytes n (v / 256) ((div-lt_iff_lt-mul (lit< tt)).1 (rw pow-suc at h)) in
+be_bytes zero v h = omega arith
+be_bytes (suc n) v h =
+    let k : length (bytes n (v / 256)) ≡ n = length_bytes n (v / 256) in
+    let ih : be n (bytes n (v / 256)) 0 ≡ v / 256 = be_bytes n (v / 256) ((div-lt_iff_lt-mul (lit< tt)).1 (rw pow-suc at h)) in
     let e : be n (bytes n (v / 256) ++ (v % 256) ∷ []) 0 ≡ be n (bytes n (v / 256)) 0
     = be_ext n _ _ 0 0 (λ i q. get_or-append (bytes n (v / 256)) ((v % 256) ∷ []) 0 (0 + i) (omega arith)) in
     let t : get_or (bytes n (v / 256) ++ (v % 256) ∷ []) (0 + n) 0 ≡ v % 256
@@ -120,14 +120,14 @@ be-bytes (suc n) v h =
 
 module _ (l : List ℕ) (at n v : ℕ) (h : at + n ≤ length l) where
   fits : at + length (bytes n v) ≤ length l
-  fits = omega (arith, length-bytes n v)
+  fits = omega (arith, length_bytes n v)
 
   -- the number comes back
-  pub be-put-same : v < 256 ^ n → be n (splice l at (bytes n v)) at ≡ v
-  be-put-same q =
+  pub be_put_same : v < 256 ^ n → be n (splice l at (bytes n v)) at ≡ v
+  be_put_same q =
       be_ext n (splice l at (bytes n v)) (bytes n v) at 0
-      (λ i p. splice_in l at (bytes n v) fits i (omega (arith, length-bytes n v)) ∙ ap (λ (k : ℕ). get_or (bytes n v) k 0) (sym (zero-add i)))
-      ∙ be-bytes n v q
+      (λ i p. splice_in l at (bytes n v) fits i (omega (arith, length_bytes n v)) ∙ ap (λ (k : ℕ). get_or (bytes n v) k 0) (sym (zero-add i)))
+      ∙ be_bytes n v q
 
 -- a run of single stores is a splice
 sets_splice : (vs l : List ℕ) (i : ℕ) → i + length vs ≤ length l → sets l i vs ≡ splice l i vs
@@ -204,15 +204,15 @@ splice_comm l p q a b h k = ext_get_or 0 (splice (splice l p a) q b) (splice (sp
     go : (j : ℕ) → Dec (j < p) → Dec (j < p + length a) → Dec (j < q) → Dec (j < q + length b)
         → get_or (splice (splice l p a) q b) j 0 ≡ get_or (splice (splice l q b) p a) j 0
     go j (yes x) y z w =
-        splice-before (splice l p a) q b hb j (omega arith) ∙ splice-before l p a ha j x
-        ∙ sym (splice-before (splice l q b) p a hc j x ∙ splice-before l q b k j (omega arith))
+        splice_before (splice l p a) q b hb j (omega arith) ∙ splice_before l p a ha j x
+        ∙ sym (splice_before (splice l q b) p a hc j x ∙ splice_before l q b k j (omega arith))
     go j (no x) (yes y) z w =
         let e : p + (j - p) ≡ j = omega arith in
-        splice-before (splice l p a) q b hb j (omega arith) ∙ ap (λ (m : ℕ). get_or (splice l p a) m 0) (sym e) ∙ splice_in l p a ha (j - p) (omega arith)
+        splice_before (splice l p a) q b hb j (omega arith) ∙ ap (λ (m : ℕ). get_or (splice l p a) m 0) (sym e) ∙ splice_in l p a ha (j - p) (omega arith)
         ∙ sym (ap (λ (m : ℕ). get_or (splice (splice l q b) p a) m 0) (sym e) ∙ splice_in (splice l q b) p a hc (j - p) (omega arith))
     go j (no x) (no y) (yes z) w =
-        splice-before (splice l p a) q b hb j z ∙ splice-after l p a ha j (omega arith)
-        ∙ sym (splice-after (splice l q b) p a hc j (omega arith) ∙ splice-before l q b k j z)
+        splice_before (splice l p a) q b hb j z ∙ splice-after l p a ha j (omega arith)
+        ∙ sym (splice-after (splice l q b) p a hc j (omega arith) ∙ splice_before l q b k j z)
     go j (no x) (no y) (no z) (yes w) =
         let e : q + (j - q) ≡ j = omega arith in
         ap (λ (m : ℕ). get_or (splice (splice l p a) q b) m 0) (sym e) ∙ splice_in (splice l p a) q b hb (j - q) (omega arith)
@@ -222,14 +222,14 @@ splice_comm l p q a b h k = ext_get_or 0 (splice (splice l p a) q b) (splice (sp
         ∙ sym (splice-after (splice l q b) p a hc j (omega arith) ∙ splice-after l q b k j (omega arith))
 
 -- a number stored from its low end: one byte more in front
-pub put-more : (l : List ℕ) (p m v : ℕ) → p + 1 + m ≤ length l
+pub put_more : (l : List ℕ) (p m v : ℕ) → p + 1 + m ≤ length l
     → set (splice l (p + 1) (bytes m v)) p (v / 256 ^ m % 256) ≡ splice l p (bytes (1 + m) v)
 unfolding bytes
-put-more l p m v h =
+put_more l p m v h =
     let b : ℕ = v / 256 ^ m % 256 in
-    let k : length (bytes m v) ≡ m = length-bytes m v in
+    let k : length (bytes m v) ≡ m = length_bytes m v in
     let f : p < length (splice l (p + 1) (bytes m v)) = rw (length-splice l (p + 1) (bytes m v) (omega arith)) (omega arith) in
     set-splice (splice l (p + 1) (bytes m v)) p b f
     ∙ sym (splice_comm l p (p + 1) (b ∷ []) (bytes m v) (omega arith) (omega arith))
     ∙ splice-append (b ∷ []) (bytes m v) l p (omega arith)
-    ∙ ap (splice l p) (sym (bytes-add 1 m v))
+    ∙ ap (splice l p) (sym (bytes_add 1 m v))

@@ -94,8 +94,8 @@ same_differ l m i d = go (either (same l m))
     go (inr e) = e
 
 -- lists of one length that agree at each place are
-pub same-agree : (l m : List ℕ) → length l ≡ length m → ((i : ℕ) → i < length m → get_or l i 0 ≡ get_or m i 0) → same l m ≡ true
-same-agree l m e h =
+pub same_agree : (l m : List ℕ) → length l ≡ length m → ((i : ℕ) → i < length m → get_or l i 0 ≡ get_or m i 0) → same l m ≡ true
+same_agree l m e h =
     let q : l ≡ m = ext_get_or 0 l m e (λ i p. h i (omega arith)) in
     subst (λ (x : List ℕ). same x m ≡ true) (sym q) (same_refl m)
 
@@ -112,9 +112,9 @@ module _ (s : List ℕ) (at : ℕ) (t : List ℕ) (h : at + length t ≤ length 
   pub part_differ : (i : ℕ) → i < length t → (get_or s (at + i) 0 ≡ get_or t i 0 → ⊥) → false ≡ same (take (length t) (drop at s)) t
   part_differ i p d = sym (same_differ (take (length t) (drop at s)) t i (λ e. d (sym (part_at i p) ∙ e)))
 
-  pub part-agree : ((i : ℕ) → i < length t → get_or s (at + i) 0 ≡ get_or t i 0) → true ≡ same (take (length t) (drop at s)) t
-  part-agree f =
-      sym (same-agree (take (length t) (drop at s)) t (simp (length-take, length-drop) (omega arith)) (λ i p. part_at i p ∙ f i p))
+  pub part_agree : ((i : ℕ) → i < length t → get_or s (at + i) 0 ≡ get_or t i 0) → true ≡ same (take (length t) (drop at s)) t
+  part_agree f =
+      sym (same_agree (take (length t) (drop at s)) t (simp (length-take, length-drop) (omega arith)) (λ i p. part_at i p ∙ f i p))
 
   pub sofar_start : (ok : Bool) (i : ℕ) → ok ≡ true → i ≡ 0 → Sofar s at t ok i
   sofar_start ok i e z = ((λ _ k l. absurd (omega arith)), (λ f. absurd (not_both e f)))
@@ -135,5 +135,5 @@ module _ (s : List ℕ) (at : ℕ) (t : List ℕ) (h : at + length t ≤ length 
       failed (inr o) f = v.1 o
 
   pub sofar_done : (ok : Bool) (i : ℕ) → Sofar s at t ok i → length t ≤ i → ok ≡ same (take (length t) (drop at s)) t
-  sofar_done true i v l = part-agree (λ k p. v.0 refl k (omega arith))
+  sofar_done true i v l = part_agree (λ k p. v.0 refl k (omega arith))
   sofar_done false i v l = sym (v.1 refl)

@@ -12,13 +12,13 @@ use Rattle.wire.specs.Pick.{zero_from}
 use Rattle.wire.proofs.Picks.{and_both, and_true, and_assoc}
 
 -- bytes that pass the test are zero
-pub zeros-shown : (I : List ℕ) (p k : ℕ) → zero_from I p k ≡ true → (i : ℕ) → i < k → get_or I (p + i) 0 ≡ 0
+pub zeros_shown : (I : List ℕ) (p k : ℕ) → zero_from I p k ≡ true → (i : ℕ) → i < k → get_or I (p + i) 0 ≡ 0
 unfolding zero_from
-zeros-shown I p zero h i q = absurd (omega arith)
-zeros-shown I p (suc k) h zero q = rw add-zero (eqb-true (get_or I p 0) 0 (and_both (eqb (get_or I p 0) 0) (zero_from I (suc p) k) h).0)
-zeros-shown I p (suc k) h (suc i) q =
+zeros_shown I p zero h i q = absurd (omega arith)
+zeros_shown I p (suc k) h zero q = rw add-zero (eqb-true (get_or I p 0) 0 (and_both (eqb (get_or I p 0) 0) (zero_from I (suc p) k) h).0)
+zeros_shown I p (suc k) h (suc i) q =
     let e : p + suc i ≡ suc p + i = omega arith in
-    ap (λ (j : ℕ). get_or I j 0) e ∙ zeros-shown I (suc p) k (and_both (eqb (get_or I p 0) 0) (zero_from I (suc p) k) h).1 i (omega arith)
+    ap (λ (j : ℕ). get_or I j 0) e ∙ zeros_shown I (suc p) k (and_both (eqb (get_or I p 0) 0) (zero_from I (suc p) k) h).1 i (omega arith)
 
 pub zeros_pass : (I : List ℕ) (k p : ℕ) → ((j : ℕ) → j < k → get_or I (p + j) 0 ≡ 0) → zero_from I p k ≡ true
 unfolding zero_from
@@ -33,16 +33,16 @@ zeros_pass I (suc k) p z =
 abbrev pub Left : List ℕ → ℕ → ℕ → Bool → ℕ → Type 0
 Left l at n ok i = (ok && zero_from l (at + i) (n - i)) ≡ zero_from l at n
 
-pub left-start : (l : List ℕ) (at n i : ℕ) (ok : Bool) → i ≡ 0 → ok ≡ true → Left l at n ok i
-left-start l at n i ok e t =
+pub left_start : (l : List ℕ) (at n i : ℕ) (ok : Bool) → i ≡ 0 → ok ≡ true → Left l at n ok i
+left_start l at n i ok e t =
     let f : at + i ≡ at = omega arith in
     let g : n - i ≡ n = omega arith in
     ap (λ (b : Bool). b && zero_from l (at + i) (n - i)) t ∙ ap (λ (x : ℕ). zero_from l x (n - i)) f ∙ ap (zero_from l at) g
 
 module _ (l : List ℕ) (at n i : ℕ) (ok : Bool) (v : Left l at n ok i) where
-  pub left-more : (r : Bool) (x : ℕ) → i < n → x ≡ get_or l (at + i) 0 → r ≡ (ok && eqb x 0) → Left l at n r (i + 1)
+  pub left_more : (r : Bool) (x : ℕ) → i < n → x ≡ get_or l (at + i) 0 → r ≡ (ok && eqb x 0) → Left l at n r (i + 1)
   unfolding zero_from
-  left-more r x h e q =
+  left_more r x h e q =
       let k : n - i ≡ suc (n - (i + 1)) = omega arith in
       let f : at + (i + 1) ≡ suc (at + i) = omega arith in
       let z : Bool = zero_from l (suc (at + i)) (n - (i + 1)) in
@@ -52,6 +52,6 @@ module _ (l : List ℕ) (at n i : ℕ) (ok : Bool) (v : Left l at n ok i) where
       ∙ ap (λ (m : ℕ). ok && zero_from l (at + i) m) (sym k)
       ∙ v
 
-  pub left-none : n ≤ i → ok ≡ zero_from l at n
+  pub left_none : n ≤ i → ok ≡ zero_from l at n
   unfolding zero_from
-  left-none h = let k : n - i ≡ 0 = omega arith in sym (and_true ok) ∙ ap (λ (m : ℕ). ok && zero_from l (at + i) m) (sym k) ∙ v
+  left_none h = let k : n - i ≡ 0 = omega arith in sym (and_true ok) ∙ ap (λ (m : ℕ). ok && zero_from l (at + i) m) (sym k) ∙ v

@@ -9,7 +9,7 @@ use Rattle.limits.specs.Refusals.{refusal_number}
 use Rattle.limits.specs.declared.Refusal.{Refusal}
 use Rattle.super_block.specs.declared.SuperBlock.{SuperBlock}
 use Rattle.super_block.specs.Super.{geo_of, Ready}
-use Rattle.super_block.proofs.Fits.{ready-volume}
+use Rattle.super_block.proofs.Fits.{ready_volume}
 use Rattle.dir_entry.specs.declared.DirEntry.{DirEntry}
 use Rattle.read_dir.specs.declared.Place.{Place}
 use Rattle.write_store.specs.Write.{wrote, CanWrite}
@@ -19,14 +19,14 @@ use Rattle.write.specs.declared.Targeted.{Targeted}
 use Rattle.write.specs.declared.Targeted.TheVariants as targeted
 use Rattle.write.specs.Writing.{target_of, image_at, written_image, grown_handle, handle_after, count_of}
 use Rattle.write.specs.Written.{targeted_says, WriteIs}
-use Rattle.write.proofs.Targets.{accepted-can}
+use Rattle.write.proofs.Targets.{accepted_can}
 
 module _ (s : SuperBlock) (I : List ℕ) (h : Handle) (buf : List ℕ) (r : Targeted) (er : targeted_says r ≡ target_of (geo_of s) I h (length buf)) where
   -- ---- before the stores
 
   module _ (ok : Ready s I) (e : DirEntry) (p : Place) (q : r ≡ targeted.At e p) where
     pub store_can : CanWrite (geo_of s) I e p h.position (length buf)
-    store_can = accepted-can (geo_of s) I ok.well.tree (ready-volume s I ok) h buf (record { entry = e; place = p }) (sym er ∙ ap targeted_says q)
+    store_can = accepted_can (geo_of s) I ok.well.tree (ready_volume s I ok) h buf (record { entry = e; place = p }) (sym er ∙ ap targeted_says q)
 
     pub store_end : h.position + length buf ≤ 2147483647
     store_end = store_can.limit
@@ -37,9 +37,9 @@ module _ (s : SuperBlock) (I : List ℕ) (h : Handle) (buf : List ℕ) (r : Targ
   -- ---- the end
 
   module _ (time : ℕ) where
-    pub write-refused : (k : Refusal) → r ≡ targeted.Refused k → WriteIs (geo_of s) h buf time I I (record { answer = counted.Refused k; handle = h })
+    pub write_refused : (k : Refusal) → r ≡ targeted.Refused k → WriteIs (geo_of s) h buf time I I (record { answer = counted.Refused k; handle = h })
     unfolding count_of and_then written_image
-    write-refused k q =
+    write_refused k q =
         let t : refused (refusal_number k) ≡ target_of (geo_of s) I h (length buf) = sym (ap targeted_says q) ∙ er in
         record {
           answer = ap (count_of (length buf)) t;

@@ -17,10 +17,10 @@ use Rattle.model.specs.Answers.{Reply, accepted, refused, and_then}
 use Rattle.model.specs.Geometry.{area_of, Geo, block_size}
 use Rattle.model.specs.Volume.{file_limit, blocks_for, Volume, max_depth}
 use Rattle.model.specs.Calls.{DirAt, path_to, free_blocks, file_entry, TreeWrites}
-use Rattle.model.proofs.Full.{good-find}
+use Rattle.model.proofs.Full.{good_find}
 use Rattle.model.proofs.Lists.{not_some}
-use Rattle.model.proofs.Reached.{path-found, path-is}
-use Rattle.bitmap_block.proofs.Stores.{volume-clears}
+use Rattle.model.proofs.Reached.{path_found, path_is}
+use Rattle.bitmap_block.proofs.Stores.{volume_clears}
 use Rattle.dir_entry.specs.declared.DirEntry.{DirEntry}
 use Rattle.dir_entry.specs.Shown.{head_of}
 use Rattle.read_dir.specs.declared.Place.{Place}
@@ -30,17 +30,17 @@ use Rattle.read_dir.specs.Walk.{walk}
 use Rattle.thm_walk.specs.Shown.{walk_of, spot_of}
 use Rattle.thm_walk.proofs.Walks.{walk_is}
 use Rattle.reached.specs.Reach.{has_path}
-use Rattle.reached.proofs.OnTree.{reach-is}
+use Rattle.reached.proofs.OnTree.{reach_is}
 use Rattle.write_store.specs.Write.{wrote, CanWrite}
-use Rattle.write_store.proofs.Writes.{good-file, wrote-is, can-write-is}
+use Rattle.write_store.proofs.Writes.{good_file, wrote_is, can_write_is}
 use Rattle.handle.specs.declared.Handle.{Handle}
 use Rattle.handle.specs.Handles.{name_of, stale_fields, current_in}
 use Rattle.write.specs.Writing.{Target, too_long, blocks_to_add, unreached, no_room, held_at, target_of, image_at, written_image}
 use Rattle.write.specs.Written.{fits_at}
 use Rattle.handle.specs.OnTree.{FileIn, OnFile, Lost, Stale}
 use Rattle.write.specs.OnTree.{to_add, NoRoom, Accepts}
-use Rattle.write.proofs.Aims.{fits-long, fits-full, fits_in, held_stale, held-unreached, held-entry, aim_empty, aim_then}
-use Rattle.handle.proofs.Currents.{own, own-file, file-own, walk-current, walk-missing}
+use Rattle.write.proofs.Aims.{fits_long, fits_full, fits_in, held_stale, held_unreached, held_entry, aim_empty, aim_then}
+use Rattle.handle.proofs.Currents.{own, own_file, file_own, walk-current, walk-missing}
 use Rattle.handle.proofs.Seeks.{fresh}
 
 -- the number of a refusal, 0 for none
@@ -54,8 +54,8 @@ module _ (g : Geo) (I : List ℕ) (t : Tree max_depth) (v : Volume g I max_depth
   abbrev here : Found
   here = current_in h (walk (area_of g) I h.dir.0)
 
-  here-is : (p : List Name) (s : DirAt max_depth h.dir.0 p t) → here ≡ current_in h (walk_of (view (block_size g) s.dir.0) s.dir.1)
-  here-is p s =
+  here_is : (p : List Name) (s : DirAt max_depth h.dir.0 p t) → here ≡ current_in h (walk_of (view (block_size g) s.dir.0) s.dir.1)
+  here_is p s =
       ap (λ (a : ℕ). current_in h (walk (area_of g) I a)) (sym s.starts)
       ∙ ap (current_in h) (walk_is g I max_depth t _ p s.dir v.laid s.there)
 
@@ -66,20 +66,20 @@ module _ (g : Geo) (I : List ℕ) (t : Tree max_depth) (v : Volume g I max_depth
       w : View (Below s.dir.0)
       w = view (block_size g) s.dir.0
 
-      none-there : ((e : Entry (Below s.dir.0)) → lookup (name_of h) s.dir.1 ≡ some e → own w h e ≡ false) → FileIn h s.dir ⊎ ((FileIn h s.dir → ⊥) × (here ≡ found.Missing))
-      none-there c =
+      none_there : ((e : Entry (Below s.dir.0)) → lookup (name_of h) s.dir.1 ≡ some e → own w h e ≡ false) → FileIn h s.dir ⊎ ((FileIn h s.dir → ⊥) × (here ≡ found.Missing))
+      none_there c =
           inr (
-            λ f. not_both (file-own w h f.time f.cells f.starts) (c _ f.held),
-            here-is p s ∙ walk-missing w h s.dir.1 (good-find (block_size g) max_depth p t s.dir v.laid.good s.there).distinct c,
+            λ f. not_both (file_own w h f.time f.cells f.starts) (c _ f.held),
+            here_is p s ∙ walk-missing w h s.dir.1 (good_find (block_size g) max_depth p t s.dir v.laid.good s.there).distinct c,
           )
 
       go : (o : Option (Entry (Below s.dir.0))) → lookup (name_of h) s.dir.1 ≡ o → FileIn h s.dir ⊎ ((FileIn h s.dir → ⊥) × (here ≡ found.Missing))
-      go none l = none-there (λ e k. absurd (not_some l k))
+      go none l = none_there (λ e k. absurd (not_some l k))
       go (some e) l = by (either (own w h e))
         where
           by : (own w h e ≡ true) ⊎ (own w h e ≡ false) → FileIn h s.dir ⊎ ((FileIn h s.dir → ⊥) × (here ≡ found.Missing))
-          by (inl c) = let r = own-file w h e c in inl (record { time = e.time; cells = r.0; held = l ∙ ap some r.1; starts = r.2 })
-          by (inr c) = none-there (λ x k. let m : some e ≡ some x = sym l ∙ k in let q : e ≡ x = cc in sym (ap (own w h) q) ∙ c)
+          by (inl c) = let r = own_file w h e c in inl (record { time = e.time; cells = r.0; held = l ∙ ap some r.1; starts = r.2 })
+          by (inr c) = none_there (λ x k. let m : some e ≡ some x = sym l ∙ k in let q : e ≡ x = cc in sym (ap (own w h) q) ∙ c)
 
   -- ---- a handle on a file
 
@@ -91,31 +91,31 @@ module _ (g : Geo) (I : List ℕ) (t : Tree max_depth) (v : Volume g I max_depth
         place = spot_of (name_of h) q.there.dir.1;
       }
 
-  here-at : (q : OnFile max_depth t h) → here ≡ found.At (aimed q).entry (aimed q).place
+  here_at : (q : OnFile max_depth t h) → here ≡ found.At (aimed q).entry (aimed q).place
   unfolding aimed
-  here-at q =
+  here_at q =
       let w : View (Below q.there.dir.0) = view (block_size g) q.there.dir.0 in
-      here-is q.path q.there ∙ walk-current w h q.there.dir.1 _ q.file.held (file-own w h q.file.time q.file.cells q.file.starts)
+      here_is q.path q.there ∙ walk-current w h q.there.dir.1 _ q.file.held (file_own w h q.file.time q.file.cells q.file.starts)
 
-  reached-by : (p : List Name) → DirAt max_depth h.dir.0 p t → false ≡ unreached g I h
+  reached_by : (p : List Name) → DirAt max_depth h.dir.0 p t → false ≡ unreached g I h
   unfolding unreached
-  reached-by p s = sym (ap not (reach-is g I max_depth t _ h.dir.0 v.laid ∙ ap has_path (path-is g I max_depth t _ h.dir.0 p v.laid s)))
+  reached_by p s = sym (ap not (reach_is g I max_depth t _ h.dir.0 v.laid ∙ ap has_path (path_is g I max_depth t _ h.dir.0 p v.laid s)))
 
-  unreached-by : path_to max_depth h.dir.0 t ≡ none → true ≡ unreached g I h
+  unreached_by : path_to max_depth h.dir.0 t ≡ none → true ≡ unreached g I h
   unfolding unreached
-  unreached-by e = sym (ap not (reach-is g I max_depth t _ h.dir.0 v.laid ∙ ap has_path e))
+  unreached_by e = sym (ap not (reach_is g I max_depth t _ h.dir.0 v.laid ∙ ap has_path e))
 
   abbrev adds : ℕ → OnFile max_depth t h → ℕ
   adds len q = to_add (block_size g) max_depth t h len q
 
-  chain-long : (q : OnFile max_depth t h) → length q.file.cells ≡ blocks_for (block_size g) h.size
-  chain-long q = (good-file g I max_depth t v q.path (name_of h) q.there.dir q.there.there q.file.time h.size q.file.cells q.file.held).long
+  chain_long : (q : OnFile max_depth t h) → length q.file.cells ≡ blocks_for (block_size g) h.size
+  chain_long q = (good_file g I max_depth t v q.path (name_of h) q.there.dir q.there.there q.file.time h.size q.file.cells q.file.held).long
 
-  room-is : (len : ℕ) (q : OnFile max_depth t h) → no_room g I h len ≡ ltb (length (free_blocks g max_depth t)) (adds len q)
+  room_is : (len : ℕ) (q : OnFile max_depth t h) → no_room g I h len ≡ ltb (length (free_blocks g max_depth t)) (adds len q)
   unfolding no_room blocks_to_add
-  room-is len q =
-      let old : blocks_for (block_size g) h.size ≡ length q.file.cells = sym (chain-long q) in
-      λ i. ltb (length (volume-clears g I max_depth t v i)) (blocks_for (block_size g) (h.position + len) - old i)
+  room_is len q =
+      let old : blocks_for (block_size g) h.size ≡ length q.file.cells = sym (chain_long q) in
+      λ i. ltb (length (volume_clears g I max_depth t v i)) (blocks_for (block_size g) (h.position + len) - old i)
 
   -- ---- the handle's entry
 
@@ -126,17 +126,17 @@ module _ (g : Geo) (I : List ℕ) (t : Tree max_depth) (v : Volume g I max_depth
       go : Stale max_depth t h → (stale_fields h ≡ true) ⊎ (stale_fields h ≡ false) → held_at g I h ≡ refused 11
       go s (inl a) = sym (held_stale g I h (stale_fields h) refl a)
       go (inl a) (inr b) = absurd (not_both a b)
-      go (inr (inl e)) (inr b) = sym (held-unreached g I h (stale_fields h) refl b true (unreached-by e) refl)
+      go (inr (inl e)) (inr b) = sym (held_unreached g I h (stale_fields h) refl b true (unreached_by e) refl)
       go (inr (inr s)) (inr b) = by (file_or s.0 s.1)
         where
           by : FileIn h s.1.dir ⊎ ((FileIn h s.1.dir → ⊥) × (here ≡ found.Missing)) → held_at g I h ≡ refused 11
           by (inl f) = absurd (s.2 f)
-          by (inr m) = sym (held-entry g I h (stale_fields h) refl b false (reached-by s.0 s.1) found.Missing refl (sym m.1))
+          by (inr m) = sym (held_entry g I h (stale_fields h) refl b false (reached_by s.0 s.1) found.Missing refl (sym m.1))
 
   -- and one on a file has its own.
-  pub on-held : stale_fields h ≡ false → (q : OnFile max_depth t h) → held_at g I h ≡ accepted (aimed q)
+  pub on_held : stale_fields h ≡ false → (q : OnFile max_depth t h) → held_at g I h ≡ accepted (aimed q)
   unfolding aimed
-  on-held fields q = sym (held-entry g I h (stale_fields h) refl fields false (reached-by q.path q.there) (found.At (aimed q).entry (aimed q).place) refl (sym (here-at q)))
+  on_held fields q = sym (held_entry g I h (stale_fields h) refl fields false (reached_by q.path q.there) (found.At (aimed q).entry (aimed q).place) refl (sym (here_at q)))
 
   -- ---- each answer
 
@@ -151,33 +151,33 @@ module _ (g : Geo) (I : List ℕ) (t : Tree max_depth) (v : Volume g I max_depth
     module _ (fields : stale_fields h ≡ false) (q : OnFile max_depth t h) where
       on_file : target_of g I h len ≡ fits_at g I h len (aimed q).entry (aimed q).place
       unfolding and_then
-      on_file = aim_then g I h len nonzero ∙ ap (λ (x : Reply Target). and_then x (λ t. fits_at g I h len t.entry t.place)) (on-held fields q)
+      on_file = aim_then g I h len nonzero ∙ ap (λ (x : Reply Target). and_then x (λ t. fits_at g I h len t.entry t.place)) (on_held fields q)
 
-      long-target : file_limit < h.position + len → target_of g I h len ≡ refused 10
+      long_target : file_limit < h.position + len → target_of g I h len ≡ refused 10
       unfolding too_long
-      long-target l = on_file ∙ sym (fits-long g I h len (aimed q).entry (aimed q).place true (sym (lt-ltb file_limit (h.position + len) l)) refl)
+      long_target l = on_file ∙ sym (fits_long g I h len (aimed q).entry (aimed q).place true (sym (lt-ltb file_limit (h.position + len) l)) refl)
 
       module _ (limit : h.position + len ≤ file_limit) where
         short : false ≡ too_long h len
         unfolding too_long
         short = sym (le-ltb file_limit (h.position + len) limit)
 
-        full-target : length (free_blocks g max_depth t) < adds len q → target_of g I h len ≡ refused 9
-        full-target l =
-            on_file ∙ sym (fits-full g I h len (aimed q).entry (aimed q).place false short true refl (sym (room-is len q ∙ lt-ltb _ _ l)) refl)
+        full_target : length (free_blocks g max_depth t) < adds len q → target_of g I h len ≡ refused 9
+        full_target l =
+            on_file ∙ sym (fits_full g I h len (aimed q).entry (aimed q).place false short true refl (sym (room_is len q ∙ lt-ltb _ _ l)) refl)
 
-        pub good-target : adds len q ≤ length (free_blocks g max_depth t) → target_of g I h len ≡ accepted (aimed q)
+        pub good_target : adds len q ≤ length (free_blocks g max_depth t) → target_of g I h len ≡ accepted (aimed q)
         unfolding aimed
-        good-target l =
-            on_file ∙ sym (fits_in g I h len (aimed q).entry (aimed q).place false short false refl (sym (room-is len q ∙ le-ltb _ _ l)) refl)
+        good_target l =
+            on_file ∙ sym (fits_in g I h len (aimed q).entry (aimed q).place false short false refl (sym (room_is len q ∙ le-ltb _ _ l)) refl)
 
   -- The handle is on a file, or the tree has lost it.
-  pub file-lost : OnFile max_depth t h ⊎ Lost max_depth t h
-  file-lost = go (path_to max_depth h.dir.0 t) refl
+  pub file_lost : OnFile max_depth t h ⊎ Lost max_depth t h
+  file_lost = go (path_to max_depth h.dir.0 t) refl
     where
       go : (o : Option (List Name)) → path_to max_depth h.dir.0 t ≡ o → OnFile max_depth t h ⊎ Lost max_depth t h
       go none e = inr (inl e)
-      go (some p) e = by (path-found (block_size g) max_depth h.dir.0 t p v.laid.good e)
+      go (some p) e = by (path_found (block_size g) max_depth h.dir.0 t p v.laid.good e)
         where
           by : DirAt max_depth h.dir.0 p t → OnFile max_depth t h ⊎ Lost max_depth t h
           by s = at_last (file_or p s)
@@ -192,16 +192,16 @@ module _ (g : Geo) (I : List ℕ) (t : Tree max_depth) (v : Volume g I max_depth
       → (1 ≤ len → stale_fields h ≡ false → (q : OnFile max_depth t h) → h.position + len ≤ file_limit → length (free_blocks g max_depth t) < adds len q → P (refused 9))
       → (1 ≤ len → stale_fields h ≡ false → (q : OnFile max_depth t h) → h.position + len ≤ file_limit → adds len q ≤ length (free_blocks g max_depth t) → P (accepted (aimed q)))
       → P (target_of g I h len)
-  target_cases len P p13 p11 p10 p9 p0 = go (dec_lt 0 len) (either (stale_fields h)) file-lost
+  target_cases len P p13 p11 p10 p9 p0 = go (dec_lt 0 len) (either (stale_fields h)) file_lost
     where
       open_on_lem : (some_bytes : 1 ≤ len) → (fields : stale_fields h ≡ false) → (q : OnFile max_depth t h) → Dec (file_limit < h.position + len)
           → Dec (length (free_blocks g max_depth t) < adds len q) → P (target_of g I h len)
-      open_on_lem b f q (yes l) r = subst P (sym (long-target len b f q l)) (p10 b f q l)
-      open_on_lem b f q (no l) (yes r) = let k : h.position + len ≤ file_limit = omega arith in subst P (sym (full-target len b f q k r)) (p9 b f q k r)
+      open_on_lem b f q (yes l) r = subst P (sym (long_target len b f q l)) (p10 b f q l)
+      open_on_lem b f q (no l) (yes r) = let k : h.position + len ≤ file_limit = omega arith in subst P (sym (full_target len b f q k r)) (p9 b f q k r)
       open_on_lem b f q (no l) (no r) =
           let k : h.position + len ≤ file_limit = omega arith in
           let m : adds len q ≤ length (free_blocks g max_depth t) = omega arith in
-          subst P (sym (good-target len b f q k m)) (p0 b f q k m)
+          subst P (sym (good_target len b f q k m)) (p0 b f q k m)
 
       go : Dec (0 < len) → (stale_fields h ≡ true) ⊎ (stale_fields h ≡ false) → OnFile max_depth t h ⊎ Lost max_depth t h → P (target_of g I h len)
       go (no z) f q = let e : len ≡ 0 = omega arith in subst P (aim_empty g I h len e) (p13 e)
@@ -223,40 +223,40 @@ module _ (g : Geo) (I : List ℕ) (t : Tree max_depth) (v : Volume g I max_depth
       one_of k τ e = let z : suc k ≡ 0 = ap refused_by e in omega arith
 
   -- A write is accepted exactly where none of 13, 11, 10, 9 is given.
-  pub accepted-is : (len : ℕ) → ((τ : Target) → target_of g I h len ≡ accepted τ → Accepts g max_depth t h len)
+  pub accepted_is : (len : ℕ) → ((τ : Target) → target_of g I h len ≡ accepted τ → Accepts g max_depth t h len)
       × (Accepts g max_depth t h len → (τ : Target) × (target_of g I h len ≡ accepted τ))
-  accepted-is len = (
+  accepted_is len = (
     accepted_case len (λ τ. Accepts g max_depth t h len) (λ b f q k m. record { some_bytes = b; fields = f; on_file = q; limit = k; enough = m }),
-    λ a. (aimed a.on_file, good-target len a.some_bytes a.fields a.on_file a.limit a.enough),
+    λ a. (aimed a.on_file, good_target len a.some_bytes a.fields a.on_file a.limit a.enough),
   )
 
   -- The entry of a handle on a file is found in the image.
-  pub found-there : OnFile max_depth t h → (e : DirEntry) × (p : Place) × (current_in h (walk (area_of g) I h.dir.0) ≡ found.At e p)
-  found-there q = ((aimed q).entry, (aimed q).place, here-at q)
+  pub found_there : OnFile max_depth t h → (e : DirEntry) × (p : Place) × (current_in h (walk (area_of g) I h.dir.0) ≡ found.At e p)
+  found_there q = ((aimed q).entry, (aimed q).place, here_at q)
 
   -- What `write` requires holds where a write is accepted.
-  pub accepted-can : (buf : List ℕ) (τ : Target) → target_of g I h (length buf) ≡ accepted τ → CanWrite g I τ.entry τ.place h.position (length buf)
+  pub accepted_can : (buf : List ℕ) (τ : Target) → target_of g I h (length buf) ≡ accepted τ → CanWrite g I τ.entry τ.place h.position (length buf)
   unfolding aimed
-  accepted-can buf =
+  accepted_can buf =
       accepted_case (length buf) (λ τ. CanWrite g I τ.entry τ.place h.position (length buf))
       (λ b f q k m.
-      can-write-is g I t q.path (name_of h) q.there.dir _ q.file.time h.size q.file.cells _ _ h.position buf v q.there.there q.file.held refl refl refl b (fresh h f).place k m)
+      can_write_is g I t q.path (name_of h) q.there.dir _ q.file.time h.size q.file.cells _ _ h.position buf v q.there.there q.file.held refl refl refl b (fresh h f).place k m)
 
-  pub image-is : (buf : List ℕ) (now : ℕ) (τ : Target) → target_of g I h (length buf) ≡ accepted τ → wrote g I τ.entry τ.place h.position buf now ≡ written_image g I h buf now
+  pub image_is : (buf : List ℕ) (now : ℕ) (τ : Target) → target_of g I h (length buf) ≡ accepted τ → wrote g I τ.entry τ.place h.position buf now ≡ written_image g I h buf now
   unfolding written_image
-  image-is buf now τ e = sym (ap (image_at g I h buf now) e)
+  image_is buf now τ e = sym (ap (image_at g I h buf now) e)
 
   -- An accepted write is the model's: of the file of the handle's name, in the directory of the handle's address.
   pub written_is : (buf : List ℕ) (now : ℕ) (τ : Target) → now < 2 ^ 64 → target_of g I h (length buf) ≡ accepted τ
       → (p : List Name) × DirAt max_depth h.dir.0 p t × TreeWrites g max_depth p (name_of h) now h.position buf t I (written_image g I h buf now)
   unfolding aimed
   written_is buf now τ clock e =
-      subst (λ (J : List ℕ). (p : List Name) × DirAt max_depth h.dir.0 p t × TreeWrites g max_depth p (name_of h) now h.position buf t I J) (image-is buf now τ e)
+      subst (λ (J : List ℕ). (p : List Name) × DirAt max_depth h.dir.0 p t × TreeWrites g max_depth p (name_of h) now h.position buf t I J) (image_is buf now τ e)
       (accepted_case (length buf) (λ x. (p : List Name) × DirAt max_depth h.dir.0 p t × TreeWrites g max_depth p (name_of h) now h.position buf t I (wrote g I x.entry x.place h.position buf now))
       (λ b f q k m. (
         q.path,
         q.there,
-        wrote-is g I t q.path (name_of h) q.there.dir _ q.file.time h.size q.file.cells _ _ h.position buf now v q.there.there q.file.held refl refl refl b (fresh h f).place k m clock,
+        wrote_is g I t q.path (name_of h) q.there.dir _ q.file.time h.size q.file.cells _ _ h.position buf now v q.there.there q.file.held refl refl refl b (fresh h f).place k m clock,
       )) τ e)
 
   -- 9 exactly where there is no room,
@@ -265,7 +265,7 @@ module _ (g : Geo) (I : List ℕ) (t : Tree max_depth) (v : Volume g I max_depth
     target_cases len (λ r. r ≡ refused 9 → NoRoom g max_depth t h len) (λ _ e. let z : 13 ≡ 9 = ap refused_by e in absurd (omega arith))
         (λ _ _ e. let z : 11 ≡ 9 = ap refused_by e in absurd (omega arith)) (λ _ _ _ _ e. let z : 10 ≡ 9 = ap refused_by e in absurd (omega arith))
         (λ b f q k m e. record { some_bytes = b; fields = f; on_file = q; limit = k; few = m }) (λ _ _ _ _ _ e. let z : 0 ≡ 9 = ap refused_by e in absurd (omega arith)),
-    λ n. full-target len n.some_bytes n.fields n.on_file n.limit n.few,
+    λ n. full_target len n.some_bytes n.fields n.on_file n.limit n.few,
   )
 
   -- 11 exactly where the handle is stale,
@@ -278,11 +278,11 @@ module _ (g : Geo) (I : List ℕ) (t : Tree max_depth) (v : Volume g I max_depth
   )
 
   -- 10 exactly where the file would be too long,
-  pub long-is : (len : ℕ) → (target_of g I h len ≡ refused 10 → (1 ≤ len) × (stale_fields h ≡ false) × OnFile max_depth t h × (file_limit < h.position + len))
+  pub long_is : (len : ℕ) → (target_of g I h len ≡ refused 10 → (1 ≤ len) × (stale_fields h ≡ false) × OnFile max_depth t h × (file_limit < h.position + len))
       × ((1 ≤ len) × (stale_fields h ≡ false) × OnFile max_depth t h × (file_limit < h.position + len) → target_of g I h len ≡ refused 10)
-  long-is len = (
+  long_is len = (
     target_cases len (λ r. r ≡ refused 10 → (1 ≤ len) × (stale_fields h ≡ false) × OnFile max_depth t h × (file_limit < h.position + len))
         (λ _ e. let z : 13 ≡ 10 = ap refused_by e in absurd (omega arith)) (λ _ _ e. let z : 11 ≡ 10 = ap refused_by e in absurd (omega arith)) (λ b f q k e. (b, f, q, k))
         (λ _ _ _ _ _ e. let z : 9 ≡ 10 = ap refused_by e in absurd (omega arith)) (λ _ _ _ _ _ e. let z : 0 ≡ 10 = ap refused_by e in absurd (omega arith)),
-    λ n. long-target len n.0 n.1 n.2 n.3,
+    λ n. long_target len n.0 n.1 n.2 n.3,
   )

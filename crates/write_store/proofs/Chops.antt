@@ -38,8 +38,8 @@ splice-over A S o us vs h =
     ∙ ap (λ (x : List ℕ). (take o A ++ x) ++ (vs ++ drop (0 + length vs) S)) (sym (append-nil us) ∙ ap (λ (x : List ℕ). us ++ x) (sym z))
 
 -- either way: what has room goes into the first
-splice-both : (w : ℕ) (A S : List ℕ) (o : ℕ) (vs : List ℕ) → length A ≡ w → o ≤ w → splice (A ++ S) o vs ≡ splice A o (take (w - o) vs) ++ splice S 0 (drop (w - o) vs)
-splice-both w A S o vs a h = go (dec_lt (length vs) (w - o))
+splice_both : (w : ℕ) (A S : List ℕ) (o : ℕ) (vs : List ℕ) → length A ≡ w → o ≤ w → splice (A ++ S) o vs ≡ splice A o (take (w - o) vs) ++ splice S 0 (drop (w - o) vs)
+splice_both w A S o vs a h = go (dec_lt (length vs) (w - o))
   where
     go : Dec (length vs < w - o) → splice (A ++ S) o vs ≡ splice A o (take (w - o) vs) ++ splice S 0 (drop (w - o) vs)
     go (yes l) =
@@ -58,16 +58,16 @@ unfolding chop
 chop-cons w a xs X Y h = λ i. record { at = a; body = take_at X Y w h i } ∷ chop w xs (drop_at X Y w h i)
 
 -- the blocks' own bytes give the blocks
-pub chop-same : (w : ℕ) (cs : List Cell) → All (λ c. length c.body ≡ w) cs → chop w (places cs) (stream cs) ≡ cs
+pub chop_same : (w : ℕ) (cs : List Cell) → All (λ c. length c.body ≡ w) cs → chop w (places cs) (stream cs) ≡ cs
 unfolding places stream
-chop-same w [] g = unfold chop in refl
-chop-same w (c ∷ cs) g = chop-cons w c.at (places cs) c.body (stream cs) g.0 ∙ ap (λ (l : List Cell). c ∷ l) (chop-same w cs g.1)
+chop_same w [] g = unfold chop in refl
+chop_same w (c ∷ cs) g = chop-cons w c.at (places cs) c.body (stream cs) g.0 ∙ ap (λ (l : List Cell). c ∷ l) (chop_same w cs g.1)
 
 -- they begin where the addresses do
-pub chop-starts : (w : ℕ) (cs : List Cell) (l : List ℕ) → cells_at (chop w (places cs) l) ≡ cells_at cs
+pub chop_starts : (w : ℕ) (cs : List Cell) (l : List ℕ) → cells_at (chop w (places cs) l) ≡ cells_at cs
 unfolding chop places cells_at
-chop-starts w [] l = refl
-chop-starts w (c ∷ cs) l = refl
+chop_starts w [] l = refl
+chop_starts w (c ∷ cs) l = refl
 
 -- only as many bytes count as there is room for
 chop-take : (w : ℕ) (xs l : List ℕ) → w * length xs ≤ length l → chop w xs (take (w * length xs) l) ≡ chop w xs l
@@ -106,11 +106,11 @@ chop-past w (x ∷ xs) ys o vs g =
     ∙ ap (λ (z : List Cell). x ∷ z) (chop-past w xs ys o vs g.1)
 
 -- a store that begins in the first block: its part there, and the rest
-pub chop-first : (w : ℕ) (c : Cell) (cs : List Cell) (o : ℕ) (vs : List ℕ) → length c.body ≡ w → o ≤ w
+pub chop_first : (w : ℕ) (c : Cell) (cs : List Cell) (o : ℕ) (vs : List ℕ) → length c.body ≡ w → o ≤ w
     → chop w (places (c ∷ cs)) (splice (stream (c ∷ cs)) o vs)
     ≡ record { at = c.at; body = splice c.body o (take (w - o) vs) } ∷ chop w (places cs) (splice (stream cs) 0 (drop (w - o) vs))
 unfolding places stream
-chop-first w c cs o vs g h =
-    ap (chop w (c.at ∷ places cs)) (splice-both w c.body (stream cs) o vs g h)
+chop_first w c cs o vs g h =
+    ap (chop w (c.at ∷ places cs)) (splice_both w c.body (stream cs) o vs g h)
     ∙ chop-cons w c.at (places cs) (splice c.body o (take (w - o) vs)) (splice (stream cs) 0 (drop (w - o) vs))
     (length-splice c.body o (take (w - o) vs) (omega (arith, length-take (w - o) vs)) ∙ g)

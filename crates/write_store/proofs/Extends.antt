@@ -14,35 +14,35 @@ use Rattle.model.specs.Geometry.{Geo, block_size, data_at, map_bits, super_bytes
 use Rattle.model.specs.Volume.{GoodCell}
 use Rattle.model.specs.Calls.{places, empty_cell}
 use Rattle.model.proofs.Areas.{size_large}
-use Rattle.model.proofs.Counts.{count_same, count-other, count-cons, count_none, count_self}
+use Rattle.model.proofs.Counts.{count_same, count_other, count_cons, count_none, count_self}
 use Rattle.model.proofs.Frame.{SameBlock}
 use Rattle.model.proofs.Full.{zero_byte}
 use Rattle.model.proofs.Lists.{all_left, all_right, all_append}
 use Rattle.bitmap_block.specs.Bitmap.{mark, clears, Room, fresh}
-use Rattle.bitmap_block.proofs.Stores.{Aside, aside_data, fresh-low, fresh-head, fresh-high, fresh-end, fresh-clear}
+use Rattle.bitmap_block.proofs.Stores.{Aside, aside_data, fresh_low, fresh_head, fresh_high, fresh_end, fresh_clear}
 use Rattle.write_store.specs.Write.{grown, extended, HeldCells}
-use Rattle.write_store.proofs.Cells.{count-places, count-cell, count-no-cell, block-long, tail-shows, back-shows, empties, empty-good, count-last}
-use Rattle.write_store.proofs.Grows.{grown-kept, grown-sound, grown-used, grown-clears, grown-room, grown-mark, grown-top, grown_zero, grown_links}
+use Rattle.write_store.proofs.Cells.{count_places, count_cell, count_no_cell, block_long, tail_shows, back_shows, empties, empty_good, count_last}
+use Rattle.write_store.proofs.Grows.{grown_kept, grown_sound, grown_used, grown-clears, grown_room, grown-mark, grown_top, grown_zero, grown_links}
 
 -- ---- one block
 
 module _ (g : Geo) (I : List ℕ) (s : Sound g (length I)) (xs : List Cell) (c : Cell) (h : HeldCells g I (xs ++ (c ∷ []))) (room : 1 ≤ length (clears g I)) where
   all : (i : ℕ) → count i (places (xs ++ (c ∷ []))) ≡ count i (places xs) + count i (c.at ∷ [])
-  all i = count-last i xs c
+  all i = count_last i xs c
 
   last_in : (data_at g ≤ c.at) × (c.at < g.n)
   last_in = h.range c.at (omega (arith, all c.at, count_self c.at))
 
   -- the new block is none of the chain's, since theirs are marked
-  fresh-new : count (fresh g I) (places (xs ++ (c ∷ []))) ≡ 0
-  fresh-new = go (dec_lt 0 (count (fresh g I) (places (xs ++ (c ∷ [])))))
+  fresh_new : count (fresh g I) (places (xs ++ (c ∷ []))) ≡ 0
+  fresh_new = go (dec_lt 0 (count (fresh g I) (places (xs ++ (c ∷ [])))))
     where
       go : Dec (0 < count (fresh g I) (places (xs ++ (c ∷ [])))) → count (fresh g I) (places (xs ++ (c ∷ []))) ≡ 0
-      go (yes q) = absurd (omega (arith, h.marked (fresh g I) q, fresh-clear g I room s))
+      go (yes q) = absurd (omega (arith, h.marked (fresh g I) q, fresh_clear g I room s))
       go (no q) = omega arith
 
   differs : fresh g I ≡ c.at → ⊥
-  differs e = omega (arith, fresh-new, all (fresh g I), count_same (fresh g I) c.at [] e)
+  differs e = omega (arith, fresh_new, all (fresh g I), count_same (fresh g I) c.at [] e)
 
   J : List ℕ
   J = grown g I c.at
@@ -50,37 +50,37 @@ module _ (g : Geo) (I : List ℕ) (s : Sound g (length I)) (xs : List Cell) (c :
   front_same : (b : ℕ) → 1 ≤ count b (places xs) → SameBlock (block_size g) I J b
   unfolding cell J
   front_same b q i p =
-      (grown-kept g I s room c.at last_in.0 last_in.1).at b i (
+      (grown_kept g I s room c.at last_in.0 last_in.1).at b i (
         aside_data g (length I) s b i (h.range b (omega (arith, all b))).0,
         (
           λ e _ _. omega (arith, h.once b, all b, count_same b c.at [] e),
-          λ e. let z = ap (λ (x : ℕ). count x (places (xs ++ (c ∷ [])))) e in omega (arith, fresh-new, z, all b),
+          λ e. let z = ap (λ (x : ℕ). count x (places (xs ++ (c ∷ [])))) e in omega (arith, fresh_new, z, all b),
         ),
       ) p
 
-  both-shown : ShowsAll (block_size g) J (cell_pieces (c ∷ (empty_cell g (fresh g I) ∷ [])))
+  both_shown : ShowsAll (block_size g) J (cell_pieces (c ∷ (empty_cell g (fresh g I) ∷ [])))
   unfolding cell_pieces cells_at J cell
-  both-shown = (
+  both_shown = (
     grown_links g I s room c.at last_in.0 last_in.1 differs 0 c.body
-        (omega (arith, (all_right (GoodCell (block_size g)) xs (c ∷ []) h.whole).0.whole, size_large g)) (back-shows (block_size g) I xs (c ∷ []) h.shown).0,
+        (omega (arith, (all_right (GoodCell (block_size g)) xs (c ∷ []) h.whole).0.whole, size_large g)) (back_shows (block_size g) I xs (c ∷ []) h.shown).0,
     (λ i q. grown_zero g I s room c.at last_in.0 last_in.1 differs i (short i q) ∙ sym (zero_byte (block_size g - 4) i), tt),
   )
     where
       short : (i : ℕ) → i < length (bytes 4 0 ++ (empty_cell g (fresh g I)).body) → i < block_size g
-      short i q = omega (arith, block-long (block_size g) (omega (arith, size_large g)) (empty_cell g (fresh g I)) 0 (empty-good g (fresh g I)))
+      short i q = omega (arith, block_long (block_size g) (omega (arith, size_large g)) (empty_cell g (fresh g I)) 0 (empty_good g (fresh g I)))
 
   -- The chain has the new block at its end.
-  grown-held : HeldCells g (grown g I c.at) ((xs ++ (c ∷ [])) ++ (empty_cell g (fresh g I) ∷ []))
+  grown_held : HeldCells g (grown g I c.at) ((xs ++ (c ∷ [])) ++ (empty_cell g (fresh g I) ∷ []))
   unfolding J cells_at
-  grown-held =
+  grown_held =
       let B : ℕ = block_size g in
       let w : ℕ = fresh g I in
       let more : (i : ℕ) → count i (places ((xs ++ (c ∷ [])) ++ (empty_cell g w ∷ []))) ≡ count i (places (xs ++ (c ∷ []))) + count i (w ∷ [])
-      = λ i. count-places i (xs ++ (c ∷ [])) (empty_cell g w ∷ []) ∙ omega (arith, count-cell i (empty_cell g w) [], count-no-cell i) in
+      = λ i. count_places i (xs ++ (c ∷ [])) (empty_cell g w ∷ []) ∙ omega (arith, count_cell i (empty_cell g w) [], count_no_cell i) in
       record {
         shown = subst (λ (l : List Cell). ShowsAll B J (cell_pieces l)) (sym (append_assoc xs (c ∷ []) (empty_cell g w ∷ [])))
-            (tail-shows B I J (omega (arith, size_large g)) xs (c ∷ []) (c ∷ (empty_cell g w ∷ [])) (all_left (GoodCell B) xs (c ∷ []) h.whole) front_same refl h.shown both-shown);
-        whole = all_append (GoodCell B) (xs ++ (c ∷ [])) (empty_cell g w ∷ []) h.whole (empty-good g w, tt);
+            (tail_shows B I J (omega (arith, size_large g)) xs (c ∷ []) (c ∷ (empty_cell g w ∷ [])) (all_left (GoodCell B) xs (c ∷ []) h.whole) front_same refl h.shown both_shown);
+        whole = all_append (GoodCell B) (xs ++ (c ∷ [])) (empty_cell g w ∷ []) h.whole (empty_good g w, tt);
         once = λ i. once i more (ℕ_discrete i w);
         range = λ i q. range i more q (ℕ_discrete i w);
         has_bit = λ i q. has_bit i more q (ℕ_discrete i w);
@@ -92,16 +92,16 @@ module _ (g : Geo) (I : List ℕ) (s : Sound g (length I)) (xs : List Cell) (c :
 
       once : (i : ℕ) → More → Dec (i ≡ fresh g I) → count i (places ((xs ++ (c ∷ [])) ++ (empty_cell g (fresh g I) ∷ []))) ≤ 1
       once i more (yes e) =
-          omega (arith, more i, ap (λ (x : ℕ). count x (places (xs ++ (c ∷ [])))) e, fresh-new, count_same i (fresh g I) [] e, count_none i)
-      once i more (no e) = omega (arith, more i, h.once i, count-other i (fresh g I) [] e, count_none i)
+          omega (arith, more i, ap (λ (x : ℕ). count x (places (xs ++ (c ∷ [])))) e, fresh_new, count_same i (fresh g I) [] e, count_none i)
+      once i more (no e) = omega (arith, more i, h.once i, count_other i (fresh g I) [] e, count_none i)
 
       range : (i : ℕ) → More → 1 ≤ count i (places ((xs ++ (c ∷ [])) ++ (empty_cell g (fresh g I) ∷ []))) → Dec (i ≡ fresh g I) → (data_at g ≤ i) × (i < g.n)
-      range i more q (yes e) = (omega (arith, fresh-low g I room), omega (arith, fresh-high g I room s))
-      range i more q (no e) = h.range i (omega (arith, more i, count-other i (fresh g I) [] e, count_none i))
+      range i more q (yes e) = (omega (arith, fresh_low g I room), omega (arith, fresh_high g I room s))
+      range i more q (no e) = h.range i (omega (arith, more i, count_other i (fresh g I) [] e, count_none i))
 
       has_bit : (i : ℕ) → More → 1 ≤ count i (places ((xs ++ (c ∷ [])) ++ (empty_cell g (fresh g I) ∷ []))) → Dec (i ≡ fresh g I) → i < data_at g + map_bits g
-      has_bit i more q (yes e) = omega (arith, fresh-end g I room s)
-      has_bit i more q (no e) = h.has_bit i (omega (arith, more i, count-other i (fresh g I) [] e, count_none i))
+      has_bit i more q (yes e) = omega (arith, fresh_end g I room s)
+      has_bit i more q (no e) = h.has_bit i (omega (arith, more i, count_other i (fresh g I) [] e, count_none i))
 
       marked : (i : ℕ) → More → 1 ≤ count i (places ((xs ++ (c ∷ [])) ++ (empty_cell g (fresh g I) ∷ []))) → Dec (i ≡ fresh g I) → mark g (grown g I c.at) (i - data_at g) ≡ 1
       marked i more q d =
@@ -114,9 +114,9 @@ module _ (g : Geo) (I : List ℕ) (s : Sound g (length I)) (xs : List Cell) (c :
           by : Dec (i ≡ fresh g I) → mark g (grown g I c.at) (i - data_at g) ≡ mark g I (i - data_at g) + count (data_at g + (i - data_at g)) (fresh g I ∷ [])
               → count (data_at g + (i - data_at g)) (fresh g I ∷ []) ≡ count i (fresh g I ∷ []) → mark g (grown g I c.at) (i - data_at g) ≡ 1
           by (yes e) m n =
-              omega (arith, m, n, ap (λ (x : ℕ). mark g I (x - data_at g)) e, fresh-clear g I room s, count_same i (fresh g I) [] e, count_none i)
+              omega (arith, m, n, ap (λ (x : ℕ). mark g I (x - data_at g)) e, fresh_clear g I room s, count_same i (fresh g I) [] e, count_none i)
           by (no e) m n =
-              omega (arith, m, n, h.marked i (omega (arith, more i, count-other i (fresh g I) [] e, count_none i)), count-other i (fresh g I) [] e, count_none i)
+              omega (arith, m, n, h.marked i (omega (arith, more i, count_other i (fresh g I) [] e, count_none i)), count_other i (fresh g I) [] e, count_none i)
 
 -- ---- k blocks
 
@@ -129,26 +129,26 @@ unfolding extended
 extended-more g I last k = refl
 
 module _ (g : Geo) where
-  taken-first : (I : List ℕ) (s : Sound g (length I)) (k : ℕ) → 1 ≤ length (clears g I) → (last : ℕ) → data_at g ≤ last → last < g.n
+  taken_first : (I : List ℕ) (s : Sound g (length I)) (k : ℕ) → 1 ≤ length (clears g I) → (last : ℕ) → data_at g ≤ last → last < g.n
       → take (suc k) (clears g I) ≡ fresh g I ∷ take k (clears g (grown g I last))
-  taken-first I s k r last low high =
-      ap (take (suc k)) (fresh-head g I r) ∙ ap (λ (l : List ℕ). fresh g I ∷ take k l) (sym (grown-clears g I s r last low high))
+  taken_first I s k r last low high =
+      ap (take (suc k)) (fresh_head g I r) ∙ ap (λ (l : List ℕ). fresh g I ∷ take k l) (sym (grown-clears g I s r last low high))
 
   -- The chain goes on with the lowest free blocks, in their order.
-  pub extended-held : (k : ℕ) (I : List ℕ) → Sound g (length I) → (xs : List Cell) (c : Cell) → HeldCells g I (xs ++ (c ∷ [])) → Room g I k
+  pub extended_held : (k : ℕ) (I : List ℕ) → Sound g (length I) → (xs : List Cell) (c : Cell) → HeldCells g I (xs ++ (c ∷ [])) → Room g I k
       → HeldCells g (extended g I c.at k) ((xs ++ (c ∷ [])) ++ empties g (take k (clears g I)))
   unfolding empties
-  extended-held zero I s xs c h r =
+  extended_held zero I s xs c h r =
       subst (λ (l : List Cell). HeldCells g (extended g I c.at 0) l) (sym (append-nil (xs ++ (c ∷ []))))
       (subst (λ (L : List ℕ). HeldCells g L (xs ++ (c ∷ []))) (sym (extended_none g I c.at)) h)
-  extended-held (suc k) I s xs c h r =
+  extended_held (suc k) I s xs c h r =
       let one : 1 ≤ length (clears g I) = omega (arith, r.clear) in
       let l = last_in g I s xs c h one in
       let e : suc k ≡ k + 1 = omega arith in
-      let ih = extended-held k (grown g I c.at) (grown-sound g I s one c.at l.0 l.1) (xs ++ (c ∷ [])) (empty_cell g (fresh g I)) (grown-held g I s xs c h one)
-      (grown-room g I s one c.at l.0 l.1 k (subst (Room g I) e r)) in
+      let ih = extended_held k (grown g I c.at) (grown_sound g I s one c.at l.0 l.1) (xs ++ (c ∷ [])) (empty_cell g (fresh g I)) (grown_held g I s xs c h one)
+      (grown_room g I s one c.at l.0 l.1 k (subst (Room g I) e r)) in
       subst (λ (L : List ℕ). HeldCells g L ((xs ++ (c ∷ [])) ++ empties g (take (suc k) (clears g I)))) (sym (extended-more g I c.at k))
-      (subst (λ (m : List ℕ). HeldCells g (extended g (grown g I c.at) (fresh g I) k) ((xs ++ (c ∷ [])) ++ empties g m)) (sym (taken-first I s k one c.at l.0 l.1))
+      (subst (λ (m : List ℕ). HeldCells g (extended g (grown g I c.at) (fresh g I) k) ((xs ++ (c ∷ [])) ++ empties g m)) (sym (taken_first I s k one c.at l.0 l.1))
       (subst (HeldCells g (extended g (grown g I c.at) (fresh g I) k)) (append_assoc (xs ++ (c ∷ [])) (empty_cell g (fresh g I) ∷ []) (empties g (take k (clears g (grown g I c.at))))) ih))
 
 -- What else has changed: the link of the last block, the new blocks ws, their marks and the used count.
@@ -158,36 +158,36 @@ pub record Extended (g : Geo) (I J : List ℕ) (last : ℕ) (ws : List ℕ) : Ty
   pub top : Shows I (block_size g * g.K) (super_bytes g (used_count g I)) → Shows J (block_size g * g.K) (super_bytes g (used_count g I + length ws))
 
 module _ (g : Geo) where
-  extended-same : (I : List ℕ) (last : ℕ) → Extended g I I last []
-  extended-same I last =
+  extended_same : (I : List ℕ) (last : ℕ) → Extended g I I last []
+  extended_same I last =
       record {
         kept = kept_refl I;
         marks = λ x q. omega (arith, count_none (data_at g + x));
         top = λ t. let e : used_count g I ≡ used_count g I + 0 = omega arith in subst (λ (u : ℕ). Shows I (block_size g * g.K) (super_bytes g u)) e t;
       }
 
-  extended-step : (I J : List ℕ) (s : Sound g (length I)) (one : 1 ≤ length (clears g I)) (last : ℕ) (low : data_at g ≤ last) (high : last < g.n) (ws : List ℕ) → used_count g I + 1 ≤ g.n
+  extended_step : (I J : List ℕ) (s : Sound g (length I)) (one : 1 ≤ length (clears g I)) (last : ℕ) (low : data_at g ≤ last) (high : last < g.n) (ws : List ℕ) → used_count g I + 1 ≤ g.n
       → Extended g (grown g I last) J (fresh g I) ws → Extended g I J last (fresh g I ∷ ws)
-  extended-step I J s one last low high ws u r =
+  extended_step I J s one last low high ws u r =
       let w : ℕ = fresh g I in
-      let used : used_count g (grown g I last) ≡ used_count g I + 1 = grown-used g I s one last low high u in
+      let used : used_count g (grown g I last) ≡ used_count g I + 1 = grown_used g I s one last low high u in
       record {
-        kept = kept_trans (kept_less (λ b o p. (p.0, (p.1.0, λ e. omega (arith, p.1.1, count_same b w ws e)))) (grown-kept g I s one last low high))
-            (kept_less (λ b o p. (p.0, (λ e _ _. omega (arith, p.1.1, count_same b w ws e), omega (arith, p.1.1, count-cons b w ws)))) r.kept);
-        marks = λ x q. omega (arith, r.marks x q, grown-mark g I s one last low high x q, count-cons (data_at g + x) w ws);
+        kept = kept_trans (kept_less (λ b o p. (p.0, (p.1.0, λ e. omega (arith, p.1.1, count_same b w ws e)))) (grown_kept g I s one last low high))
+            (kept_less (λ b o p. (p.0, (λ e _ _. omega (arith, p.1.1, count_same b w ws e), omega (arith, p.1.1, count_cons b w ws)))) r.kept);
+        marks = λ x q. omega (arith, r.marks x q, grown-mark g I s one last low high x q, count_cons (data_at g + x) w ws);
         top = λ t.
             let a : Shows (grown g I last) (block_size g * g.K) (super_bytes g (used_count g (grown g I last)))
-            = subst (λ (z : ℕ). Shows (grown g I last) (block_size g * g.K) (super_bytes g z)) (sym used) (grown-top g I s one last low high (used_count g I) t) in
+            = subst (λ (z : ℕ). Shows (grown g I last) (block_size g * g.K) (super_bytes g z)) (sym used) (grown_top g I s one last low high (used_count g I) t) in
             let e : used_count g (grown g I last) + length ws ≡ used_count g I + suc (length ws) = omega arith in
             subst (λ (z : ℕ). Shows J (block_size g * g.K) (super_bytes g z)) e (r.top a);
       }
 
-  pub extended-is : (k : ℕ) (I : List ℕ) → Sound g (length I) → (last : ℕ) → data_at g ≤ last → last < g.n → Room g I k → Extended g I (extended g I last k) last (take k (clears g I))
-  extended-is zero I s last low high r = subst (λ (L : List ℕ). Extended g I L last []) (sym (extended_none g I last)) (extended-same I last)
-  extended-is (suc k) I s last low high r =
+  pub extended_is : (k : ℕ) (I : List ℕ) → Sound g (length I) → (last : ℕ) → data_at g ≤ last → last < g.n → Room g I k → Extended g I (extended g I last k) last (take k (clears g I))
+  extended_is zero I s last low high r = subst (λ (L : List ℕ). Extended g I L last []) (sym (extended_none g I last)) (extended_same I last)
+  extended_is (suc k) I s last low high r =
       let one : 1 ≤ length (clears g I) = omega (arith, r.clear) in
       let e : suc k ≡ k + 1 = omega arith in
-      let ih = extended-is k (grown g I last) (grown-sound g I s one last low high) (fresh g I) (fresh-low g I one) (fresh-high g I one s) (grown-room g I s one last low high k (subst (Room g I) e r)) in
+      let ih = extended_is k (grown g I last) (grown_sound g I s one last low high) (fresh g I) (fresh_low g I one) (fresh_high g I one s) (grown_room g I s one last low high k (subst (Room g I) e r)) in
       subst (λ (L : List ℕ). Extended g I L last (take (suc k) (clears g I))) (sym (extended-more g I last k))
-      (subst (Extended g I (extended g (grown g I last) (fresh g I) k) last) (sym (taken-first g I s k one last low high))
-      (extended-step I (extended g (grown g I last) (fresh g I) k) s one last low high (take k (clears g (grown g I last))) (omega (arith, r.count)) ih))
+      (subst (Extended g I (extended g (grown g I last) (fresh g I) k) last) (sym (taken_first g I s k one last low high))
+      (extended_step I (extended g (grown g I last) (fresh g I) k) s one last low high (take k (clears g (grown g I last))) (omega (arith, r.count)) ih))

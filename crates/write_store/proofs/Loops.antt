@@ -14,26 +14,26 @@ use Rattle.wire.specs.Be.{splice}
 use Rattle.wire.proofs.Picks.{pick_true, pick_false}
 use Rattle.bits.specs.Bit.{AllSet}
 use Rattle.block.specs.Block.{next, linked}
-use Rattle.block.proofs.Blocks.{next-kept, splice-kept}
+use Rattle.block.proofs.Blocks.{next_kept, splice_kept}
 use Rattle.model.specs.Render.{cells_at}
 use Rattle.model.specs.Geometry.{Geo, block_size, map_at, data_at, Sound}
 use Rattle.model.specs.Volume.{blocks_for}
 use Rattle.super_block.specs.declared.SuperBlock.{SuperBlock}
 use Rattle.super_block.specs.Super.{geo_of, Fit}
-use Rattle.super_block.proofs.Fits.{placed, fit-long, fit-inside}
+use Rattle.super_block.proofs.Fits.{placed, fit_long, fit_inside}
 use Rattle.bitmap_block.specs.Bitmap.{clears, taken, Room, fresh}
 use Rattle.bitmap_block.proofs.Answers.{found_in}
-use Rattle.bitmap_block.proofs.Stores.{fresh-high}
+use Rattle.bitmap_block.proofs.Stores.{fresh_high}
 use Rattle.chain_store.specs.Chain.{chain_freed}
 use Rattle.dir_entry.specs.declared.DirEntry.{DirEntry}
 use Rattle.read_dir.specs.declared.Place.{Place}
-use Rattle.model.proofs.Contents.{blocks-enough}
+use Rattle.model.proofs.Contents.{blocks_enough}
 use Rattle.own_entry.specs.declared.Own.TheVariants as own
 use Rattle.own_entry.specs.Own.{OwnIn, own_renewed}
 use Rattle.write_store.specs.Write.{hop, Along, grown, extended, cut_after, resized, poured, spread, wrote, Chained, Resizable, CanWrite}
-use Rattle.write_store.proofs.Hops.{hop-none, hop-more, along-here, along-next, along-less, along-drop, along-kept, along-cells, SameNext}
-use Rattle.write_store.proofs.Resizes.{Outcome, resized-is, resized-same}
-use Rattle.write_store.proofs.Grows.{grown-kept, grown-room, grown-set}
+use Rattle.write_store.proofs.Hops.{hop-none, hop-more, along_here, along_next, along_less, along_drop, along_kept, along_cells, SameNext}
+use Rattle.write_store.proofs.Resizes.{Outcome, resized_is, resized_same}
+use Rattle.write_store.proofs.Grows.{grown_kept, grown_room, grown-set}
 
 -- ---- along a chain: b is the block, and left are to be passed
 
@@ -45,12 +45,12 @@ module _ (s : SuperBlock) (I : List ℕ) (b left : ℕ) (f : Fit s I) (h : 0 < l
   pub chain_next : (z m to : ℕ) → z ≡ s.size → m ≡ b → to ≡ next z I m → Along (geo_of s) I to (left - 1)
   chain_next z m to d e q =
       subst (λ (x : ℕ). Along (geo_of s) I x (left - 1)) (sym (q ∙ λ i. next ((d ∙ f.size) i) I (e i)))
-      (along-next (geo_of s) I b (left - 1) (subst (Along (geo_of s) I b) (step h) w))
+      (along_next (geo_of s) I b (left - 1) (subst (Along (geo_of s) I b) (step h) w))
 
 -- the block lies in the image, which keeps its length
-pub chain-inside : (s : SuperBlock) (L I : List ℕ) (b left : ℕ) → Fit s L → length I ≡ length L → 0 < left → Along (geo_of s) I b left
+pub chain_inside : (s : SuperBlock) (L I : List ℕ) (b left : ℕ) → Fit s L → length I ≡ length L → 0 < left → Along (geo_of s) I b left
     → s.size * b + s.size ≤ length I
-chain-inside s L I b left f e h w = fit-inside s L I b b f e refl (along-here (geo_of s) I b left w h).1
+chain_inside s L I b left f e h w = fit_inside s L I b b f e refl (along_here (geo_of s) I b left w h).1
 
 module _ (B : ℕ) (I : List ℕ) (a k b left : ℕ) where
   pub follow_more : hop B I left b ≡ hop B I k a → 0 < left → (z m to : ℕ) → z ≡ B → m ≡ b → to ≡ next z I m
@@ -84,8 +84,8 @@ module _ (s : SuperBlock) (I : List ℕ) (x : ℕ) (f : Fit s I) (e : data_at (g
 -- ---- blocks added: left are to be added after b
 
 -- the room of one, and that no bit is below 0
-pub room-one : (g : Geo) (I : List ℕ) (left : ℕ) → Room g I left → 0 < left → Room g I 1
-room-one g I left r h = record { clear = omega (arith, r.clear); count = omega (arith, r.count) }
+pub room_one : (g : Geo) (I : List ℕ) (left : ℕ) → Room g I left → 0 < left → Room g I 1
+room_one g I left r h = record { clear = omega (arith, r.clear); count = omega (arith, r.count) }
 
 pub set-none : (I : List ℕ) (at : ℕ) → AllSet I at 0 0
 set-none I at k p q = absurd (omega arith)
@@ -95,23 +95,23 @@ module _ (s : SuperBlock) (I : List ℕ) (b left : ℕ) (f : Fit s I) (r : Room 
   one = omega (arith, r.clear)
 
   pub extend_addr : (d : ℕ) → d ≡ s.area.0 → d + x < 4294967296
-  extend_addr d q = omega (arith, fresh-high (geo_of s) I one f.sound, f.area, (placed f).few)
+  extend_addr d q = omega (arith, fresh_high (geo_of s) I one f.sound, f.area, (placed f).few)
 
   pub extend_index : x + 1 < 4294967296
-  extend_index = omega (arith, fresh-high (geo_of s) I one f.sound, (placed f).few)
+  extend_index = omega (arith, fresh_high (geo_of s) I one f.sound, (placed f).few)
 
   pub extend_low : (a d : ℕ) → d ≡ s.area.0 → a ≡ d + x → data_at (geo_of s) ≤ a
   extend_low a d q p = omega (arith, f.area)
 
   pub extend_high : (a d : ℕ) → d ≡ s.area.0 → a ≡ d + x → a < s.blocks
-  extend_high a d q p = omega (arith, fresh-high (geo_of s) I one f.sound, f.area)
+  extend_high a d q p = omega (arith, fresh_high (geo_of s) I one f.sound, f.area)
 
   module _ (low : (data_at (geo_of s) ≤ b) × (b < s.blocks)) (J : List ℕ) (j : J ≡ grown (geo_of s) I b) where
     long : length J ≡ length I
-    long = ap length j ∙ (grown-kept (geo_of s) I f.sound one b low.0 low.1).size
+    long = ap length j ∙ (grown_kept (geo_of s) I f.sound one b low.0 low.1).size
 
     pub extend_fit : Fit s J
-    extend_fit = fit-long long f
+    extend_fit = fit_long long f
 
     pub extend_long : (L : List ℕ) → length I ≡ length L → length J ≡ length L
     extend_long L q = long ∙ q
@@ -120,7 +120,7 @@ module _ (s : SuperBlock) (I : List ℕ) (b left : ℕ) (f : Fit s I) (r : Room 
     extend_room =
         let q : left ≡ left - 1 + 1 = omega arith in
         subst (λ (z : List ℕ). Room (geo_of s) z (left - 1)) (sym j)
-        (grown-room (geo_of s) I f.sound one b low.0 low.1 (left - 1) (subst (Room (geo_of s) I) q r))
+        (grown_room (geo_of s) I f.sound one b low.0 low.1 (left - 1) (subst (Room (geo_of s) I) q r))
 
     pub extend_set : AllSet J (block_size (geo_of s) * map_at (geo_of s)) 0 (x + 1)
     extend_set =
@@ -155,12 +155,12 @@ module _ (buf : List ℕ) (i n r : ℕ) (e : r ≡ min (length buf - i) n) where
   run_of_rest : r ≡ min (length (drop i buf)) n
   run_of_rest = omega (arith, length-drop i buf)
 
-  run-taken : take r (drop i buf) ≡ take n (drop i buf)
-  run-taken = (run_short (drop i buf) r run_of_rest).0
+  run_taken : take r (drop i buf) ≡ take n (drop i buf)
+  run_taken = (run_short (drop i buf) r run_of_rest).0
 
   -- stored at a place
-  pub run-stored : (I J : List ℕ) (p q : ℕ) → p ≡ q → J ≡ splice I p (take r (drop i buf)) → J ≡ splice I q (take n (drop i buf))
-  run-stored I J p q ep ej = ej ∙ (λ j. splice I (ep j) (run-taken j))
+  pub run_stored : (I J : List ℕ) (p q : ℕ) → p ≡ q → J ≡ splice I p (take r (drop i buf)) → J ≡ splice I q (take n (drop i buf))
+  run_stored I J p q ep ej = ej ∙ (λ j. splice I (ep j) (run_taken j))
 
   run_dropped : drop (i + r) buf ≡ drop n (drop i buf)
   run_dropped = sym (drop-drop r i buf) ∙ (run_short (drop i buf) r run_of_rest).1
@@ -173,26 +173,26 @@ run_inside B b at n i r p e l q h = omega arith
 -- after a run of one block every next address is what it was
 module _ (s : SuperBlock) (I : List ℕ) (f : Fit s I) (b at : ℕ) (vs : List ℕ) (l : at < s.size - 4) (high : b < s.blocks)
     (few : at + length vs ≤ s.size - 4) where
-  run-kept : SameNext (geo_of s) I (splice I (s.size * b + 4 + at) vs)
-  run-kept c _ q =
+  run_kept : SameNext (geo_of s) I (splice I (s.size * b + 4 + at) vs)
+  run_kept c _ q =
       let e : s.size * b + 4 + at ≡ s.size * b + (4 + at) = omega arith in
       let four : 4 ≤ s.size = omega (arith, f.known.least) in
-      let k = splice-kept s.size I b (4 + at) vs (omega arith) (fit-inside s I I b b f refl refl high) in
+      let k = splice_kept s.size I b (4 + at) vs (omega arith) (fit_inside s I I b b f refl refl high) in
       subst (λ (B : ℕ). next B (splice I (s.size * b + 4 + at) vs) c ≡ next B I c) f.size
-      (rw e (next-kept s.size _ I (splice I (s.size * b + (4 + at)) vs) k c four (λ o m _ p _. omega arith)))
+      (rw e (next_kept s.size _ I (splice I (s.size * b + (4 + at)) vs) k c four (λ o m _ p _. omega arith)))
 
 module _ (s : SuperBlock) (L buf I : List ℕ) (b at i left : ℕ) (h : 0 < left) (l : at < s.size - 4) (z m to : ℕ) (J : List ℕ)
     (ez : z ≡ s.size) (em : m ≡ b) (et : to ≡ next z I m)
     (stored : J ≡ splice I (s.size * b + 4 + at) (take (s.size - 4 - at) (drop i buf))) where
   pub pour_along : Fit s L → length I ≡ length L → Along (geo_of s) I b left → Along (geo_of s) J to (left - 1)
   pour_along f long w =
-      let g : Fit s I = fit-long long f in
+      let g : Fit s I = fit_long long f in
       let n : Along (geo_of s) I to (left - 1) = chain_next s I b left g h w z m to ez em et in
       let vs : List ℕ = take (s.size - 4 - at) (drop i buf) in
       let few : at + length vs ≤ s.size - 4 = omega (arith, length-take (s.size - 4 - at) (drop i buf)) in
       subst (λ (y : List ℕ). Along (geo_of s) y to (left - 1)) (sym stored)
-      (along-kept (geo_of s) I (splice I (s.size * b + 4 + at) vs)
-      (run-kept s I g b at vs l (along-here (geo_of s) I b left w h).1 few) (left - 1) to n)
+      (along_kept (geo_of s) I (splice I (s.size * b + 4 + at) vs)
+      (run_kept s I g b at vs l (along_here (geo_of s) I b left w h).1 few) (left - 1) to n)
 
   pub pour_more : (a k o run : ℕ) (vs : List ℕ) → run ≡ min (length buf - i) (s.size - 4 - at)
       → poured s.size I b at (drop i buf) left ≡ poured s.size L a o vs k
@@ -211,76 +211,76 @@ pour_ends B L a k buf I b at i left o t h = let e : 0 ≡ left = omega arith in 
 -- ---- the chain cut
 
 -- z and m are the linked block that is read, y and p that which is stored in
-pub cut-is : (s : SuperBlock) (I J L : List ℕ) (last k z m a y p v : ℕ) → Fit s I → z ≡ s.size → m ≡ last → a ≡ next z I m
+pub cut_is : (s : SuperBlock) (I J L : List ℕ) (last k z m a y p v : ℕ) → Fit s I → z ≡ s.size → m ≡ last → a ≡ next z I m
     → J ≡ chain_freed (geo_of s) I k a → y ≡ s.size → p ≡ last → v ≡ 0 → L ≡ linked y J p v → L ≡ cut_after (geo_of s) I last k
 unfolding cut_after
-cut-is s I J L last k z m a y p v f ez em ea ej ey ep ev el =
+cut_is s I J L last k z m a y p v f ez em ea ej ey ep ev el =
     el ∙ (λ i. linked ((ey ∙ f.size) i) (ej i) (ep i) (ev i))
     ∙ ap (λ (x : ℕ). linked (block_size (geo_of s)) (chain_freed (geo_of s) I k x) last 0) (ea ∙ λ i. next ((ez ∙ f.size) i) I (em i))
 
 -- ---- the chain resized
 
-pub chain-along : (g : Geo) (I : List ℕ) (a k : ℕ) → Sound g (length I) → Chained g I a k → Along g I a k
-chain-along g I a k s c =
-    subst (λ (x : ℕ). Along g I x k) c.starts (subst (Along g I (cells_at c.cells)) c.long (along-cells g I s c.cells c.held.range c.held.shown))
+pub chain_along : (g : Geo) (I : List ℕ) (a k : ℕ) → Sound g (length I) → Chained g I a k → Along g I a k
+chain_along g I a k s c =
+    subst (λ (x : ℕ). Along g I x k) c.starts (subst (Along g I (cells_at c.cells)) c.long (along_cells g I s c.cells c.held.range c.held.shown))
 
 module _ (s : SuperBlock) (I : List ℕ) (a old new : ℕ) (f : Fit s I) (r : Resizable (geo_of s) I a old new) where
   whole : Along (geo_of s) I a old
-  whole = chain-along (geo_of s) I a old f.sound r.chain
+  whole = chain_along (geo_of s) I a old f.sound r.chain
 
   hops : (k : ℕ) → hop s.size I k a ≡ hop (block_size (geo_of s)) I k a
   hops k = ap (λ (B : ℕ). hop B I k a) f.size
 
   pub resize_old : Along (geo_of s) I a (old - 1)
-  resize_old = along-less (geo_of s) I a old (old - 1) (omega arith) whole
+  resize_old = along_less (geo_of s) I a old (old - 1) (omega arith) whole
 
   pub resize_new : new ≤ old → Along (geo_of s) I a (new - 1)
-  resize_new h = along-less (geo_of s) I a old (new - 1) (omega arith) whole
+  resize_new h = along_less (geo_of s) I a old (new - 1) (omega arith) whole
 
-  pub grows-low : (last : ℕ) → last ≡ hop s.size I (old - 1) a → data_at (geo_of s) ≤ last
-  grows-low last e = omega (arith, hops (old - 1), whole.at (old - 1) (omega (arith, r.some_old)))
+  pub grows_low : (last : ℕ) → last ≡ hop s.size I (old - 1) a → data_at (geo_of s) ≤ last
+  grows_low last e = omega (arith, hops (old - 1), whole.at (old - 1) (omega (arith, r.some_old)))
 
-  pub grows-high : (last : ℕ) → last ≡ hop s.size I (old - 1) a → last < s.blocks
-  grows-high last e = omega (arith, hops (old - 1), whole.at (old - 1) (omega (arith, r.some_old)))
+  pub grows_high : (last : ℕ) → last ≡ hop s.size I (old - 1) a → last < s.blocks
+  grows_high last e = omega (arith, hops (old - 1), whole.at (old - 1) (omega (arith, r.some_old)))
 
-  pub grows-room : Room (geo_of s) I (new - old)
-  grows-room = r.room
+  pub grows_room : Room (geo_of s) I (new - old)
+  grows_room = r.room
 
-  pub grows-is : (last : ℕ) (J : List ℕ) → last ≡ hop s.size I (old - 1) a → J ≡ extended (geo_of s) I last (new - old) → old < new
+  pub grows_is : (last : ℕ) (J : List ℕ) → last ≡ hop s.size I (old - 1) a → J ≡ extended (geo_of s) I last (new - old) → old < new
       → J ≡ resized (geo_of s) I a old new
   unfolding resized
-  grows-is last J e j h =
+  grows_is last J e j h =
       j ∙ ap (λ (x : ℕ). extended (geo_of s) I x (new - old)) (e ∙ hops (old - 1)) ∙ sym (pick_true _ _ (lt-ltb old new h))
 
   module _ (h : new ≤ old) (last : ℕ) (e : last ≡ hop s.size I (new - 1) a) where
-    pub cuts-high : last < s.blocks
-    cuts-high = omega (arith, hops (new - 1), whole.at (new - 1) (omega (arith, r.some_new)))
+    pub cuts_high : last < s.blocks
+    cuts_high = omega (arith, hops (new - 1), whole.at (new - 1) (omega (arith, r.some_new)))
 
-    pub cuts-is : (J : List ℕ) → J ≡ cut_after (geo_of s) I last (old - new) → J ≡ resized (geo_of s) I a old new
+    pub cuts_is : (J : List ℕ) → J ≡ cut_after (geo_of s) I last (old - new) → J ≡ resized (geo_of s) I a old new
     unfolding resized
-    cuts-is J j =
+    cuts_is J j =
         j ∙ ap (λ (x : ℕ). cut_after (geo_of s) I x (old - new)) (e ∙ hops (new - 1)) ∙ sym (pick_false _ _ (le-ltb old new h))
 
-  pub stays-is : old ≡ new → I ≡ resized (geo_of s) I a old new
-  stays-is e = resized-same (geo_of s) I f.sound a old new r.chain r.some_old e
+  pub stays_is : old ≡ new → I ≡ resized (geo_of s) I a old new
+  stays_is e = resized_same (geo_of s) I f.sound a old new r.chain r.some_old e
 
 -- ---- the buffer put in from byte c on
 
 module _ (s : SuperBlock) (I : List ℕ) (c : ℕ) (f : Fit s I) where
-  pub put-from : c % (s.size - 4) < s.size - 4
-  put-from = mod-lt c (omega (arith, f.known.least))
+  pub put_from : c % (s.size - 4) < s.size - 4
+  put_from = mod-lt c (omega (arith, f.known.least))
 
   pub put_cast : Fits w64 (c % (s.size - 4))
-  put_cast = record { fits = omega (arith, put-from, f.known.most) }
+  put_cast = record { fits = omega (arith, put_from, f.known.most) }
 
 module _ (s : SuperBlock) (I : List ℕ) (a m q : ℕ) (h : q ≤ m) (w : Along (geo_of s) I a m) where
   pub put_first : Along (geo_of s) I a q
-  put_first = along-less (geo_of s) I a m q h w
+  put_first = along_less (geo_of s) I a m q h w
 
   pub put_along : (b : ℕ) → Fit s I → b ≡ hop s.size I q a → Along (geo_of s) I b (m - q)
   put_along b f e =
       subst (λ (x : ℕ). Along (geo_of s) I x (m - q)) (sym (e ∙ ap (λ (B : ℕ). hop B I q a) f.size))
-      (along-drop (geo_of s) I a m q h w)
+      (along_drop (geo_of s) I a m q h w)
 
 pub put_is : (B : ℕ) (I J vs : List ℕ) (a c m b : ℕ) → b ≡ hop B I (c / (B - 4)) a
     → J ≡ poured B I b (c % (B - 4)) vs (m - c / (B - 4)) → J ≡ spread B I a c vs m
@@ -294,17 +294,17 @@ module _ (s : SuperBlock) (I : List ℕ) (f : Fit s I) (a old new : ℕ) (r : Re
   outcome =
       let n : length r.chain.cells ≡ old = r.chain.long in
       subst (λ (L : List ℕ). Outcome (geo_of s) I L r.chain.cells new) (sym (j ∙ sym (λ i. resized (geo_of s) I (r.chain.starts i) (n i) new)))
-      (resized-is (geo_of s) I f.sound r.chain.cells new r.chain.held (omega (arith, r.some_old)) r.some_new
+      (resized_is (geo_of s) I f.sound r.chain.cells new r.chain.held (omega (arith, r.some_old)) r.some_new
       (subst (λ (z : ℕ). Room (geo_of s) I (new - z)) (sym n) r.room) (omega (arith, r.enough)))
 
-  pub resized-fit : Fit s J
-  resized-fit = fit-long outcome.is.kept.size f
+  pub resized_fit : Fit s J
+  resized_fit = fit_long outcome.is.kept.size f
 
-  pub resized-along : Along (geo_of s) J a new
-  resized-along =
+  pub resized_along : Along (geo_of s) J a new
+  resized_along =
       let o = outcome.is in
       subst (λ (x : ℕ). Along (geo_of s) J x new) (o.starts ∙ r.chain.starts)
-      (subst (Along (geo_of s) J (cells_at outcome.cells)) o.long (along-cells (geo_of s) J resized-fit.sound outcome.cells o.held.range o.held.shown))
+      (subst (Along (geo_of s) J (cells_at outcome.cells)) o.long (along_cells (geo_of s) J resized_fit.sound outcome.cells o.held.range o.held.shown))
 
 module _ (s : SuperBlock) (I : List ℕ) (f : Fit s I) (e : DirEntry) (p : Place) (c len : ℕ) (w : CanWrite (geo_of s) I e p c len)
     (size new : ℕ) (z : size ≡ c + len) (n : new ≡ blocks_for s.size size) where
@@ -315,24 +315,24 @@ module _ (s : SuperBlock) (I : List ℕ) (f : Fit s I) (e : DirEntry) (p : Place
       subst (λ (i : ℕ). Resizable (geo_of s) I e.addr.0 i new) (sym x)
       (subst (Resizable (geo_of s) I e.addr.0 (blocks_for (block_size (geo_of s)) e.size)) (sym y) w.size)
 
-  pub write-first : c / (s.size - 4) ≤ new
-  write-first =
+  pub write_first : c / (s.size - 4) ≤ new
+  write_first =
       let five : 5 ≤ s.size = omega (arith, f.known.least) in
-      div-le_of_le-mul (s.size - 4) (omega (arith, blocks-enough s.size five size, ap (λ (x : ℕ). (s.size - 4) * x) n))
+      div-le_of_le-mul (s.size - 4) (omega (arith, blocks_enough s.size five size, ap (λ (x : ℕ). (s.size - 4) * x) n))
 
 -- the entry lies in the image, which keeps its length
 pub entry_in_lem : (s : SuperBlock) (I L : List ℕ) (e : DirEntry) (p : Place) (c len : ℕ) → Fit s I
     → CanWrite (geo_of s) I e p c len → length L ≡ length I → OwnIn s.size L (own.At p)
 entry_in_lem s I L e p c len f w k =
-    (fit-inside s I L p.block.0 p.block.0 f k refl w.entry.block, omega (arith, w.entry.fits, f.size))
+    (fit_inside s I L p.block.0 p.block.0 f k refl w.entry.block, omega (arith, w.entry.fits, f.size))
 
 -- the stores, one after the other
-pub write-is : (s : SuperBlock) (I J L M : List ℕ) (e : DirEntry) (p : Place) (c : ℕ) (vs : List ℕ) (time size old new : ℕ)
+pub write_is : (s : SuperBlock) (I J L M : List ℕ) (e : DirEntry) (p : Place) (c : ℕ) (vs : List ℕ) (time size old new : ℕ)
     → Fit s I → size ≡ c + length vs → old ≡ blocks_for s.size e.size → new ≡ blocks_for s.size size → J ≡ resized (geo_of s) I e.addr.0 old new
     → L ≡ spread s.size J e.addr.0 c vs new → M ≡ own_renewed s.size L (own.At p) size time
     → M ≡ wrote (geo_of s) I e p c vs time
 unfolding wrote
-write-is s I J L M e p c vs time size old new f z o n j l m =
+write_is s I J L M e p c vs time size old new f z o n j l m =
     let x : old ≡ blocks_for (block_size (geo_of s)) e.size = o ∙ ap (λ (B : ℕ). blocks_for B e.size) f.size in
     let y : new ≡ blocks_for (block_size (geo_of s)) (c + length vs) = n ∙ λ i. blocks_for (f.size i) (z i) in
     let count : ℕ = blocks_for (block_size (geo_of s)) (c + length vs) in

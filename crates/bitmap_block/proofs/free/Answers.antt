@@ -1,4 +1,4 @@
-use Rattle.bitmap_block.proofs.Answers.{zero_inside, zero_fit, clear-fit, clear-used}
+use Rattle.bitmap_block.proofs.Answers.{zero_inside, zero_fit, clear_fit, clear_used}
 use Rattle.bitmap_block.specs.Bitmap.{freed}
 use borrow.Author.Rules.{rules}
 use Rattle.bitmap_block.proofs.free.Goals as goal
@@ -10,7 +10,7 @@ pub clear_mark-requires : goal.clear_mark-requires
 clear_mark-requires c = search (zero_fit, rules)
 
 pub dec_alloc_count-requires : goal.dec_alloc_count-requires
-dec_alloc_count-requires c = record { fit = search clear-fit; img_nonzero = search clear-used }
+dec_alloc_count-requires c = record { fit = search clear_fit; img_nonzero = search clear_used }
 
 pub returns : goal.returns
 unfolding freed

@@ -2,7 +2,7 @@ use Prim.Native.Nat.{ℕ}
 use native.Mathlib.Omega.{arith}
 use borrow.Author.Rules.{rules}
 use Rattle.bits.proofs.Bits.{ones_none}
-use Rattle.bitmap_room.proofs.Clear.{full-more, full-all, not_full}
+use Rattle.bitmap_room.proofs.Clear.{full_more, full_all, not_full}
 use Rattle.bitmap_room.proofs.full_eight.Goals as goal
 
 pub loop-i-init : goal.loop-i-init
@@ -15,7 +15,7 @@ pub loop-i-preserved : goal.loop-i-preserved
 loop-i-preserved c =
     let a = c.args in
     let k = c.shared_slice_known-1 in
-    (omega arith, search (full-more a.s.now (λ (i : ℕ). omega (arith, k.given i)), rules))
+    (omega arith, search (full_more a.s.now (λ (i : ℕ). omega (arith, k.given i)), rules))
 
 pub returns : goal.returns
-returns c = search (full-all, rules)
+returns c = search (full_all, rules)

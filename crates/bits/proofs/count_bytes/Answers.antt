@@ -1,7 +1,7 @@
 use mathlib.Core.Path.{◌≡◌}
 use native.Mathlib.Omega.{arith}
 use Rattle.bits.proofs.Bits.{ones_none}
-use Rattle.bits.proofs.Words.{ones-byte}
+use Rattle.bits.proofs.Words.{ones_byte}
 use Rattle.bits.proofs.count_bytes.Goals as goal
 
 pub loop-i-init : goal.loop-i-init
@@ -11,7 +11,7 @@ pub loop-i-preserved : goal.loop-i-preserved
 loop-i-preserved c =
     let a = c.args in
     let b = c.loop-i in
-    omega (arith, ones-byte a.s.now a.from b.i)
+    omega (arith, ones_byte a.s.now a.from b.i)
 
 pub returns : goal.returns
 returns c =

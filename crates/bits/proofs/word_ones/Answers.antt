@@ -1,7 +1,6 @@
 use mathlib.Core.Path.{◌≡◌}
 use lib.Count.{ones}
 use Rattle.wire.specs.Be.{be}
-use Rattle.bits.specs.Bit.{ones as bits}
 use native.Mathlib.Omega.{arith}
 use Rattle.bits.proofs.Words.{word_ones}
 use Rattle.bits.proofs.Bits.{ones-le}

@@ -1,6 +1,6 @@
 use borrow.Author.Rules.{rules}
 use Rattle.model.specs.Steps.{Bytes}
-use Rattle.call_change.proofs.Changes.{ready, file-no, file_yes}
+use Rattle.call_change.proofs.Changes.{ready, file_no, file_yes}
 use Rattle.call_change.proofs.create_file.Goals as goal
 
 pub create_file_path-requires : goal.create_file_path-requires
@@ -9,7 +9,7 @@ create_file_path-requires c =
     search (ready, all, rules)
 
 pub returns-in-Refused : goal.returns-in-Refused
-returns-in-Refused c = search (file-no, rules)
+returns-in-Refused c = search (file_no, rules)
 
 pub returns-in-At : goal.returns-in-At
 returns-in-At c = search (file_yes, rules)

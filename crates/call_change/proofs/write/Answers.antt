@@ -1,6 +1,6 @@
 use borrow.Author.Rules.{rules}
 use Rattle.model.specs.Steps.{Bytes}
-use Rattle.call_change.proofs.Changes.{ready, write-no, write_yes}
+use Rattle.call_change.proofs.Changes.{ready, write_no, write_yes}
 use Rattle.call_change.proofs.write.Goals as goal
 
 pub write-requires : goal.write-requires
@@ -9,7 +9,7 @@ write-requires c =
     search (ready, all, rules)
 
 pub returns-in-Refused : goal.returns-in-Refused
-returns-in-Refused c = search (write-no, rules)
+returns-in-Refused c = search (write_no, rules)
 
 pub returns-in-At : goal.returns-in-At
 returns-in-At c = search (write_yes, rules)

@@ -1,7 +1,7 @@
 use borrow.Author.Rules.{rules}
 use Rattle.model.specs.Steps.{Bytes}
 use Rattle.call_change.proofs.Changes.{ready}
-use Rattle.call_patch.proofs.Calls.{patch-no, patch_yes}
+use Rattle.call_patch.proofs.Calls.{patch_no, patch_yes}
 use Rattle.call_patch.proofs.patch.Goals as goal
 
 pub patch-requires : goal.patch-requires
@@ -10,7 +10,7 @@ patch-requires c =
     search (ready, all, rules)
 
 pub returns-in-Refused : goal.returns-in-Refused
-returns-in-Refused c = search (patch-no, rules)
+returns-in-Refused c = search (patch_no, rules)
 
 pub returns-in-At : goal.returns-in-At
 returns-in-At c = search (patch_yes, rules)

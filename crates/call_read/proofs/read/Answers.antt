@@ -1,9 +1,9 @@
 use Rattle.call_read.proofs.Handles.{read_no, read_at_lem}
-use Rattle.call_volume.proofs.Answers.{opened-at}
+use Rattle.call_volume.proofs.Answers.{opened_at}
 use Rattle.call_read.proofs.read.Goals as goal
 
 pub read-requires : goal.read-requires
-read-requires c = search opened-at
+read-requires c = search opened_at
 
 pub returns-in-Refused : goal.returns-in-Refused
 returns-in-Refused c = search read_no

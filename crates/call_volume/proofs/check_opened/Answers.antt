@@ -1,18 +1,18 @@
 use borrow.Author.Rules.{rules}
-use Rattle.call_volume.proofs.Checked.{fit_opened, few-opened, area-opened, call-short, call-whole, call-damaged}
+use Rattle.call_volume.proofs.Checked.{fit_opened, few_opened, area_opened, call_short, call_whole, call_damaged}
 use Rattle.call_volume.proofs.check_opened.Goals as goal
 
 pub mark_bytes-requires : goal.mark_bytes-requires
-mark_bytes-requires c = record { area_le_blocks = search (area-opened, rules); blocks_bound = search (few-opened, rules) }
+mark_bytes-requires c = record { area_le_blocks = search (area_opened, rules); blocks_bound = search (few_opened, rules) }
 
 pub returns-then-work-mark_bytes : goal.returns-then-work-mark_bytes
-returns-then-work-mark_bytes c = search (call-short, rules)
+returns-then-work-mark_bytes c = search (call_short, rules)
 
 pub check-requires : goal.check-requires
 check-requires c = record { fit = search (fit_opened, rules); s_in_bounds = search rules }
 
 pub returns-then-check : goal.returns-then-check
-returns-then-check c = search (call-whole, rules)
+returns-then-check c = search (call_whole, rules)
 
 pub returns-else-check : goal.returns-else-check
-returns-else-check c = search (call-damaged, rules)
+returns-else-check c = search (call_damaged, rules)

@@ -1,11 +1,11 @@
-use Rattle.call_volume.proofs.Answers.{opened-at, opened-size, usage_refused, usage_sized}
+use Rattle.call_volume.proofs.Answers.{opened_at, opened_size, usage_refused, usage_sized}
 use Rattle.call_volume.proofs.usage.Goals as goal
 
 pub alloc_count-requires : goal.alloc_count-requires
-alloc_count-requires c = search opened-at
+alloc_count-requires c = search opened_at
 
 pub sizes_of-requires : goal.sizes_of-requires
-sizes_of-requires c = search opened-size
+sizes_of-requires c = search opened_size
 
 pub returns-in-Refused : goal.returns-in-Refused
 returns-in-Refused c = search usage_refused

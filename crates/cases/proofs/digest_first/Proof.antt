@@ -2,9 +2,6 @@ use Rattle.cases.proofs.Laws.{part_length}
 use borrow.Author.Rules.{rules}
 use Rattle.cases.proofs.digest_first.Statement.{statement}
 use Rattle.cases.proofs.digest_first.Tie as tie
-use Rattle.cases.proofs.digest_first.Reads as reads
-use Rattle.cases.proofs.digest_first.Lts as lts
-use Rattle.recorded.proofs.digest.Reads as digest-reads
 
 -- src/calls.rt:58:23
 slice-aggregate-digest : tie.Need-slice-aggregate-digest

@@ -4,12 +4,6 @@ use lib.ListN.{length}
 use borrow.Author.Rules.{rules}
 use Rattle.cases.proofs.follow_all.Statement.{statement}
 use Rattle.cases.proofs.follow_all.Tie as tie
-use Rattle.cases.proofs.follow_all.Reads as reads
-use Rattle.cases.proofs.follow_all.Lts as lts
-use Rattle.cases.proofs.follow.Reads as follow-reads
-use Rattle.cases.proofs.fresh.Reads as fresh-reads
-use Rattle.cases.proofs.line_end.Reads as line-end-reads
-use Rattle.cases.proofs.put.Reads as put_reads
 
 abbrev invariant-loop : tie.invariant-loop
 invariant-loop list img₀ base₀ text₀ s₀ at₀ t8 img base text s at =

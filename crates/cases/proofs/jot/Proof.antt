@@ -2,9 +2,6 @@ use Prim.Native.Nat.{◌-◌, ◌^◌, ◌<◌}
 use native.Mathlib.Omega.{arith}
 use Rattle.cases.proofs.jot.Statement.{statement}
 use Rattle.cases.proofs.jot.Tie as tie
-use Rattle.cases.proofs.jot.Reads as reads
-use Rattle.cases.proofs.jot.Lts as lts
-use Rattle.cases.proofs.jot_page.Reads as jot-page-reads
 
 abbrev invariant-loop : tie.invariant-loop
 invariant-loop img k more i₀ next₀ i next = (i < 2 ^ 32) × (next < 2 ^ 32)

@@ -3,8 +3,6 @@ use lib.ListN.{length}
 use borrow.Author.Rules.{rules}
 use Rattle.cases.proofs.line_end.Statement.{statement}
 use Rattle.cases.proofs.line_end.Tie as tie
-use Rattle.cases.proofs.line_end.Reads as reads
-use Rattle.cases.proofs.line_end.Lts as lts
 
 abbrev invariant-loop : tie.invariant-loop
 invariant-loop list at i₀ i = (at ≤ i) × (i ≤ length list)

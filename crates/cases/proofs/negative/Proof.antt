@@ -2,8 +2,6 @@ use Rattle.cases.proofs.Laws.{minus_fits, minus_short}
 use borrow.Author.Rules.{rules}
 use Rattle.cases.proofs.negative.Statement.{statement}
 use Rattle.cases.proofs.negative.Tie as tie
-use Rattle.cases.proofs.negative.Reads as reads
-use Rattle.cases.proofs.negative.Lts as lts
 
 -- src/main.rt:639:13
 cast-v : tie.Need-overflow-cast-v

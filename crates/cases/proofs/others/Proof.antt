@@ -3,9 +3,6 @@ use lib.ListN.{length}
 use borrow.Author.Rules.{rules}
 use Rattle.cases.proofs.others.Statement.{statement}
 use Rattle.cases.proofs.others.Tie as tie
-use Rattle.cases.proofs.others.Reads as reads
-use Rattle.cases.proofs.others.Lts as lts
-use Rattle.cases.proofs.differ.Reads as differ-reads
 
 abbrev invariant-loop : tie.invariant-loop
 invariant-loop s b n₀ i₀ n i = (n ≤ i) × (i ≤ length s)

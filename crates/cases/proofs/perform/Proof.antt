@@ -2,14 +2,6 @@ use borrow.Author.Rules.{rules}
 use Rattle.cases.proofs.Laws.{part_length}
 use Rattle.cases.proofs.perform.Statement.{statement}
 use Rattle.cases.proofs.perform.Tie as tie
-use Rattle.cases.proofs.perform.Reads as reads
-use Rattle.cases.proofs.perform.Lts as lts
-use Rattle.cases.proofs.keep.Reads as keep-reads
-use Rattle.cases.proofs.on_image.Reads as on-image-reads
-use Rattle.cases.proofs.put.Reads as put_reads
-use Rattle.cases.proofs.quota.Reads as quota-reads
-use Rattle.cases.proofs.volume.Reads as volume-reads
-use Rattle.cases.proofs.yardstick.Reads as yardstick-reads
 
 -- src/main.rt:1144:24
 volume-requires : tie.Need-volume-requires

@@ -2,9 +2,6 @@ use borrow.Author.Rules.{rules}
 use Rattle.cases.proofs.Laws.{part_length}
 use Rattle.cases.proofs.put_first.Statement.{statement}
 use Rattle.cases.proofs.put_first.Tie as tie
-use Rattle.cases.proofs.put_first.Reads as reads
-use Rattle.cases.proofs.put_first.Lts as lts
-use Rattle.cases.proofs.put.Reads as put_reads
 
 -- src/main.rt:81:13
 slice-aggregate-put : tie.Need-slice-aggregate-put

@@ -2,10 +2,6 @@ use Prim.Native.Nat.{◌-◌, ◌≤◌}
 use borrow.Author.Rules.{rules}
 use Rattle.cases.proofs.put_hex.Statement.{statement}
 use Rattle.cases.proofs.put_hex.Tie as tie
-use Rattle.cases.proofs.put_hex.Reads as reads
-use Rattle.cases.proofs.put_hex.Lts as lts
-use Rattle.cases.proofs.put.Reads as put_reads
-use Rattle.cases.proofs.put_pair.Reads as put-pair-reads
 
 abbrev invariant-loop : tie.invariant-loop
 invariant-loop name len i₀ i = i ≤ len

@@ -2,11 +2,6 @@ use Prim.Native.Nat.{◌-◌, ◌≤◌}
 use borrow.Author.Rules.{rules}
 use Rattle.cases.proofs.put_shades.Statement.{statement}
 use Rattle.cases.proofs.put_shades.Tie as tie
-use Rattle.cases.proofs.put_shades.Reads as reads
-use Rattle.cases.proofs.put_shades.Lts as lts
-use Rattle.cases.proofs.put.Reads as put_reads
-use Rattle.cases.proofs.put_byte.Reads as put-byte-reads
-use Rattle.cases.proofs.shade.Reads as shade-reads
 
 abbrev invariant-loop : tie.invariant-loop
 invariant-loop work from i₀ end i = (i ≤ end) × (end ≤ 520)

@@ -3,10 +3,6 @@ use lib.ListN.{length}
 use borrow.Author.Rules.{rules}
 use Rattle.cases.proofs.read_digits.Statement.{statement}
 use Rattle.cases.proofs.read_digits.Tie as tie
-use Rattle.cases.proofs.read_digits.Reads as reads
-use Rattle.cases.proofs.read_digits.Lts as lts
-use Rattle.cases.proofs.digit.Reads as digit-reads
-use Rattle.cases.proofs.no_number.Reads as no-number-reads
 
 abbrev invariant-loop : tie.invariant-loop
 invariant-loop line from minus value₀ i₀ value i = from ≤ i

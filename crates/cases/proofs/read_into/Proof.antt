@@ -2,14 +2,6 @@ use borrow.Author.Rules.{rules}
 use Rattle.cases.proofs.Laws.{part_length}
 use Rattle.cases.proofs.read_into.Statement.{statement}
 use Rattle.cases.proofs.read_into.Tie as tie
-use Rattle.cases.proofs.read_into.Reads as reads
-use Rattle.cases.proofs.read_into.Lts as lts
-use Rattle.cases.proofs.digest_first.Reads as digest-first-reads
-use Rattle.cases.proofs.held.Reads as held_reads
-use Rattle.cases.proofs.put.Reads as put_reads
-use Rattle.cases.proofs.refuse.Reads as refuse-reads
-use Rattle.cases.proofs.told.Reads as told-reads
-use Rattle.call_read.proofs.read.Reads as read-reads
 
 -- src/main.rt:615:13
 slice-aggregate-put : tie.Need-slice-aggregate-put

@@ -2,9 +2,6 @@ use Prim.Native.Nat.{◌-◌, ◌≤◌}
 use borrow.Author.Rules.{rules}
 use Rattle.cases.proofs.read_row.Statement.{statement}
 use Rattle.cases.proofs.read_row.Tie as tie
-use Rattle.cases.proofs.read_row.Reads as reads
-use Rattle.cases.proofs.read_row.Lts as lts
-use Rattle.cases.proofs.read_number.Reads as read-number-reads
 
 abbrev invariant-loop : tie.invariant-loop
 invariant-loop line at count n₀ minus₀ next₀ i₀ n minus next i = i ≤ count

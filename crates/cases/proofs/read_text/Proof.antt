@@ -5,12 +5,6 @@ use borrow.Author.Rules.{rules}
 use Rattle.cases.proofs.Laws.{counted}
 use Rattle.cases.proofs.read_text.Statement.{statement}
 use Rattle.cases.proofs.read_text.Tie as tie
-use Rattle.cases.proofs.read_text.Reads as reads
-use Rattle.cases.proofs.read_text.Lts as lts
-use Rattle.cases.proofs.no_text.Reads as no-text-reads
-use Rattle.cases.proofs.piece_at.Reads as piece-at-reads
-use Rattle.cases.proofs.string_ends.Reads as string-ends-reads
-use Rattle.wire.proofs.fill.Reads as fill-reads
 
 abbrev invariant-loop : tie.invariant-loop
 invariant-loop line at out₀ quoted₀ last₀ len₀ i₀ out quoted last len i = (len ≤ length out) × (length out ≡ length out₀)

@@ -3,9 +3,6 @@ use lib.ListN.{length}
 use borrow.Author.Rules.{rules}
 use Rattle.cases.proofs.show.Statement.{statement}
 use Rattle.cases.proofs.show.Tie as tie
-use Rattle.cases.proofs.show.Reads as reads
-use Rattle.cases.proofs.show.Lts as lts
-use Rattle.cases.proofs.put_mark.Reads as put-mark-reads
 
 abbrev invariant-loop : tie.invariant-loop
 invariant-loop pattern n name len i₀ i = i ≤ length pattern

@@ -3,9 +3,6 @@ use lib.ListN.{length}
 use borrow.Author.Rules.{rules}
 use Rattle.cases.proofs.title_end.Statement.{statement}
 use Rattle.cases.proofs.title_end.Tie as tie
-use Rattle.cases.proofs.title_end.Reads as reads
-use Rattle.cases.proofs.title_end.Lts as lts
-use Rattle.cases.proofs.byte_at.Reads as byte-at-reads
 
 abbrev invariant-loop : tie.invariant-loop
 invariant-loop line i₀ i = i ≤ length line

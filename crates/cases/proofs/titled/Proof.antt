@@ -1,12 +1,6 @@
 use borrow.Author.Rules.{rules}
 use Rattle.cases.proofs.titled.Statement.{statement}
 use Rattle.cases.proofs.titled.Tie as tie
-use Rattle.cases.proofs.titled.Reads as reads
-use Rattle.cases.proofs.titled.Lts as lts
-use Rattle.cases.proofs.digest_first.Reads as digest-first-reads
-use Rattle.cases.proofs.put.Reads as put_reads
-use Rattle.cases.proofs.put_first.Reads as put-first-reads
-use Rattle.cases.proofs.step.Reads as step-reads
 
 -- src/main.rt:1207:9
 slice-aggregate-put : tie.Need-slice-aggregate-put

@@ -3,9 +3,6 @@ use lib.ListN.{length}
 use borrow.Author.Rules.{rules}
 use Rattle.cases.proofs.word_end.Statement.{statement}
 use Rattle.cases.proofs.word_end.Tie as tie
-use Rattle.cases.proofs.word_end.Reads as reads
-use Rattle.cases.proofs.word_end.Lts as lts
-use Rattle.cases.proofs.ends.Reads as ends-reads
 
 abbrev invariant-loop : tie.invariant-loop
 invariant-loop line at i₀ i = at ≤ i

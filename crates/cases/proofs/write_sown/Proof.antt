@@ -2,12 +2,6 @@ use borrow.Author.Rules.{rules}
 use Rattle.cases.proofs.Laws.{part_length}
 use Rattle.cases.proofs.write_sown.Statement.{statement}
 use Rattle.cases.proofs.write_sown.Tie as tie
-use Rattle.cases.proofs.write_sown.Reads as reads
-use Rattle.cases.proofs.write_sown.Lts as lts
-use Rattle.cases.proofs.put.Reads as put_reads
-use Rattle.recorded.proofs.sow.Reads as sow-reads
-use Rattle.cases.proofs.written.Reads as written-reads
-use Rattle.call_change.proofs.write.Reads as write-reads
 
 -- src/main.rt:725:14
 element-copy-out-sow : tie.Need-element-copy-out-sow

@@ -1,5 +1,5 @@
 use borrow.Author.Rules.{rules}
-use Rattle.check_bitmap.proofs.Answers.{head_in, rest_in, rest-tested}
+use Rattle.check_bitmap.proofs.Answers.{head_in, rest_in, rest_tested}
 use Rattle.check_bitmap.proofs.rest_clear.Goals as goal
 
 pub overflow_sub-len : goal.overflow_sub-len
@@ -9,4 +9,4 @@ pub zero_bytes-requires : goal.zero_bytes-requires
 zero_bytes-requires c = search (rest_in, rules)
 
 pub returns : goal.returns
-returns c = search (rest-tested, rules)
+returns c = search (rest_tested, rules)

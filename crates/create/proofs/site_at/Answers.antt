@@ -1,19 +1,19 @@
-use Rattle.create.proofs.Sites.{site-damaged, site-full, site-free, spot-room, spot_in}
-use Rattle.super_block.proofs.Fits.{ready-fit}
+use Rattle.create.proofs.Sites.{site_damaged, site_full, site_free, spot_room, spot_in}
+use Rattle.super_block.proofs.Fits.{ready_fit}
 use borrow.Author.Rules.{rules}
 use Rattle.create.proofs.site_at.Goals as goal
 
 pub spot_for-spot-requires : goal.spot_for-spot-requires
-spot_for-spot-requires c = search (ready-fit, rules)
+spot_for-spot-requires c = search (ready_fit, rules)
 
 pub returns-then-needed-eq0 : goal.returns-then-needed-eq0
-returns-then-needed-eq0 c = record { result_value = search site-damaged; sited_in = tt }
+returns-then-needed-eq0 c = record { result_value = search site_damaged; sited_in = tt }
 
 pub lacks-requires : goal.lacks-requires
-lacks-requires c = search (ready-fit, rules)
+lacks-requires c = search (ready_fit, rules)
 
 pub returns-then-lacks : goal.returns-then-lacks
-returns-then-lacks c = record { result_value = search site-full; sited_in = tt }
+returns-then-lacks c = record { result_value = search site_full; sited_in = tt }
 
 pub returns : goal.returns
-returns c = record { result_value = search site-free; sited_in = (search spot-room, search spot_in) }
+returns c = record { result_value = search site_free; sited_in = (search spot_room, search spot_in) }

@@ -1,5 +1,5 @@
 use mathlib.Core.Path.{refl}
-use Rattle.create_store.proofs.Steps.{open_fit, open_room, open_inside, open_fits, enter-fit, enter-own, insert-image, insert-block}
+use Rattle.create_store.proofs.Steps.{open_fit, open_room, open_inside, open_fits, enter_fit, enter_own, insert_image, insert_block}
 use borrow.Author.Rules.{rules}
 use Rattle.create_store.proofs.insert.Goals as goal
 
@@ -13,7 +13,7 @@ renew_sum-requires c =
     let own = c.args.own in
     let pre = c.requires in
     let opens = c.open_place-p.ensures in
-    let enters = c.enter-a.ensures in record { fit = enter-fit pre.fit spot _ pre.spot_in pre.room opens.0 opens.1 _ _ _ refl pre.name_len_bound enters.0; own_in = enter-own pre.fit spot _ pre.spot_in pre.room opens.0 opens.1 _ _ _ refl pre.name_len_bound enters.0 own pre.own_in }
+    let enters = c.enter-a.ensures in record { fit = enter_fit pre.fit spot _ pre.spot_in pre.room opens.0 opens.1 _ _ _ refl pre.name_len_bound enters.0; own_in = enter_own pre.fit spot _ pre.spot_in pre.room opens.0 opens.1 _ _ _ refl pre.name_len_bound enters.0 own pre.own_in }
 
 pub returns : goal.returns
-returns c = (search (insert-image, rules), search (insert-block, rules))
+returns c = (search (insert_image, rules), search (insert_block, rules))

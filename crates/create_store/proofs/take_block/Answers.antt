@@ -1,9 +1,9 @@
-use Rattle.create_store.proofs.Steps.{take-small, take-image, take-block}
+use Rattle.create_store.proofs.Steps.{take_small, take_image, take_block}
 use borrow.Author.Rules.{rules}
 use Rattle.create_store.proofs.take_block.Goals as goal
 
 pub addr-requires : goal.addr-requires
-addr-requires c = search (take-small, rules)
+addr-requires c = search (take_small, rules)
 
 pub returns : goal.returns
-returns c = (search (take-image, rules), search (take-block, rules))
+returns c = (search (take_image, rules), search (take_block, rules))

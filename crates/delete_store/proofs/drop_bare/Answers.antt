@@ -1,15 +1,15 @@
-use Rattle.delete_store.proofs.Answers.{bare-inside, bare-first, bare-gone, bare-kept}
+use Rattle.delete_store.proofs.Answers.{bare_inside, bare_first, bare_gone, bare_kept}
 use borrow.Author.Rules.{rules}
 use Rattle.delete_store.proofs.drop_bare.Goals as goal
 
 pub returns-then-b-dir : goal.returns-then-b-dir
-returns-then-b-dir c = search (bare-first, rules)
+returns-then-b-dir c = search (bare_first, rules)
 
 pub zero_bytes-requires : goal.zero_bytes-requires
-zero_bytes-requires c = search (bare-inside, rules)
+zero_bytes-requires c = search (bare_inside, rules)
 
 pub returns-then-zero_bytes : goal.returns-then-zero_bytes
-returns-then-zero_bytes c = search (bare-gone, rules)
+returns-then-zero_bytes c = search (bare_gone, rules)
 
 pub returns-else-zero_bytes : goal.returns-else-zero_bytes
-returns-else-zero_bytes c = search (bare-kept, rules)
+returns-else-zero_bytes c = search (bare_kept, rules)

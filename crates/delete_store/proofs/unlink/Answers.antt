@@ -1,18 +1,18 @@
 use Rattle.delete_store.proofs.Answers.{unlink_is}
-use Rattle.chain_store.proofs.Answers.{still-fit}
+use Rattle.chain_store.proofs.Answers.{still_fit}
 use borrow.Author.Rules.{rules}
-use Rattle.block.proofs.Blocks.{linked-inside}
-use Rattle.super_block.proofs.Fits.{fit-inside}
+use Rattle.block.proofs.Blocks.{linked_inside}
+use Rattle.super_block.proofs.Fits.{fit_inside}
 use Rattle.delete_store.proofs.unlink.Goals as goal
 
 pub next_addr-to-requires : goal.next_addr-to-requires
-next_addr-to-requires c = record { block_size = search rules; size_in_bounds = search (linked-inside, fit-inside) }
+next_addr-to-requires c = record { block_size = search rules; size_in_bounds = search (linked_inside, fit_inside) }
 
 pub set_next_addr-requires : goal.set_next_addr-requires
-set_next_addr-requires c = record { block_size = search rules; size_in_bounds = search (linked-inside, fit-inside) }
+set_next_addr-requires c = record { block_size = search rules; size_in_bounds = search (linked_inside, fit_inside) }
 
 pub release-requires : goal.release-requires
-release-requires c = search (still-fit, rules)
+release-requires c = search (still_fit, rules)
 
 pub returns : goal.returns
 returns c = search (unlink_is, rules)

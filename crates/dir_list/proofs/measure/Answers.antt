@@ -1,4 +1,4 @@
-use Rattle.read_dir.proofs.Along.{step_less, list_again, list_full, list_end, list_bad, count-again, number_fits}
+use Rattle.read_dir.proofs.Along.{step_less, list_again, list_full, list_end, list_bad, count_again, number_fits}
 use borrow.Author.Rules.{rules}
 use Rattle.dir_list.proofs.measure.Goals as goal
 
@@ -12,7 +12,7 @@ pub loop-e-smaller : goal.loop-e-smaller
 loop-e-smaller c = search step_less
 
 pub loop-e-preserved : goal.loop-e-preserved
-loop-e-preserved c = (search list_again, search rules, search count-again)
+loop-e-preserved c = (search list_again, search rules, search count_again)
 
 pub returns-in-End : goal.returns-in-End
 returns-in-End c = search list_end

@@ -1,10 +1,10 @@
 use Rattle.read_dir.proofs.Along.{seek_again, seek_end, seek_bad, seek_at}
 use mathlib.Core.Path.{refl}
-use Rattle.super_block.proofs.Fits.{area-inside}
+use Rattle.super_block.proofs.Fits.{area_inside}
 use Rattle.dir_list.proofs.seek.Goals as goal
 
 pub new-c-requires : goal.new-c-requires
-new-c-requires c = search area-inside
+new-c-requires c = search area_inside
 
 pub loop-left-init : goal.loop-left-init
 loop-left-init c = refl

@@ -1,7 +1,7 @@
 use mathlib.Core.Path.{refl}
 use borrow.Author.Rules.{rules}
-use Rattle.block.proofs.Blocks.{linked-inside}
-use Rattle.super_block.proofs.Fits.{fit-inside}
+use Rattle.block.proofs.Blocks.{linked_inside}
+use Rattle.super_block.proofs.Fits.{fit_inside}
 use Rattle.file_read.proofs.Follows.{follow_end, follow_low, follow_high, follow_again}
 use Rattle.file_read.proofs.follow.Goals as goal
 
@@ -15,7 +15,7 @@ pub returns-then-s-b : goal.returns-then-s-b
 returns-then-s-b c = search follow_high
 
 pub next_addr-b-requires : goal.next_addr-b-requires
-next_addr-b-requires c = record { block_size = search rules; size_in_bounds = search (linked-inside, fit-inside) }
+next_addr-b-requires c = record { block_size = search rules; size_in_bounds = search (linked_inside, fit_inside) }
 
 pub loop-left-preserved : goal.loop-left-preserved
 loop-left-preserved c = search follow_again

@@ -4,9 +4,6 @@ use lib.Seq.{length-take-le}
 use borrow.Author.Rules.{rules}
 use Rattle.lsmfs.proofs.put.Statement.{statement}
 use Rattle.lsmfs.proofs.put.Tie as tie
-use Rattle.lsmfs.proofs.put.Reads as reads
-use Rattle.lsmfs.proofs.put.Lts as lts
-use Rattle.io.proofs.write_all.Reads as write-all-reads
 
 -- src/main.rt:15:26
 slice-aggregate-write-all : tie.Need-slice-aggregate-write-all

@@ -2,9 +2,6 @@ use Prim.Native.Nat.{◌-◌, ◌^◌, ◌<◌}
 use native.Mathlib.Omega.{arith}
 use Rattle.lsmfs.proofs.put_root.Statement.{statement}
 use Rattle.lsmfs.proofs.put_root.Tie as tie
-use Rattle.lsmfs.proofs.put_root.Reads as reads
-use Rattle.lsmfs.proofs.put_root.Lts as lts
-use Rattle.lsmfs.proofs.put_page.Reads as put-page-reads
 
 abbrev invariant-loop : tie.invariant-loop
 invariant-loop img more i₀ next₀ i next = (i < 2 ^ 32) × (next < 2 ^ 32)

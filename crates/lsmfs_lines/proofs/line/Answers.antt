@@ -1,6 +1,6 @@
 use native.Mathlib.Omega.{arith}
 use Rattle.lsmfs_lines.proofs.Digits.{digits_32, digits_64}
-use Rattle.lsmfs_lines.proofs.Words.{line-short, line-stored, length-ended}
+use Rattle.lsmfs_lines.proofs.Words.{line_short, line_stored, length-ended}
 use Rattle.lsmfs_lines.proofs.line.Goals as goal
 
 pub put_number-b-requires : goal.put_number-b-requires
@@ -29,6 +29,6 @@ returns c =
     let a = c.args in
     let hs = digits_32 a.size (omega arith) in
     let ht = digits_64 a.time (omega arith) in
-    let t = line-stored a.kind a.size a.time a.name.now hs ht a.out.now _ _ _ _ a.to _ _ _ _ _ (omega arith)
+    let t = line_stored a.kind a.size a.time a.name.now hs ht a.out.now _ _ _ _ a.to _ _ _ _ _ (omega arith)
     c.letter.ensures c.put_word-a.ensures c.put_number-b.ensures c.put_number-c.ensures c.put_word.ensures in
-    record { out_after = t.0; value = t.1; upper_bound = omega (arith, t.1, line-short a.kind a.size a.time a.name.now hs ht) }
+    record { out_after = t.0; value = t.1; upper_bound = omega (arith, t.1, line_short a.kind a.size a.time a.name.now hs ht) }

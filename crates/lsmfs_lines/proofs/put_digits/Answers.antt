@@ -4,7 +4,7 @@ use native.Mathlib.Omega.{arith}
 use borrow.Author.Rules.{rules}
 use lib.ListN.{length-set}
 use Rattle.lsmfs_lines.proofs.Digits.{length_more, digits-some}
-use Rattle.lsmfs_lines.proofs.Words.{digit-stored, first-stored}
+use Rattle.lsmfs_lines.proofs.Words.{digit_stored, first_stored}
 use Rattle.lsmfs_lines.proofs.put_digits.Goals as goal
 
 pub loop-rest-init : goal.loop-rest-init
@@ -35,7 +35,7 @@ loop-rest-preserved c =
       omega arith,
       omega arith,
       simp length-set (omega arith),
-      rw c.digit.ensures (digit-stored l.out a.at l.rest l.i (omega arith) (omega arith) (omega arith)) ∙ l.invariant.4,
+      rw c.digit.ensures (digit_stored l.out a.at l.rest l.i (omega arith) (omega arith) (omega arith)) ∙ l.invariant.4,
     )
 
 pub digit-requires-2 : goal.digit-requires-2
@@ -48,4 +48,4 @@ pub returns : goal.returns
 returns c =
     let a = c.args in
     let l = c.loop-rest in
-    rw c.digit-2.ensures (first-stored l.out a.at l.rest (omega arith) (omega arith)) ∙ l.invariant.4
+    rw c.digit-2.ensures (first_stored l.out a.at l.rest (omega arith) (omega arith)) ∙ l.invariant.4

@@ -1,5 +1,5 @@
-use Rattle.mfs_c.proofs.Told.{patches-c}
+use Rattle.mfs_c.proofs.Told.{patches_c}
 use Rattle.mfs_c.proofs.mfs_c_patch.Goals as goal
 
 pub returns : goal.returns
-returns c = search patches-c
+returns c = search patches_c

@@ -1,5 +1,5 @@
-use Rattle.mfs_c.proofs.Told.{reads-c}
+use Rattle.mfs_c.proofs.Told.{reads_c}
 use Rattle.mfs_c.proofs.mfs_c_read.Goals as goal
 
 pub returns : goal.returns
-returns c = search reads-c
+returns c = search reads_c

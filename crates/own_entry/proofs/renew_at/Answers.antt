@@ -1,6 +1,6 @@
 use borrow.Author.Rules.{rules}
-use Rattle.model.proofs.Owns.{two-stores}
+use Rattle.model.proofs.Owns.{two_stores}
 use Rattle.own_entry.proofs.renew_at.Goals as goal
 
 pub returns : goal.returns
-returns c = search (two-stores, rules)
+returns c = search (two_stores, rules)

@@ -1,5 +1,5 @@
-use Rattle.reached.proofs.Steps.{dir-byte}
+use Rattle.reached.proofs.Steps.{dir_byte}
 use Rattle.reached.proofs.is_dir.Goals as goal
 
 pub returns : goal.returns
-returns c = search dir-byte
+returns c = search dir_byte

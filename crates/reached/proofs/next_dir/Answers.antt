@@ -1,5 +1,5 @@
-use Rattle.reached.proofs.Steps.{step-dir}
+use Rattle.reached.proofs.Steps.{step_dir}
 use Rattle.reached.proofs.next_dir.Goals as goal
 
 pub returns : goal.returns
-returns c = search step-dir
+returns c = search step_dir

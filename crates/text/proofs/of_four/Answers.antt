@@ -1,4 +1,4 @@
-use Rattle.text.proofs.Rows.{after_F0, four_bytes, after_F4, above-all}
+use Rattle.text.proofs.Rows.{after_F0, four_bytes, after_F4, above_all}
 use borrow.Author.Rules.{rules}
 use Rattle.text.proofs.of_four.Goals as goal
 
@@ -12,4 +12,4 @@ pub returns-then-c-eq244 : goal.returns-then-c-eq244
 returns-then-c-eq244 c = search (after_F4, rules)
 
 pub returns : goal.returns
-returns c = search (above-all, rules)
+returns c = search (above_all, rules)

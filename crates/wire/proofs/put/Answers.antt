@@ -6,7 +6,7 @@ use native.Mathlib.Omega.{arith}
 use borrow.Author.Rules.{rules}
 use lib.ListN.{length-set}
 use Rattle.wire.specs.Be.{bytes}
-use Rattle.wire.proofs.Numbers.{splice-nil, put-more}
+use Rattle.wire.proofs.Numbers.{splice-nil, put_more}
 use Rattle.wire.proofs.put.Goals as goal
 
 pub loop-i-init : goal.loop-i-init
@@ -24,7 +24,7 @@ loop-i-preserved c =
     let e : a.n - j ≡ 1 + m = omega arith in
     let q : a.at + i ≡ a.at + j + 1 = omega arith in
     let w = c.loop-i.invariant.2 in
-    let t = put-more a.s.now (a.at + j) m a.v (omega arith) in
+    let t = put_more a.s.now (a.at + j) m a.v (omega arith) in
     (search rules, simp length-set (omega arith), rw (w, e, one-add, pow-suc, ← div-div-eq-div-mul), rw (c.loop-i.invariant.3, w, e, q) t)
 
 pub returns : goal.returns

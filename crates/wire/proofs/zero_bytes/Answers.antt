@@ -1,12 +1,12 @@
 use borrow.Author.Rules.{rules}
-use Rattle.wire.proofs.Zeros.{left-start, left-more, left-none}
+use Rattle.wire.proofs.Zeros.{left_start, left_more, left_none}
 use Rattle.wire.proofs.zero_bytes.Goals as goal
 
 pub loop-i-init : goal.loop-i-init
-loop-i-init c = (search rules, search (left-start, rules))
+loop-i-init c = (search rules, search (left_start, rules))
 
 pub loop-i-preserved : goal.loop-i-preserved
-loop-i-preserved c = (search rules, search (left-more, rules))
+loop-i-preserved c = (search rules, search (left_more, rules))
 
 pub returns : goal.returns
-returns c = search (left-none, rules)
+returns c = search (left_none, rules)

@@ -1,5 +1,5 @@
-use Rattle.write.proofs.Aims.{reach-told}
+use Rattle.write.proofs.Aims.{reach_told}
 use Rattle.write.proofs.unreached.Goals as goal
 
 pub returns : goal.returns
-returns c = search reach-told
+returns c = search reach_told

@@ -2,19 +2,19 @@ use mathlib.Core.Path.{refl}
 use Prim.Native.Nat.{◌-◌}
 use native.Mathlib.Omega.{arith}
 use borrow.Author.Rules.{rules}
-use Rattle.block.proofs.Blocks.{linked-inside}
-use Rattle.write_store.proofs.Loops.{chain-inside, pour_more, pour_along, pour_ends}
+use Rattle.block.proofs.Blocks.{linked_inside}
+use Rattle.write_store.proofs.Loops.{chain_inside, pour_more, pour_along, pour_ends}
 use Rattle.write_store.proofs.pour.Goals as goal
 
 pub loop-left-init : goal.loop-left-init
 loop-left-init c = (search rules, omega arith, refl, refl, search rules)
 
 pub next_addr-then-requires : goal.next_addr-then-requires
-next_addr-then-requires c = record { block_size = search rules; size_in_bounds = search (linked-inside, chain-inside) }
+next_addr-then-requires c = record { block_size = search rules; size_in_bounds = search (linked_inside, chain_inside) }
 
 pub put_run-i-requires : goal.put_run-i-requires
 put_run-i-requires c =
-    record { block_size = search rules; at_bound = search rules; i_in_bounds = search rules; size_in_bounds = search chain-inside }
+    record { block_size = search rules; at_bound = search rules; i_in_bounds = search rules; size_in_bounds = search chain_inside }
 
 pub overflow_add-i : goal.overflow_add-i
 overflow_add-i c = omega arith

@@ -1,5 +1,5 @@
 use mathlib.Core.Path.{refl, ◌∙◌}
-use Rattle.write_store.proofs.Loops.{write_resizable, write-first, resized-fit, resized-along, entry_in_lem, write-is}
+use Rattle.write_store.proofs.Loops.{write_resizable, write_first, resized_fit, resized_along, entry_in_lem, write_is}
 use borrow.Author.Rules.{rules}
 use Rattle.write_store.proofs.write.Goals as goal
 
@@ -17,7 +17,7 @@ put_bytes-requires c =
     let f = c.requires.fit in
     let s = c.args.s in
     let r = write_resizable s _ f _ _ _ _ w _ _ refl n _ o in
-    record { fit = resized-fit _ _ f _ _ _ r _ j; size_bound = write-first s _ f _ _ _ _ w _ _ refl n; along = resized-along _ _ f _ _ _ r _ j }
+    record { fit = resized_fit _ _ f _ _ _ r _ j; size_bound = write_first s _ f _ _ _ _ w _ _ refl n; along = resized_along _ _ f _ _ _ r _ j }
 
 pub renew_at-requires : goal.renew_at-requires
 renew_at-requires c =
@@ -31,4 +31,4 @@ returns c =
     let n = c.blocks_for-new.ensures in
     let r = c.resize in
     let p = c.put_bytes in
-    write-is c.args.s _ _ _ _ _ _ _ _ _ _ _ _ c.requires.fit refl o n r.ensures p.ensures c.renew_at.ensures
+    write_is c.args.s _ _ _ _ _ _ _ _ _ _ _ _ c.requires.fit refl o n r.ensures p.ensures c.renew_at.ensures

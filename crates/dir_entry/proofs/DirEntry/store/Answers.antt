@@ -1,4 +1,4 @@
-use Rattle.dir_entry.proofs.Heads.{head-stored}
+use Rattle.dir_entry.proofs.Heads.{head_stored}
 use lib.ListN.{length-set}
 use native.Mathlib.Omega.{arith}
 use mathlib.Core.Path.{refl}
@@ -22,4 +22,4 @@ shape_of-img c = simp length-set (omega (arith, length-set c.args.img.now c.args
 pub returns : goal.returns
 returns c =
     let a = c.args in
-    head-stored a.img.now _ _ _ _ a.at _ a.self c.requires c.byte.ensures refl c.put.ensures c.put-2.ensures c.put-3.ensures
+    head_stored a.img.now _ _ _ _ a.at _ a.self c.requires c.byte.ensures refl c.put.ensures c.put-2.ensures c.put-3.ensures

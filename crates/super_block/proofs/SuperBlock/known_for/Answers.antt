@@ -1,5 +1,5 @@
 use mathlib.Core.Path.{refl}
-use Rattle.super_block.proofs.Tests.{blocks-fit, make_1, make_3, make_fair, make_0}
+use Rattle.super_block.proofs.Tests.{blocks_fit, make_1, make_3, make_fair, make_0}
 use borrow.Author.Rules.{rules}
 use Rattle.super_block.proofs.SuperBlock.known_for.Goals as goal
 
@@ -7,7 +7,7 @@ pub returns-then-bad_image : goal.returns-then-bad_image
 returns-then-bad_image c = search (make_1, rules)
 
 pub overflow_cast-n-2 : goal.overflow_cast-n-2
-overflow_cast-n-2 c = search (blocks-fit, rules)
+overflow_cast-n-2 c = search (blocks_fit, rules)
 
 pub returns-then-bad_count : goal.returns-then-bad_count
 returns-then-bad_count c = search (make_3, rules)
