@@ -1,5 +1,6 @@
 -- From an opened volume and an accepted path to the answer of a call: the laws that open, info and list share.
 use mathlib.Core.Path.{◌≡◌, sym, ap, ◌∙◌, subst}
+use Rattle.dir.specs.declared.Opened.{Opened as DirOpened}
 use mathlib.Core.Bool.{Bool, true, false}
 use mathlib.Core.List.{List, [], ◌∷◌}
 use Prim.Native.Nat.{ℕ, ◌≤◌, ◌<◌}

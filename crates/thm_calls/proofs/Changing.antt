@@ -1,5 +1,8 @@
 -- The public changing calls and the tree: an accepted one is the model's, and leaves a well-formed image; a refused one leaves all as it was.
 use mathlib.Core.Path.{◌≡◌, refl, sym, ap, ◌∙◌, subst}
+use Rattle.write.specs.Writing.{image_at as writtenAt}
+use Rattle.delete.specs.Deleting.{image_at as deletedAt}
+use Rattle.create.specs.Creating.{image_at as createdAt}
 use mathlib.Core.Bool.{false}
 use mathlib.Core.List.{List}
 use Prim.Native.Nat.{ℕ, zero, suc, ◌^◌, ◌<◌}

@@ -1,5 +1,6 @@
 -- Reading a file gives the file's bytes, and a handle is held exactly where the tree has its file.
 use mathlib.Core.Path.{◌≡◌, refl, sym, ap, ◌∙◌, subst}
+use Rattle.handle.proofs.Seeks.{fresh as fields-fresh}
 use mathlib.Core.Bool.{true, false}
 use mathlib.Core.Logic.{◌⊎◌, inl, inr}
 use mathlib.Core.Option.{Option, none, some}

@@ -1,5 +1,6 @@
 -- The stores keep an image a list of bytes: each of them stores bytes.
 use mathlib.Core.Path.{◌≡◌}
+use Rattle.create_store.specs.Create.{block_taken as withFresh}
 use mathlib.Core.Bool.{Bool, true, false, not}
 use mathlib.Core.List.{List, [], ◌∷◌, ◌++◌}
 use Prim.Native.Nat.{ℕ, zero, suc, ◌+◌, ◌-◌, ◌*◌, ◌/◌, ◌%◌, ◌<◌}

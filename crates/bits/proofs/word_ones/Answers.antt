@@ -1,4 +1,5 @@
 use mathlib.Core.Path.{◌≡◌}
+use Rattle.bits.specs.Bit.{ones as bits}
 use lib.Count.{ones}
 use Rattle.wire.specs.Be.{be}
 use native.Mathlib.Omega.{arith}
