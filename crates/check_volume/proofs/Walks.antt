@@ -41,9 +41,6 @@ still_clear F G e h = e ∙ h
 pub kept_filter : (F G H : List ℕ) → F ≡ G → G ≡ H → F ≡ H
 kept_filter F G H e h = e ∙ h
 
-pub kept_long : (F G H : List ℕ) → F ≡ G → G ≡ H → length F ≡ length H
-kept_long F G H e h = ap length (e ∙ h)
-
 -- ---- a directory's entries
 
 -- what is left to check from the walk w on is what was to be checked from w₀ on

@@ -1,6 +1,6 @@
 -- The stores keep an image a list of bytes: each of them stores bytes.
 use mathlib.Core.Path.{◌≡◌}
-use Rattle.create_store.specs.Create.{block_taken as withFresh}
+use Rattle.create_store.specs.Create.{block_taken as with_fresh}
 use mathlib.Core.Bool.{Bool, true, false, not}
 use mathlib.Core.List.{List, [], ◌∷◌, ◌++◌}
 use Prim.Native.Nat.{ℕ, zero, suc, ◌+◌, ◌-◌, ◌*◌, ◌/◌, ◌%◌, ◌<◌}
@@ -160,13 +160,13 @@ module _ (g : Geo) where
 
   -- ---- create
 
-  bytes_fresh : (I : List ℕ) → Bytes I → Bytes (withFresh g I)
-  unfolding withFresh
+  bytes_fresh : (I : List ℕ) → Bytes I → Bytes (with_fresh g I)
+  unfolding with_fresh
   bytes_fresh I b = bytes_taken I b (fresh g I - data_at g)
 
   bytes_opened : (I : List ℕ) → Bytes I → (s : Spot) → Bytes (opened g I s)
   bytes_opened I b (spot.In p) = b
-  bytes_opened I b (spot.After a) = bytes_linked (withFresh g I) (bytes_fresh I b) a.0 (fresh g I)
+  bytes_opened I b (spot.After a) = bytes_linked (with_fresh g I) (bytes_fresh I b) a.0 (fresh g I)
   bytes_opened I b spot.Damaged = b
 
   bytes_name : (n : Name) → is_name n ≡ true → Bytes n
@@ -191,7 +191,7 @@ module _ (g : Geo) where
   unfolding entered
   bytes_entered I b p k n good time =
       let e : DirEntry = new_head k (fresh g I) time (length n) in
-      bytes_splice (withFresh g I) (place_at (block_size g) p.block.0 p.offset) (head_bytes e ++ n) (bytes_fresh I b)
+      bytes_splice (with_fresh g I) (place_at (block_size g) p.block.0 p.offset) (head_bytes e ++ n) (bytes_fresh I b)
       (bytes_append (head_bytes e) n (bytes_head e (omega (arith, good.few_bytes))) (bytes_name n good.allowed))
 
   pub bytes_inserted : (I : List ℕ) → Bytes I → (dir : ℕ) (s : Spot) (o : Own) (k : Kind) (n : Name) → GoodName n → (time : ℕ)
