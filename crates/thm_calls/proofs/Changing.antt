@@ -1,8 +1,8 @@
 -- The public changing calls and the tree: an accepted one is the model's, and leaves a well-formed image; a refused one leaves all as it was.
 use mathlib.Core.Path.{◌≡◌, refl, sym, ap, ◌∙◌, subst}
-use Rattle.write.specs.Writing.{image_at as written_image}
-use Rattle.delete.specs.Deleting.{image_at as deleted_image}
-use Rattle.create.specs.Creating.{image_at as created_image}
+use Rattle.write.specs.Writing.{image_at as written_at}
+use Rattle.delete.specs.Deleting.{image_at as deleted_at}
+use Rattle.create.specs.Creating.{image_at as created_at}
 use mathlib.Core.Bool.{false}
 use mathlib.Core.List.{List}
 use Prim.Native.Nat.{ℕ, zero, suc, ◌^◌, ◌<◌}
@@ -97,14 +97,14 @@ module _ (M : Mount) (I W cwd p : List ℕ) (now : ℕ) (J Z : List ℕ) where
   create_kept k j e =
       settle_kept (change_call M I (length W) cwd p) _ j _ I e (λ i h.
       let b = first_refused (site_of (geo_at M I) I k (real_path cwd p)) _ i h in
-      ap (created_image (geo_at M I) I k (last_name (real_path cwd p)) now) b)
+      ap (created_at (geo_at M I) I k (last_name (real_path cwd p)) now) b)
 
   -- an accepted create stores bytes, where its name is a good one
   create_bytes : (k : Kind) (x : Site) → Bytes I → site_of (geo_at M I) I k (real_path cwd p) ≡ accepted x → GoodName (last_of cwd p)
       → Bytes (created_image (geo_at M I) I k (real_path cwd p) now)
   unfolding created_image
   create_bytes k x b e n =
-      subst (λ (r : Reply Site). Bytes (created_image (geo_at M I) I k (last_of cwd p) now r)) (sym e)
+      subst (λ (r : Reply Site). Bytes (created_at (geo_at M I) I k (last_of cwd p) now r)) (sym e)
       (bytes_inserted (geo_at M I) I b x.dir x.spot x.own k (last_of cwd p) n now)
 
   module _ (o : OpenOut) (c : CreatesFile M I W cwd p now o J Z) where
@@ -197,7 +197,7 @@ module _ (M : Mount) (I W cwd p : List ℕ) (now : ℕ) (J Z : List ℕ) where
         let a = delete_passed e in
         let d : Doomed = a.1 in
         subst Bytes (sym (c.image ∙ settle-none _ I a.0))
-        (subst (λ (x : Reply Doomed). Bytes (deleted_image (geo_at M I) I now x)) (sym a.2)
+        (subst (λ (x : Reply Doomed). Bytes (deleted_at (geo_at M I) I now x)) (sym a.2)
         (bytes_removed (geo_at M I) I b d.dir d.entry d.place d.own now))
 
     pub delete_kept : (x : Refusal) → r ≡ answer.Refused x → J ≡ I
@@ -205,7 +205,7 @@ module _ (M : Mount) (I W cwd p : List ℕ) (now : ℕ) (J Z : List ℕ) where
     delete_kept x e =
         c.image ∙ settle_kept (change_call M I (length W) cwd p) _ (refusal_number x) _ I (sym (ap says (sym e) ∙ c.answer)) (λ i h.
         let b = first_refused (doomed_of (geo_at M I) I (real_path cwd p)) (λ d. tt) i h in
-        ap (deleted_image (geo_at M I) I now) b)
+        ap (deleted_at (geo_at M I) I now) b)
 
 -- ---- write
 
@@ -247,7 +247,7 @@ module _ (M : Mount) (I W : List ℕ) (h : Handle) (buf : List ℕ) (now : ℕ) 
       let a = write_passed k e in
       let t : Target = a.1 in
       subst Bytes (sym (c.image ∙ settle-none _ I a.0))
-      (subst (λ (x : Reply Target). Bytes (written_image (geo_at M I) I h buf now x)) (sym a.2)
+      (subst (λ (x : Reply Target). Bytes (written_at (geo_at M I) I h buf now x)) (sym a.2)
       (bytes_wrote (geo_at M I) I b t.entry t.place h.position buf d now))
 
   -- and the handle stands at the file's new end.
@@ -263,4 +263,4 @@ module _ (M : Mount) (I W : List ℕ) (h : Handle) (buf : List ℕ) (now : ℕ) 
   unfolding count_of write_reply written_image
   write_kept x e =
       let b = first_refused (write_reply M I (length W) h (length buf)) (λ t. length buf) (refusal_number x) (sym (ap counted_says (sym e) ∙ c.answer)) in
-      (c.image ∙ settle_kept (check_refusal M I (length W)) _ (refusal_number x) _ I b (λ i f. ap (written_image (geo_at M I) I h buf now) f), c.handle ∙ ap (handle_after h (length buf)) b)
+      (c.image ∙ settle_kept (check_refusal M I (length W)) _ (refusal_number x) _ I b (λ i f. ap (written_at (geo_at M I) I h buf now) f), c.handle ∙ ap (handle_after h (length buf)) b)
