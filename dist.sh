@@ -1,5 +1,5 @@
 #!/bin/sh
-# Makes what is handed to others, in target/dist: `./dist.sh`, after `rt staticlib mfs_c`.
+# Makes what is handed to others, in target/dist: `./dist.sh`, after `scripts/archive`.
 #   mfs-VERSION-x86_64-linux.tar.gz   what install.sh installs, with README.md and licence; it may be unpacked anywhere
 #   mfs-VERSION.tar.gz                the repository's files as last committed, for Rust programs and for those who
 #                                     prove it themselves

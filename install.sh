@@ -1,5 +1,5 @@
 #!/bin/sh
-# Installs the library and the tool: `./install.sh PREFIX`, after `rt staticlib mfs_c`. Under PREFIX come
+# Installs the library and the tool: `./install.sh PREFIX`, after `scripts/archive`. Under PREFIX come
 #   lib/libmfs_c.a                    the archive
 #   lib/libmfs_c.so.N, libmfs_c.so    the shared library, for those who load it at run time; N is the version of the
 #                                     exports, and libmfs_c.so.N the soname
@@ -23,7 +23,7 @@ esac
 root=$(cd "$(dirname "$0")" && pwd)
 archives=${MFS_LIB_DIR:-$root/target/staticlib}
 [ -f "$archives/libmfs_c.a" ] ||
-    die "no libmfs_c.a in $archives: run \`rt staticlib mfs_c\` first, or give its folder as MFS_LIB_DIR"
+    die "no libmfs_c.a in $archives: run \`scripts/archive\` first, or give its folder as MFS_LIB_DIR"
 archives=$(cd "$archives" && pwd)
 version=$(sed -n 's/^version = "\(.*\)"$/\1/p' "$root/Cargo.toml")
 exports=$(sed -n 's/^#define MFS_C_VERSION //p' "$root/include/mfs_c.h")

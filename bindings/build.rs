@@ -1,4 +1,4 @@
-//! Finds the archive of the proved library: in the folder MFS_LIB_DIR, or where `rt staticlib mfs_c` leaves it.
+//! Finds the archive of the proved library: in the folder MFS_LIB_DIR, or where `scripts/archive` leaves it.
 use std::env;
 use std::path::PathBuf;
 
@@ -31,6 +31,6 @@ fn with_archive(folder: PathBuf) -> Result<PathBuf, String> {
     if folder.join("libmfs_c.a").is_file() {
         Ok(folder)
     } else {
-        Err(format!("no libmfs_c.a in {}: run `rt staticlib mfs_c` first, or give its folder as MFS_LIB_DIR", folder.display()))
+        Err(format!("no libmfs_c.a in {}: run `scripts/archive` first, or give its folder as MFS_LIB_DIR", folder.display()))
     }
 }

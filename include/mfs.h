@@ -2,7 +2,7 @@
  * MFS, proved: the file system of MOROS on a lent image of 512-byte blocks, or of 1,024. For C99 and
  * C++98 and all later ones.
  *
- * Link with libmfs_c (x86-64; made by `rt staticlib mfs_c`). It needs memcpy and memset and nothing
+ * Link with libmfs_c (x86-64; made by `scripts/archive`). It needs memcpy and memset and nothing
  * else: no allocation, no operating system, no global state.
  *
  * There are two layers. The exports, mfs_c_*, are the proved functions; mfs_c.h declares them, with
