@@ -10,14 +10,10 @@ use mir.Val.{SFits, of_z, to_z}
 use mir.Facts.{to_z-of_z, to_z_pos}
 use lib.ListN.{length, take}
 use lib.Seq.{length-take-le}
-use Rattle.io.specs.Counts.{IsPrefixLen}
 
 -- the first n bytes of a list are n
-pub part_length : (n : ℕ) (l : List ℕ) → n ≤ length l → n ≡ length (take n l)
+part_length : (n : ℕ) (l : List ℕ) → n ≤ length l → n ≡ length (take n l)
 part_length n l h = sym (length-take-le n l h)
-
-pub counted : (n : ℕ) (l : List ℕ) → n ≤ length l → IsPrefixLen n l
-counted n l h = (h, part_length n l h)
 
 -- ---- numbers below 0, in 64 bits and in 32
 

@@ -38,10 +38,14 @@
 //   w SLOT LEN SEED TIME X COUNT POSITION SIZE  write LEN bytes (4096 at most), byte j is (SEED + 7 * j) mod 251
 //   g DIGEST                                    the digest of the whole image now
 // DIGEST of bytes: from 0, for each byte d = (d * 257 + byte) mod 4,294,967,291. A step that cannot be read is answered `unread`.
+// A read or a write that fails ends the program with its error.
 #![tactic(auto)]
 
-ghost use Rattle.std.specs.Prelude.{◌≡◌, ◌≤◌, ◌<◌, length};
-ghost use Rattle.io.specs.Counts.{IsPrefixLen};
+ghost use Rattle.std.specs.Prelude.{◌≡◌, ◌≤◌, ◌<◌, length, drop, All, OnOk};
+ghost use Rattle.cases.specs.Counts.{IsPrefixLen};
+ghost use Rattle.cases.specs.Digits.{IsDigit, value_after};
+ghost use Rattle.std.specs.Io.{ReadsAtMost};
+ghost use Rattle.std.specs.Io.KnownBytes.{Appends};
 
 use block::Addr;
 use call_read::{Listing, OpenOut};
@@ -49,6 +53,8 @@ use call_volume::Space;
 use dir_entry::Kind;
 use handle::{Counted, CountedOut, Handle, SeekFrom};
 use limits::{Answer, Refusal};
+use std::io;
+use std::io::{Read, Write};
 use super_block::{Opened, SuperBlock};
 
 const SPACE: u8 = 32;
@@ -76,36 +82,60 @@ struct Mount {
 
 // ---- what is printed
 
-fn put(text: &[u8]) {
-    io::write_all(1, text);
+fn put<W: Write>(out: &mut W, text: &[u8]) -> io::Result<()>
+    ensures { OnOk result (Appends (W.contents out.old) (W.contents out.new) text.now) }
+{
+    out.write_all(text)
 }
 
 // The first n bytes, where there are so many.
-fn put_first(text: &[u8], n: usize) {
+fn put_first<W: Write>(out: &mut W, text: &[u8], n: usize) -> io::Result<()> {
     if n <= text.len() {
-        put(&text[..n]);
+        put(out, &text[..n])?;
     }
+    Ok(())
 }
 
-fn put_byte(b: u8) {
+fn put_byte<W: Write>(out: &mut W, b: u8) -> io::Result<()> {
     let one = [b];
-    put(&one);
+    put(out, &one)
 }
 
-fn put_number(n: u64) {
-    put(b" ");
-    io::print_decimal(1, n);
+// The decimal digits of a number, one at least, at the end of the buffer; answers where they begin.
+fn decimal(n: u64, digits: &mut [u8; 20]) -> usize
+    ensures some { result < 20 }
+    ensures digits { All IsDigit (drop result digits.new) }
+    ensures value { value_after 0 (drop result digits.new) ≡ n }
+{
+    let mut rest = n;
+    let mut from: usize = 20;
+    while 0 < from {
+        from -= 1;
+        digits[from] = 48 + (rest % 10) as u8;
+        rest /= 10;
+        if rest == 0 {
+            return from;
+        }
+    }
+    from
+}
+
+fn put_number<W: Write>(out: &mut W, n: u64) -> io::Result<()> {
+    put(out, b" ")?;
+    let mut digits = [0u8; 20];
+    let from = decimal(n, &mut digits);
+    put(out, &digits[from..])
 }
 
 // A long name is told by its length.
-fn put_name(name: &[u8], len: usize) {
+fn put_name<W: Write>(out: &mut W, name: &[u8], len: usize) -> io::Result<()> {
     if len <= 16 {
-        put(b" \"");
-        put_first(name, len);
-        put(b"\"");
+        put(out, b" \"")?;
+        put_first(out, name, len)?;
+        put(out, b"\"")
     } else {
-        put(b" of");
-        put_number(len as u64);
+        put(out, b" of")?;
+        put_number(out, len as u64)
     }
 }
 
@@ -115,68 +145,85 @@ fn hex_letter(n: u8) -> u8
     if n < 10 { 48 + n } else { 87 + n }
 }
 
-fn put_pair(b: u8) {
-    put_byte(hex_letter(b / 16));
-    put_byte(hex_letter(b % 16));
+fn put_pair<W: Write>(out: &mut W, b: u8) -> io::Result<()> {
+    put_byte(out, hex_letter(b / 16))?;
+    put_byte(out, hex_letter(b % 16))
 }
 
 // The first len bytes in hexadecimal, where there are so many; a dot for none.
-fn put_hex(name: &[u8], len: usize) {
-    put(b" ");
+fn put_hex<W: Write>(out: &mut W, name: &[u8], len: usize) -> io::Result<()> {
+    put(out, b" ")?;
     if len == 0 {
-        put(b".");
+        put(out, b".")?;
     }
     let mut i: usize = 0;
     while i < len {
         if i < name.len() {
-            put_pair(name[i]);
+            put_pair(out, name[i])?;
         }
         i += 1;
     }
+    Ok(())
 }
 
 // One byte of a pattern: bytes 0 to 4 stand for the numbers, `$` and `%` for the name, and any other for itself.
-fn put_mark(b: u8, n: [u64; 5], name: &[u8], len: usize) {
+fn put_mark<W: Write>(out: &mut W, b: u8, n: [u64; 5], name: &[u8], len: usize) -> io::Result<()> {
     match b {
-        0..=4 => put_number(n[b as usize]),
-        b'$' => put_name(name, len),
-        b'%' => put_hex(name, len),
-        _ => put_byte(b),
+        0..=4 => put_number(out, n[b as usize]),
+        b'$' => put_name(out, name, len),
+        b'%' => put_hex(out, name, len),
+        _ => put_byte(out, b),
     }
 }
 
-fn show(pattern: &[u8], n: [u64; 5], name: &[u8], len: usize) {
+fn show<W: Write>(
+    out: &mut W,
+    pattern: &[u8],
+    n: [u64; 5],
+    name: &[u8],
+    len: usize,
+) -> io::Result<()> {
     let mut i: usize = 0;
     while i < pattern.len() {
-        put_mark(pattern[i], n, name, len);
+        put_mark(out, pattern[i], n, name, len)?;
         i += 1;
     }
+    Ok(())
 }
 
 // An answer by the pattern of the recorded list where the step's letter is small, and else by the other.
-fn told(letter: u8, short: &[u8], long: &[u8], n: [u64; 5], name: &[u8], len: usize) {
+fn told<W: Write>(
+    out: &mut W,
+    letter: u8,
+    short: &[u8],
+    long: &[u8],
+    n: [u64; 5],
+    name: &[u8],
+    len: usize,
+) -> io::Result<()> {
     if letter < 97 {
-        show(long, n, name, len);
+        show(out, long, n, name, len)
     } else {
-        show(short, n, name, len);
+        show(out, short, n, name, len)
     }
 }
 
-fn refuse(letter: u8, r: Refusal) {
+fn refuse<W: Write>(out: &mut W, letter: u8, r: Refusal) -> io::Result<()> {
     told(
+        out,
         letter,
         b" 0",
         b" refused\x00",
         [r.number() as u64, 0, 0, 0, 0],
         b"",
         0,
-    );
+    )
 }
 
-fn answer(letter: u8, a: Answer) {
+fn answer<W: Write>(out: &mut W, letter: u8, a: Answer) -> io::Result<()> {
     match a {
-        Answer::Success => told(letter, b" 1", b" success", [0, 0, 0, 0, 0], b"", 0),
-        Answer::Refused(r) => refuse(letter, r),
+        Answer::Success => told(out, letter, b" 1", b" success", [0, 0, 0, 0, 0], b"", 0),
+        Answer::Refused(r) => refuse(out, letter, r),
     }
 }
 
@@ -565,34 +612,49 @@ fn numbers_after(letter: u8) -> usize
 
 // ---- calls through a handle: each gives the handle for the slot
 
-fn opened(letter: u8, short: &[u8], h: Handle, o: OpenOut) -> Handle {
+fn opened<W: Write>(
+    out: &mut W,
+    letter: u8,
+    short: &[u8],
+    h: Handle,
+    o: OpenOut,
+) -> io::Result<Handle> {
     let a = o.answer;
     let g = o.handle;
     let name = g.name;
     match a {
         Answer::Success => {
             told(
+                out,
                 letter,
                 short,
                 b" dir\x00 name$ addr\x01 size\x02 position\x03",
                 held(g, 0),
                 &name,
                 g.len,
-            );
-            g
+            )?;
+            Ok(g)
         }
         Answer::Refused(r) => {
-            refuse(letter, r);
-            h
+            refuse(out, letter, r)?;
+            Ok(h)
         }
     }
 }
 
 // A read into the first n bytes of a buffer that has so many.
-fn read_into(img: &[u8], m: Mount, letter: u8, h: Handle, n: usize, buf: &mut [u8]) -> Handle {
+fn read_into<W: Write>(
+    out: &mut W,
+    img: &[u8],
+    m: Mount,
+    letter: u8,
+    h: Handle,
+    n: usize,
+    buf: &mut [u8],
+) -> io::Result<Handle> {
     if buf.len() < n {
-        put(b" unread");
-        return h;
+        put(out, b" unread")?;
+        return Ok(h);
     }
     let o = mfs::read(img, m.k, m.code, h, &mut buf[..n]);
     let a = o.answer;
@@ -601,19 +663,34 @@ fn read_into(img: &[u8], m: Mount, letter: u8, h: Handle, n: usize, buf: &mut [u
         Counted::Bytes(m) => {
             let mut v = held(g, m as u64);
             v[0] = digest_first(buf, m);
-            told(letter, b" 1\x04\x03\x00", b"\x04$ position\x03", v, buf, 8);
+            told(
+                out,
+                letter,
+                b" 1\x04\x03\x00",
+                b"\x04$ position\x03",
+                v,
+                buf,
+                8,
+            )?;
         }
         Counted::Refused(r) => {
-            refuse(letter, r);
-            told(letter, b"", b"$ position\x03", held(g, 0), buf, 8);
+            refuse(out, letter, r)?;
+            told(out, letter, b"", b"$ position\x03", held(g, 0), buf, 8)?;
         }
     }
-    g
+    Ok(g)
 }
 
-fn read(img: &[u8], m: Mount, letter: u8, h: Handle, n: u64) -> Handle {
+fn read<W: Write>(
+    out: &mut W,
+    img: &[u8],
+    m: Mount,
+    letter: u8,
+    h: Handle,
+    n: u64,
+) -> io::Result<Handle> {
     let mut buf = [46u8; 4096];
-    read_into(img, m, letter, h, n as usize, &mut buf)
+    read_into(out, img, m, letter, h, n as usize, &mut buf)
 }
 
 // The number below 0 of that size.
@@ -650,72 +727,83 @@ fn aim(how: u64, value: u64, minus: bool) -> SeekFrom {
     SeekFrom::End(o)
 }
 
-fn seek(letter: u8, h: Handle, v: Row) -> Handle {
+fn seek<W: Write>(out: &mut W, letter: u8, h: Handle, v: Row) -> io::Result<Handle> {
     let o = mfs::seek(h, aim(v.n[0], v.n[1], v.minus));
     let a = o.answer;
     let g = o.handle;
     match a {
-        Answer::Success => told(letter, b" 1\x03", b" to\x03", held(g, 0), b"", 0),
+        Answer::Success => told(out, letter, b" 1\x03", b" to\x03", held(g, 0), b"", 0)?,
         Answer::Refused(r) => {
-            refuse(letter, r);
-            told(letter, b"", b"\x03", held(g, 0), b"", 0);
+            refuse(out, letter, r)?;
+            told(out, letter, b"", b"\x03", held(g, 0), b"", 0)?;
         }
     }
-    g
+    Ok(g)
 }
 
-fn written(letter: u8, o: CountedOut) -> Handle {
+fn written<W: Write>(out: &mut W, letter: u8, o: CountedOut) -> io::Result<Handle> {
     let a = o.answer;
     let g = o.handle;
     let name = g.name;
     match a {
         Counted::Bytes(n) => told(
+            out,
             letter,
             b" 1\x04\x03\x02",
             b"\x04 dir\x00 name$ addr\x01 size\x02 position\x03",
             held(g, n as u64),
             &name,
             g.len,
-        ),
+        )?,
         Counted::Refused(r) => {
-            refuse(letter, r);
+            refuse(out, letter, r)?;
             told(
+                out,
                 letter,
                 b"",
                 b" dir\x00 name$ addr\x01 size\x02 position\x03",
                 held(g, 0),
                 &name,
                 g.len,
-            );
+            )?;
         }
     }
-    g
+    Ok(g)
 }
 
 // A recorded write, of the first bytes of a buffer that has so many.
-fn write_sown(
+fn write_sown<W: Write>(
+    out: &mut W,
     img: &mut [u8],
     m: Mount,
     h: Handle,
     v: Row,
     buf: &mut [u8],
     work: &mut [u8],
-) -> Handle {
+) -> io::Result<Handle> {
     recorded::sow(buf, v.n[1]);
     let n = v.n[0] as usize;
     if n <= buf.len() {
         return written(
+            out,
             b'w',
             mfs::write(img, m.k, m.code, h, &buf[..n], v.n[2], work),
         );
     }
-    put(b" unread");
-    h
+    put(out, b" unread")?;
+    Ok(h)
 }
 
-fn write_recorded(img: &mut [u8], m: Mount, h: Handle, v: Row, work: &mut [u8]) -> Handle {
+fn write_recorded<W: Write>(
+    out: &mut W,
+    img: &mut [u8],
+    m: Mount,
+    h: Handle,
+    v: Row,
+    work: &mut [u8],
+) -> io::Result<Handle> {
     let mut buf = [0u8; 4096];
-    write_sown(img, m, h, v, &mut buf, work)
+    write_sown(out, img, m, h, v, &mut buf, work)
 }
 
 // A handle of any fields; numbers that do not fit are cut.
@@ -732,7 +820,8 @@ fn made_up(name: &[u8], v: Row) -> Handle {
     }
 }
 
-fn handle_call(
+fn handle_call<W: Write>(
+    out: &mut W,
     img: &mut [u8],
     m: Mount,
     letter: u8,
@@ -741,29 +830,41 @@ fn handle_call(
     b: &[u8],
     v: Row,
     work: &mut [u8],
-) -> Handle {
+) -> io::Result<Handle> {
     match letter {
-        b'o' | b'O' => opened(letter, b" 1\x01\x02", h, mfs::open(img, m.k, m.code, a, b)),
+        b'o' | b'O' => opened(
+            out,
+            letter,
+            b" 1\x01\x02",
+            h,
+            mfs::open(img, m.k, m.code, a, b),
+        ),
         b'c' | b'C' => opened(
+            out,
             letter,
             b" 1\x01",
             h,
             mfs::create_file(img, m.k, m.code, a, b, v.n[0], work),
         ),
-        b'r' | b'R' => read(img, m, letter, h, v.n[0]),
-        b's' | b'S' => seek(letter, h, v),
-        b'w' => write_recorded(img, m, h, v, work),
-        b'W' => written(letter, mfs::write(img, m.k, m.code, h, b, v.n[0], work)),
-        _ => made_up(b, v),
+        b'r' | b'R' => read(out, img, m, letter, h, v.n[0]),
+        b's' | b'S' => seek(out, letter, h, v),
+        b'w' => write_recorded(out, img, m, h, v, work),
+        b'W' => written(
+            out,
+            letter,
+            mfs::write(img, m.k, m.code, h, b, v.n[0], work),
+        ),
+        _ => Ok(made_up(b, v)),
     }
 }
 
 // ---- calls on the image
 
-fn usage(img: &[u8], m: Mount, letter: u8) {
+fn usage<W: Write>(out: &mut W, img: &[u8], m: Mount, letter: u8) -> io::Result<()> {
     let u = mfs::usage(img, m.k, m.code);
     match u {
         Space::Bytes { size, used, free } => told(
+            out,
             letter,
             b" 1\x00\x01\x02",
             b"\x00\x01\x02",
@@ -771,22 +872,29 @@ fn usage(img: &[u8], m: Mount, letter: u8) {
             b"",
             0,
         ),
-        Space::Refused(r) => refuse(letter, r),
+        Space::Refused(r) => refuse(out, letter, r),
     }
 }
 
-fn info(img: &[u8], m: Mount, letter: u8, cwd: &[u8], path: &[u8]) {
+fn info<W: Write>(
+    out: &mut W,
+    img: &[u8],
+    m: Mount,
+    letter: u8,
+    cwd: &[u8],
+    path: &[u8],
+) -> io::Result<()> {
     let o = mfs::info(img, m.k, m.code, cwd, path);
     let a = o.answer;
     let kind = o.kind;
     let name = o.name;
     let v = [o.size as u64, o.time, 0, 0, 0];
     if let Answer::Refused(r) = a {
-        refuse(letter, r);
-        return;
+        return refuse(out, letter, r);
     }
     match kind {
         Kind::Dir => told(
+            out,
             letter,
             b" 1 0\x00\x01%",
             b" d\x00\x01 name$",
@@ -795,6 +903,7 @@ fn info(img: &[u8], m: Mount, letter: u8, cwd: &[u8], path: &[u8]) {
             o.len,
         ),
         Kind::File => told(
+            out,
             letter,
             b" 1 1\x00\x01%",
             b" f\x00\x01 name$",
@@ -803,6 +912,7 @@ fn info(img: &[u8], m: Mount, letter: u8, cwd: &[u8], path: &[u8]) {
             o.len,
         ),
         Kind::Device => told(
+            out,
             letter,
             b" 1 2\x00\x01%",
             b" v\x00\x01 name$",
@@ -814,7 +924,8 @@ fn info(img: &[u8], m: Mount, letter: u8, cwd: &[u8], path: &[u8]) {
 }
 
 // A listing into the first n bytes of a buffer that has so many.
-fn list_into(
+fn list_into<W: Write>(
+    out: &mut W,
     img: &[u8],
     m: Mount,
     letter: u8,
@@ -823,10 +934,9 @@ fn list_into(
     from: u32,
     n: usize,
     buf: &mut [u8],
-) {
+) -> io::Result<()> {
     if buf.len() < n {
-        put(b" unread");
-        return;
+        return put(out, b" unread");
     }
     let l = mfs::list(img, m.k, m.code, cwd, path, from, &mut buf[..n]);
     match l {
@@ -839,31 +949,42 @@ fn list_into(
                 0,
             ];
             told(
+                out,
                 letter,
                 b" 1\x00\x01\x03",
                 b"\x00 next\x01 changed\x02",
                 v,
                 b"",
                 0,
-            );
+            )
         }
         Listing::Refused(r) => {
-            refuse(letter, r);
+            refuse(out, letter, r)?;
             told(
+                out,
                 letter,
                 b"",
                 b" changed\x00",
                 [others(buf, 255), 0, 0, 0, 0],
                 b"",
                 0,
-            );
+            )
         }
     }
 }
 
-fn list(img: &[u8], m: Mount, letter: u8, cwd: &[u8], path: &[u8], v: Row) {
+fn list<W: Write>(
+    out: &mut W,
+    img: &[u8],
+    m: Mount,
+    letter: u8,
+    cwd: &[u8],
+    path: &[u8],
+    v: Row,
+) -> io::Result<()> {
     let mut buf = [255u8; 4096];
     list_into(
+        out,
         img,
         m,
         letter,
@@ -872,10 +993,11 @@ fn list(img: &[u8], m: Mount, letter: u8, cwd: &[u8], path: &[u8], v: Row) {
         (v.n[0] % 4_294_967_296) as u32,
         v.n[1] as usize,
         &mut buf,
-    );
+    )
 }
 
-fn path_call(
+fn path_call<W: Write>(
+    out: &mut W,
     img: &mut [u8],
     m: Mount,
     letter: u8,
@@ -883,19 +1005,21 @@ fn path_call(
     path: &[u8],
     v: Row,
     work: &mut [u8],
-) {
+) -> io::Result<()> {
     match letter {
-        b'i' | b'I' => info(img, m, letter, cwd, path),
-        b'l' | b'L' => list(img, m, letter, cwd, path, v),
+        b'i' | b'I' => info(out, img, m, letter, cwd, path),
+        b'l' | b'L' => list(out, img, m, letter, cwd, path, v),
         b'm' | b'M' => answer(
+            out,
             letter,
             mfs::create_dir(img, m.k, m.code, cwd, path, v.n[0], work),
         ),
         b'd' | b'D' => answer(
+            out,
             letter,
             mfs::delete(img, m.k, m.code, cwd, path, v.n[0], work),
         ),
-        _ => put(b" unread"),
+        _ => put(out, b" unread"),
     }
 }
 
@@ -909,16 +1033,16 @@ fn copy_first(dst: &mut [u8], src: &[u8], n: usize) {
 }
 
 // The bytes of text from `at` on, where they fit.
-fn lay(img: &mut [u8], at: u64, text: &[u8]) {
+fn lay<W: Write>(out: &mut W, img: &mut [u8], at: u64, text: &[u8]) -> io::Result<()> {
     let n = text.len();
     let from = at as usize;
     if from <= img.len() {
         if n <= img.len() - from {
             wire::copy(img, from, text, 0, n);
-            return;
+            return Ok(());
         }
     }
-    put(b" unread");
+    put(out, b" unread")
 }
 
 // The byte of the image that a block and an offset tell; one past every image where they are too large.
@@ -941,33 +1065,41 @@ fn shade(b: u8) -> u8 {
 }
 
 // 16 bytes of a work buffer from `from` on.
-fn put_shades(work: &[u8; 520], from: u64) {
+fn put_shades<W: Write>(out: &mut W, work: &[u8; 520], from: u64) -> io::Result<()> {
     if 504 < from {
-        return;
+        return Ok(());
     }
-    put(b" ");
+    put(out, b" ")?;
     let mut i = from as usize;
     let end = i + 16;
     while i < end {
-        put_byte(shade(work[i]));
+        put_byte(out, shade(work[i]))?;
         i += 1;
     }
+    Ok(())
 }
 
-fn check_first(img: &[u8], m: Mount, n: usize, work: &mut [u8]) {
+fn check_first<W: Write>(
+    out: &mut W,
+    img: &[u8],
+    m: Mount,
+    n: usize,
+    work: &mut [u8],
+) -> io::Result<()> {
     if n <= work.len() {
-        answer(b'T', mfs::check(img, m.k, m.code, &mut work[..n]));
+        answer(out, b'T', mfs::check(img, m.k, m.code, &mut work[..n]))?;
     }
+    Ok(())
 }
 
-fn test(img: &[u8], m: Mount, v: Row) {
+fn test<W: Write>(out: &mut W, img: &[u8], m: Mount, v: Row) -> io::Result<()> {
     let mut work = [165u8; 520];
     let n = v.n[0] as usize;
-    check_first(img, m, n, &mut work);
+    check_first(out, img, m, n, &mut work)?;
     if v.n[2] == 2 {
-        check_first(img, m, n, &mut work);
+        check_first(out, img, m, n, &mut work)?;
     }
-    put_shades(&work, v.n[1]);
+    put_shades(out, &work, v.n[1])
 }
 
 // The bytes of a block at a mount.
@@ -977,65 +1109,75 @@ fn block_bytes(m: Mount) -> u64
     if m.code == 1 { 1024 } else { 512 }
 }
 
-fn effect(img: &[u8], m: Mount, before: u64) {
+fn effect<W: Write>(out: &mut W, img: &[u8], m: Mount, before: u64) -> io::Result<()> {
     if recorded::digest(img) == before {
-        put(b" image kept used");
+        put(out, b" image kept used")?;
     } else {
-        put(b" image changed used");
+        put(out, b" image changed used")?;
     }
     let u = mfs::usage(img, m.k, m.code);
     match u {
-        Space::Bytes { size, used, free } => put_number(used / block_bytes(m)),
-        Space::Refused(r) => refuse(b'E', r),
+        Space::Bytes { size, used, free } => put_number(out, used / block_bytes(m))?,
+        Space::Refused(r) => refuse(out, b'E', r)?,
     }
-    put(b" check");
+    put(out, b" check")?;
     let mut work = [165u8; 513];
-    answer(b'E', mfs::check(img, m.k, m.code, &mut work));
+    answer(out, b'E', mfs::check(img, m.k, m.code, &mut work))
 }
 
-fn accept(len: u64, m: Mount) {
+fn accept<W: Write>(out: &mut W, len: u64, m: Mount) -> io::Result<()> {
     let o = SuperBlock::for_image(len as usize, m.k, m.code);
     match o {
-        Opened::At(_) => put(b" accepted"),
-        Opened::Refused(r) => refuse(b'A', r),
+        Opened::At(_) => put(out, b" accepted"),
+        Opened::Refused(r) => refuse(out, b'A', r),
     }
 }
 
 // The first n bytes, which are whole lines, on lines of their own.
-fn put_lines(text: &[u8], n: usize) {
+fn put_lines<W: Write>(out: &mut W, text: &[u8], n: usize) -> io::Result<()> {
     if 0 < n {
-        put(b"\n");
-        put_first(text, n - 1);
+        put(out, b"\n")?;
+        put_first(out, text, n - 1)?;
     }
+    Ok(())
 }
 
 // What lsmfs writes from entry number i on; the number after it.
-fn jot_page(img: &[u8], k: u32, more: bool, i: u32) -> u32 {
-    let mut out = [0u8; 3072];
-    let s = lsmfs_pages::say(img, k, more, i, &mut out);
-    put_lines(&out, s.len);
-    s.next
+fn jot_page<W: Write>(out: &mut W, img: &[u8], k: u32, more: bool, i: u32) -> io::Result<u32> {
+    let mut page = [0u8; 3072];
+    let s = lsmfs_pages::say(img, k, more, i, &mut page);
+    put_lines(out, &page, s.len)?;
+    Ok(s.next)
 }
 
 // Page after page, as lsmfs does.
-fn jot(img: &[u8], k: u32, more: bool) {
+fn jot<W: Write>(out: &mut W, img: &[u8], k: u32, more: bool) -> io::Result<()> {
     let mut i: u32 = 0;
-    let mut next = jot_page(img, k, more, 0);
+    let mut next = jot_page(out, img, k, more, 0)?;
     while i < next {
         i = next;
-        next = jot_page(img, k, more, i);
+        next = jot_page(out, img, k, more, i)?;
     }
+    Ok(())
 }
 
 // What is no call, on the image.
-fn image_step(img: &mut [u8], base: &mut [u8], letter: u8, b: &[u8], p: Row) {
+fn image_step<W: Write>(
+    out: &mut W,
+    img: &mut [u8],
+    base: &mut [u8],
+    letter: u8,
+    b: &[u8],
+    p: Row,
+) -> io::Result<()> {
     let n = img.len();
     match letter {
-        b'p' => lay(img, byte_of(p.n[0], p.n[1]), b),
-        b'P' => lay(img, p.n[0], b),
+        b'p' => lay(out, img, byte_of(p.n[0], p.n[1]), b)?,
+        b'P' => lay(out, img, p.n[0], b)?,
         b'B' => copy_first(base, img, n),
         _ => copy_first(img, base, n),
     }
+    Ok(())
 }
 
 // ---- steps
@@ -1070,7 +1212,8 @@ fn fresh(len: usize, m: Mount) -> State {
     }
 }
 
-fn slot_call(
+fn slot_call<W: Write>(
+    out: &mut W,
     img: &mut [u8],
     s: State,
     letter: u8,
@@ -1079,36 +1222,46 @@ fn slot_call(
     slot: u64,
     v: Row,
     work: &mut [u8],
-) -> State {
+) -> io::Result<State> {
     let mut t = s;
     if 3 < slot {
-        put(b" unread");
-        return t;
+        put(out, b" unread")?;
+        return Ok(t);
     }
     let i = slot as usize;
     let h = t.slots[i];
-    let g = handle_call(img, t.m, letter, h, a, b, v, work);
+    let g = handle_call(out, img, t.m, letter, h, a, b, v, work)?;
     t.slots[i] = g;
-    t
+    Ok(t)
 }
 
-fn image_call(img: &mut [u8], s: State, letter: u8, a: &[u8], b: &[u8], v: Row, work: &mut [u8]) {
+fn image_call<W: Write>(
+    out: &mut W,
+    img: &mut [u8],
+    s: State,
+    letter: u8,
+    a: &[u8],
+    b: &[u8],
+    v: Row,
+    work: &mut [u8],
+) -> io::Result<()> {
     let m = s.m;
     match letter {
-        b'f' | b'F' => answer(letter, mfs::format(img, m.k, m.code)),
-        b'u' | b'U' => usage(img, m, letter),
-        b'g' => put_number(recorded::digest(img)),
-        b'N' => put_number(others(img, 0)),
-        b'T' => test(img, m, v),
-        b'E' => effect(img, m, s.before),
-        b'A' => accept(v.n[0], m),
-        b'J' => jot(img, m.k, v.n[0] == 1),
-        _ => path_call(img, m, letter, a, b, v, work),
+        b'f' | b'F' => answer(out, letter, mfs::format(img, m.k, m.code)),
+        b'u' | b'U' => usage(out, img, m, letter),
+        b'g' => put_number(out, recorded::digest(img)),
+        b'N' => put_number(out, others(img, 0)),
+        b'T' => test(out, img, m, v),
+        b'E' => effect(out, img, m, s.before),
+        b'A' => accept(out, v.n[0], m),
+        b'J' => jot(out, img, m.k, v.n[0] == 1),
+        _ => path_call(out, img, m, letter, a, b, v, work),
     }
 }
 
 // A step on the image, which is the bytes of the volume alone.
-fn on_image(
+fn on_image<W: Write>(
+    out: &mut W,
     img: &mut [u8],
     base: &mut [u8],
     s: State,
@@ -1118,15 +1271,15 @@ fn on_image(
     p: Row,
     v: Row,
     work: &mut [u8],
-) -> State {
+) -> io::Result<State> {
     match letter {
         b'o' | b'c' | b'r' | b's' | b'w' | b'O' | b'C' | b'R' | b'S' | b'W' | b'H' => {
-            return slot_call(img, s, letter, a, b, p.n[0], v, work);
+            return slot_call(out, img, s, letter, a, b, p.n[0], v, work);
         }
-        b'p' | b'P' | b'B' | b'G' => image_step(img, base, letter, b, p),
-        _ => image_call(img, s, letter, a, b, v, work),
+        b'p' | b'P' | b'B' | b'G' => image_step(out, img, base, letter, b, p)?,
+        _ => image_call(out, img, s, letter, a, b, v, work)?,
     }
-    s
+    Ok(s)
 }
 
 // v BLOCKS K, and Volume BYTES K
@@ -1174,7 +1327,8 @@ fn quota(s: State, n: u64) -> State {
     t
 }
 
-fn perform(
+fn perform<W: Write>(
+    out: &mut W,
     img: &mut [u8],
     base: &mut [u8],
     s: State,
@@ -1183,12 +1337,12 @@ fn perform(
     b: &[u8],
     p: Row,
     v: Row,
-) -> State {
+) -> io::Result<State> {
     match letter {
-        b'v' | b'V' => return volume(img, s, letter, v),
-        b'K' => return keep(s, p.n[0], p.n[1]),
-        b'Q' => return quota(s, v.n[0]),
-        b'Y' => return yardstick(s, v.n[0]),
+        b'v' | b'V' => return Ok(volume(img, s, letter, v)),
+        b'K' => return Ok(keep(s, p.n[0], p.n[1])),
+        b'Q' => return Ok(quota(s, v.n[0])),
+        b'Y' => return Ok(yardstick(s, v.n[0])),
         _ => {}
     }
     let len = s.len;
@@ -1196,33 +1350,46 @@ fn perform(
     let mut work = [165u8; 1024];
     if len <= img.len() {
         if n <= 1024 {
-            return on_image(&mut img[..len], base, s, letter, a, b, p, v, &mut work[..n]);
+            return on_image(
+                out,
+                &mut img[..len],
+                base,
+                s,
+                letter,
+                a,
+                b,
+                p,
+                v,
+                &mut work[..n],
+            );
         }
     }
-    put(b" unread");
-    s
+    put(out, b" unread")?;
+    Ok(s)
 }
 
 // A line of the recorded list is printed up to its answers.
-fn echo(letter: u8, line: &[u8], next: usize) {
+fn echo<W: Write>(out: &mut W, letter: u8, line: &[u8], next: usize) -> io::Result<()> {
     if letter < 97 {
-        return;
+        return Ok(());
     }
-    put(b"\n");
+    put(out, b"\n")?;
     if 0 < next {
-        put_first(line, next - 1);
+        put_first(out, line, next - 1)?;
     }
+    Ok(())
 }
 
 // Reads a step's fields, and does it.
-fn step(
+fn step<W: Write>(
+    out: &mut W,
     img: &mut [u8],
     base: &mut [u8],
     text: &mut [u8],
     s: State,
     line: &[u8],
     at: usize,
-) -> State {
+) -> io::Result<State> {
     let letter = byte_at(line, at);
     let many = strings(letter);
     let p = read_row(line, word_end(line, at), numbers_before(letter));
@@ -1231,84 +1398,126 @@ fn step(
     let y = read_wanted(line, x.next, 0 < many, text);
     let v = read_row(line, y.next, numbers_after(letter));
     if v.next == 0 {
-        put(b" unread");
-        return s;
+        put(out, b" unread")?;
+        return Ok(s);
     }
-    echo(letter, line, v.next);
+    echo(out, letter, line, v.next)?;
     let n = x.len;
     let m = y.len;
-    perform(img, base, s, letter, &cwd[..n], &text[..m], p, v)
+    perform(out, img, base, s, letter, &cwd[..n], &text[..m], p, v)
 }
 
 // A step with a title before it.
-fn titled(
+fn titled<W: Write>(
+    out: &mut W,
     img: &mut [u8],
     base: &mut [u8],
     text: &mut [u8],
     s: State,
     line: &[u8],
     colon: usize,
-) -> State
+) -> io::Result<State>
     requires { colon < length line.now }
 {
-    put(b"\n");
-    put_first(line, colon + 1);
+    put(out, b"\n")?;
+    put_first(out, line, colon + 1)?;
     let mut t = s;
     t.before = digest_first(img, t.len);
-    step(img, base, text, t, line, colon + 2)
+    step(out, img, base, text, t, line, colon + 2)
 }
 
-fn follow(img: &mut [u8], base: &mut [u8], text: &mut [u8], s: State, line: &[u8]) -> State {
+fn follow<W: Write>(
+    out: &mut W,
+    img: &mut [u8],
+    base: &mut [u8],
+    text: &mut [u8],
+    s: State,
+    line: &[u8],
+) -> io::Result<State> {
     let first = byte_at(line, 0);
     if first == b'#' {
-        echo(b'a', line, line.len());
-        return s;
+        echo(out, b'a', line, line.len())?;
+        return Ok(s);
     }
     if first == NEWLINE {
-        return s;
+        return Ok(s);
     }
     let colon = title_end(line);
     if 0 < colon {
         if colon < line.len() {
-            return titled(img, base, text, s, line, colon);
+            return titled(out, img, base, text, s, line, colon);
         }
     }
-    step(img, base, text, s, line, 0)
+    step(out, img, base, text, s, line, 0)
 }
 
 // Line after line.
-fn follow_all(list: &[u8], img: &mut [u8], base: &mut [u8], text: &mut [u8]) {
+fn follow_all<W: Write>(
+    out: &mut W,
+    list: &[u8],
+    img: &mut [u8],
+    base: &mut [u8],
+    text: &mut [u8],
+) -> io::Result<()> {
     let mut s = fresh(0, Mount { k: 0, code: 0 });
     let mut at: usize = 0;
     while at < list.len() {
         let end = line_end(list, at);
-        s = follow(img, base, text, s, &list[at..end]);
+        s = follow(out, img, base, text, s, &list[at..end])?;
         at = end;
     }
-    put(b"\n");
+    put(out, b"\n")
+}
+
+// Reads until the buffer is full or the input ends; answers how many bytes were put at the buffer's start.
+fn read_full<R: Read>(input: &mut R, buf: &mut [u8]) -> io::Result<usize>
+    ensures { ReadsAtMost result buf.new }
+{
+    let mut done: usize = 0;
+    while done < buf.len() {
+        let n = input.read(&mut buf[done..])?;
+        if n == 0 {
+            break;
+        }
+        done += n;
+    }
+    Ok(done)
 }
 
 // Reads the script into the buffer and follows it. One that is too long is cut, and what it lacks is missing in what is printed.
-fn run(list: &mut [u8], img: &mut [u8], base: &mut [u8], text: &mut [u8]) {
-    put(b"What the steps answer");
-    let n = io::read_full(0, list);
-    follow_all(&list[..n], img, base, text);
+fn run<R: Read, W: Write>(
+    input: &mut R,
+    out: &mut W,
+    list: &mut [u8],
+    img: &mut [u8],
+    base: &mut [u8],
+    text: &mut [u8],
+) -> io::Result<()> {
+    put(out, b"What the steps answer")?;
+    let n = read_full(input, list)?;
+    follow_all(out, &list[..n], img, base, text)
 }
 
 // A function that makes so long an array and lends it as a slice cannot be proved: the slices are made one call below.
-fn lend(
+fn lend<R: Read, W: Write>(
+    input: &mut R,
+    out: &mut W,
     list: &mut [u8; 524288],
     img: &mut [u8; 2201600],
     base: &mut [u8; 65536],
     text: &mut [u8; 2201600],
-) {
-    run(list, img, base, text);
+) -> io::Result<()> {
+    run(input, out, list, img, base, text)
 }
 
-fn main() {
+fn main(rt: HostRuntime) -> io::Result<()> {
+    let mut input = rt.stdin();
+    let mut out = rt.stdout();
     let mut list = [0u8; 524288];
     let mut img = [0u8; 2201600];
     let mut base = [0u8; 65536];
     let mut text = [0u8; 2201600];
-    lend(&mut list, &mut img, &mut base, &mut text);
+    lend(
+        &mut input, &mut out, &mut list, &mut img, &mut base, &mut text,
+    )
 }

@@ -1,51 +1,76 @@
 // lsmfs: lists the root directory of the MFS volume on standard input, 65,536 bytes at most. What it writes is made by
-// lsmfs_pages::say.
+// lsmfs_pages::say. A read or a write that fails ends the program with its error.
 #![tactic(auto)]
+
+ghost use Rattle.std.specs.Io.{ReadsAtMost};
+
+use std::io;
+use std::io::{Read, Write};
 
 const K: u32 = 8;
 
 // Writes the first n bytes.
-fn put(text: &[u8], n: usize) {
+fn put<W: Write>(out: &mut W, text: &[u8], n: usize) -> io::Result<()> {
     if n <= text.len() {
-        io::write_all(1, &text[..n]);
+        out.write_all(&text[..n])?;
     }
+    Ok(())
 }
 
 // Writes what is to be said from entry number i on; answers the number after it.
-fn put_page(img: &[u8], more: bool, i: u32) -> u32 {
-    let mut out = [0u8; 3072];
-    let s = lsmfs_pages::say(img, K, more, i, &mut out);
-    put(&out, s.len);
-    s.next
+fn put_page<W: Write>(out: &mut W, img: &[u8], more: bool, i: u32) -> io::Result<u32> {
+    let mut page = [0u8; 3072];
+    let s = lsmfs_pages::say(img, K, more, i, &mut page);
+    put(out, &page, s.len)?;
+    Ok(s.next)
 }
 
 // Page after page, while they go on.
-fn put_root(img: &[u8], more: bool) {
+fn put_root<W: Write>(out: &mut W, img: &[u8], more: bool) -> io::Result<()> {
     let mut i: u32 = 0;
-    let mut next = put_page(img, more, 0);
+    let mut next = put_page(out, img, more, 0)?;
     while i < next {
         i = next;
-        next = put_page(img, more, i);
+        next = put_page(out, img, more, i)?;
     }
+    Ok(())
 }
 
-// Whether standard input goes on.
-fn goes_on() -> bool {
+// Reads until the buffer is full or the input ends; answers how many bytes were put at the buffer's start.
+fn read_full<R: Read>(input: &mut R, buf: &mut [u8]) -> io::Result<usize>
+    ensures { ReadsAtMost result buf.new }
+{
+    let mut done: usize = 0;
+    while done < buf.len() {
+        let n = input.read(&mut buf[done..])?;
+        if n == 0 {
+            break;
+        }
+        done += n;
+    }
+    Ok(done)
+}
+
+// Whether the input goes on.
+fn goes_on<R: Read>(input: &mut R) -> io::Result<bool> {
     let mut past = [0u8; 1];
-    io::read_full(0, &mut past) != 0
+    let n = read_full(input, &mut past)?;
+    Ok(n != 0)
 }
 
 // Reads an image into the buffer and writes what there is to say of it.
-fn run(img: &mut [u8]) {
-    let n = io::read_full(0, img);
+fn run<R: Read, W: Write>(input: &mut R, out: &mut W, img: &mut [u8]) -> io::Result<()> {
+    let n = read_full(input, img)?;
     let mut more = false;
     if n == img.len() {
-        more = goes_on();
+        more = goes_on(input)?;
     }
-    put_root(&img[..n], more);
+    put_root(out, &img[..n], more)
 }
 
-fn main() {
+fn main(rt: HostRuntime) -> io::Result<()> {
+    let mut input = rt.stdin();
+    let mut out = rt.stdout();
     let mut img = [0u8; 65536];
-    run(&mut img);
+    run(&mut input, &mut out, &mut img)
 }
