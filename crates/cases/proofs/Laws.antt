@@ -1,6 +1,5 @@
--- The prefixes that the program lends, and its numbers below 0.
+-- The program's numbers below 0.
 use mathlib.Core.Path.{◌≡◌, sym, ap, subst, ◌∙◌}
-use mathlib.Core.List.{List}
 use Prim.Native.Nat.{ℕ, zero, suc, ◌≤◌, ◌<◌}
 use native.Mathlib.Omega.{arith}
 use lib.IntN.{ℤ, pos, neg_ℤ, ◌-ℤ◌, +ℤ_idl}
@@ -8,12 +7,6 @@ use lib.Signed.{mag}
 use mir.Syntax.{w32, w64}
 use mir.Val.{SFits, of_z, to_z}
 use mir.Facts.{to_z-of_z, to_z_pos}
-use lib.ListN.{length, take}
-use lib.Seq.{length-take-le}
-
--- the first n bytes of a list are n
-part_length : (n : ℕ) (l : List ℕ) → n ≤ length l → n ≡ length (take n l)
-part_length n l h = sym (length-take-le n l h)
 
 -- ---- numbers below 0, in 64 bits and in 32
 
