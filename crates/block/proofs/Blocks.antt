@@ -86,6 +86,11 @@ module _ (B : ℕ) (I : List ℕ) (a : ℕ) (h : 4 ≤ B) (k : B * a + B ≤ len
   unfolding linked
   linked_kept v = rw (add-zero, length_bytes 4 v) at (splice_kept B I a 0 (bytes 4 v) (omega (arith, length_bytes 4 v)) k)
 
+-- a fill with 0 of as many bytes as k blocks have, from the first block's place on, zeroes them
+pub zeroed_is : (B a k at n : ℕ) (I J : List ℕ) → at ≡ B * a → n ≡ B * k → J ≡ splice I at (zeros n) → J ≡ zeroed B I a k
+unfolding zeroed
+zeroed_is B a k at n I J p q h = h ∙ ap (λ (x : ℕ). splice I x (zeros n)) p ∙ ap (λ (x : ℕ). splice I (B * a) (zeros x)) q
+
 -- a run of blocks zeroed
 module _ (B : ℕ) (I : List ℕ) (a n : ℕ) (k : B * a + B * n ≤ length I) where
   room : B * a + length (zeros (B * n)) ≤ length I

@@ -67,7 +67,7 @@ module _ (M : Mount) (I : List ℕ) (s : SuperBlock) (o : OpenedIs M I (opened.A
 
         work_is : Z ≡ work_after M I W
         unfolding work_after
-        work_is = z ∙ ap (λ (k : ℕ). splice W 0 (zeros k)) (sym e ∙ mark_long_lem) ∙ sym (settle-none _ _ call_none)
+        work_is = rw (settle-none _ W call_none) (search (z ∙ ap (λ (k : ℕ). splice W 0 (zeros k)) (sym e ∙ mark_long_lem)))
 
         pub call_whole : b ≡ true → Checked M I W (opened.At s) Z
         call_whole y = record { answer = (number_is ∙ when_false 17 (ap not y), o.1); work = work_is }

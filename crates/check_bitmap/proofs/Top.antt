@@ -1,5 +1,5 @@
 -- W1's superblock and W5's used count: the tests say exactly what the definitions of a volume do.
--- (That a well-formed image opens, and by which numbers, is `well-formed-opens` and `well-formed-geo` of model's OneVolume.)
+-- (That a well-formed image opens, and by which numbers, is `well_formed_opens` and `well_formed_geo` of model's OneVolume.)
 use mathlib.Core.Path.{◌≡◌, sym, ap, ◌∙◌, subst}
 use mathlib.Core.Bool.{true}
 use mathlib.Core.List.{List, [], ◌∷◌, ◌++◌}
@@ -12,7 +12,7 @@ use lib.Seq.{get_or-take, get_or-drop}
 use borrow.Author.Tests.{eqb-true, eq-eqb}
 use Rattle.wire.specs.Be.{be, bytes, zeros}
 use Rattle.wire.specs.Pick.{zero_from}
-use Rattle.wire.proofs.Numbers.{length_bytes, get_d_zeros}
+use Rattle.wire.proofs.Numbers.{length_bytes, get_or-zeros}
 use Rattle.wire.proofs.Picks.{same_eq}
 use Rattle.wire.proofs.Zeros.{zeros_shown, zeros_pass}
 use Rattle.model.specs.Tree.{Tree}
@@ -60,7 +60,7 @@ super_shown g I k u m a b z =
     shows_both I k (T ++ (N ++ U)) (zeros w) d
     (λ i h.
     let e : k + length (T ++ (N ++ U)) + i ≡ k + 18 + i = omega arith in
-    ap (λ (j : ℕ). get_or I j 0) e ∙ z i (omega arith) ∙ sym (get_d_zeros w i))
+    ap (λ (j : ℕ). get_or I j 0) e ∙ z i (omega arith) ∙ sym (get_or-zeros w i))
 
 -- An image that opens, and whose superblock ends in zeros, shows the superblock of its numbers and its used count.
 rest_shown : (M : Mount) (I : List ℕ) → open_refusal M I ≡ 0 → Bytes I → zero_from I (code_size M.code * M.K + 18) (code_size M.code - 18) ≡ true
@@ -81,7 +81,7 @@ rest_zeros g I k u s i h =
     let lt : length T ≡ 18 = omega arith in
     let e : k + 18 + i ≡ k + length T + i = omega arith in
     let lz : length (zeros (block_size g - length T)) ≡ block_size g - length T = length-replicate {A = ℕ} (block_size g - length T) 0 in
-    ap (λ (j : ℕ). get_or I j 0) e ∙ shows_two I k T (zeros (block_size g - length T)) s i (omega arith) ∙ get_d_zeros (block_size g - length T) i
+    ap (λ (j : ℕ). get_or I j 0) e ∙ shows_two I k T (zeros (block_size g - length T)) s i (omega arith) ∙ get_or-zeros (block_size g - length T) i
 
 -- ---- with the used count
 

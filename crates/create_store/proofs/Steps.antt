@@ -89,7 +89,7 @@ module _ (g : Geo) (I : List ℕ) (s : Sound g (length I)) (len : ℕ) where
   place_data Damaged q r = absurd q
 
   place_room : (t : Spot) → SpotIn (area_of g) len t → len ≤ 255 → (place_in g I t).offset + 18 + len ≤ block_size g - 5
-  place_room (In p) q r = q.2
+  place_room (In p) q r = omega (arith, q.2)
   place_room (After a) q r = omega (arith, size_large g)
   place_room Damaged q r = absurd q
 

@@ -7,7 +7,7 @@ use native.Mathlib.Omega.{arith}
 use lib.ListN.{length, get_or, take, drop, replicate, length-append, length-take, length-drop, length-replicate, get_or-append}
 use lib.Seq.{get_or-append-add}
 use Rattle.wire.specs.Be.{bytes, splice, zeros}
-use Rattle.wire.proofs.Numbers.{length_bytes, get_d_zeros, splice-append}
+use Rattle.wire.proofs.Numbers.{length_bytes, get_or-zeros, splice-append}
 use Rattle.block.specs.Block.{next, Off, Kept}
 use Rattle.block.proofs.Blocks.{kept_less, splice_kept, next_kept}
 use Rattle.model.specs.Render.{padded, Shows}
@@ -24,11 +24,11 @@ zeros_both k m i = go (dec_lt i k)
     lk = length-replicate k 0
 
     go : Dec (i < k) → get_or (zeros k ++ zeros m) i 0 ≡ 0
-    go (yes h) = get_or-append (zeros k) (zeros m) 0 i (omega (arith, lk)) ∙ get_d_zeros k i
+    go (yes h) = get_or-append (zeros k) (zeros m) 0 i (omega (arith, lk)) ∙ get_or-zeros k i
     go (no h) =
         let j : ℕ = i - length (zeros k) in
         let e : i ≡ length (zeros k) + j = omega (arith, lk) in
-        ap (λ (x : ℕ). get_or (zeros k ++ zeros m) x 0) e ∙ get_or-append-add (zeros k) (zeros m) j 0 ∙ get_d_zeros m j
+        ap (λ (x : ℕ). get_or (zeros k ++ zeros m) x 0) e ∙ get_or-append-add (zeros k) (zeros m) j 0 ∙ get_or-zeros m j
 
 module _ (B : ℕ) (I : List ℕ) (a o w : ℕ) (h : o + w ≤ B - 4) (large : 4 ≤ B) (inside : B * a + B ≤ length I) where
   -- what moves down
@@ -105,7 +105,7 @@ module _ (B : ℕ) (I : List ℕ) (a o w : ℕ) (h : o + w ≤ B - 4) (large : 4
       let j₄ : Shows J (B * a + (4 + o) + length high) (Z ++ zeros w) = shows_two J (B * a + (4 + o)) high (Z ++ zeros w) j₂ in
       let lzz : length (Z ++ zeros w) ≡ n = length-append Z (zeros w) ∙ omega (arith, length-replicate {A = ℕ} w 0) in
       let ln : length (zeros n) ≡ n = length-replicate n 0 in
-      let j₅ : Shows J (B * a + (4 + o) + length high) (zeros n) = λ i q. j₄ i (omega arith) ∙ zeros_both m w i ∙ sym (get_d_zeros n i) in
+      let j₅ : Shows J (B * a + (4 + o) + length high) (zeros n) = λ i q. j₄ i (omega arith) ∙ zeros_both m w i ∙ sym (get_or-zeros n i) in
       let j₆ : Shows J (B * a + (4 + o)) (high ++ zeros n) = shows_both J (B * a + (4 + o)) high (zeros n) j₃ j₅ in
       let q : B * a + (4 + o) ≡ B * a + length A = omega arith in
       let j₇ : Shows J (B * a) (A ++ (high ++ zeros n)) = shows_both J (B * a) A (high ++ zeros n) j₁ (subst (λ (j : ℕ). Shows J j (high ++ zeros n)) q j₆) in

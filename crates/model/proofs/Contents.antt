@@ -6,7 +6,7 @@ use Prim.Native.Nat.{ℕ, zero, suc, ◌+◌, ◌-◌, ◌*◌, ◌^◌, ◌/◌
 use native.Mathlib.Nat.{add_comm, mul-zero, mul-suc, mul-add, mul_comm, mul-le-mul_left, div-add-mod, mod-lt, div-lt_iff_lt-mul, div-eq_of_lt, div-le_self, add-mul-div_left, le-max_left, le-max_right, max-le}
 use native.Mathlib.Decide.{dec_lt}
 use native.Mathlib.Omega.{arith}
-use lib.ListN.{length, get_or, take, drop, length-append, length-drop, length-replicate, get_or-replicate, get_or-append, get_or-eq_default}
+use lib.ListN.{length, get_or, take, drop, length-append, length-drop, get_or-replicate, get_or-append, get_or-eq_default}
 use lib.Seq.{length-take-le, take-append-le, take_at, take-add, take-take, get_or-take, get_or-append-add}
 use Rattle.wire.specs.Be.{splice, zeros}
 use Rattle.wire.proofs.Numbers.{length-splice, splice-after}
@@ -16,6 +16,7 @@ use Rattle.model.specs.Tree.{Name, Cell, Node, file, device, sub, Entry, Block, 
 use Rattle.model.specs.Volume.{All, file_limit, blocks_for, GoodCell, GoodFile}
 use Rattle.model.specs.Calls.{file_of, file_at, stream, contents, places, chop, rewrite, refiled, rewritten}
 use Rattle.model.proofs.Lists.{not_some, then_some}
+use Rattle.model.proofs.Grown.{grown_bytes, length-grown_bytes}
 use Rattle.model.proofs.Dirs.{Keeps, lookup-change}
 use Rattle.model.proofs.Edits.{refiled_name, renewed_name}
 
@@ -113,13 +114,11 @@ module _ (B s c : ℕ) (free buf : List ℕ) (cs : List Cell) (five : 5 ≤ B) (
   long = length-take-le _ _ (rw (length-append, length-places cs) (omega arith))
 
   -- the old bytes with the new blocks' zeros
-  grown : List ℕ
-  grown = stream cs ++ zeros ((B - 4) * (blocks_for B (c + length buf) - length cs))
+  abbrev grown : List ℕ
+  grown = grown_bytes B c buf cs
 
   length-grown : length grown ≡ (B - 4) * length cs + (B - 4) * (blocks_for B (c + length buf) - length cs)
-  unfolding grown
-  length-grown = length-append (stream cs) (zeros ((B - 4) * (blocks_for B (c + length buf) - length cs)))
-      ∙ omega (arith, length-stream B cs good.cells, length-replicate {A = ℕ} ((B - 4) * (blocks_for B (c + length buf) - length cs)) 0)
+  length-grown = length-grown_bytes B c buf cs (length-stream B cs good.cells)
 
   wide : (B - 4) * blocks_for B (c + length buf) ≤ length grown
   wide = rw (length-grown, ← mul-add (B - 4) (length cs) (blocks_for B (c + length buf) - length cs)) (mul-le-mul_left (B - 4) (omega arith))
@@ -131,7 +130,7 @@ module _ (B s c : ℕ) (free buf : List ℕ) (cs : List Cell) (five : 5 ≤ B) (
   length-after = length-splice grown c buf inside_grown
 
   stream-rewrite : stream (rewrite B free c buf cs) ≡ take ((B - 4) * blocks_for B (c + length buf)) (splice grown c buf)
-  unfolding rewrite grown
+  unfolding rewrite grown_bytes
   stream-rewrite = stream-chop (B - 4) _ _ ∙ ap (λ (k : ℕ). take ((B - 4) * k) (splice grown c buf)) long
 
   -- The file keeps its first blocks, in order, and takes what is missing from the free ones, in their order.
@@ -146,12 +145,12 @@ module _ (B s c : ℕ) (free buf : List ℕ) (cs : List Cell) (five : 5 ≤ B) (
 
   -- It is a well-formed file again.
   pub rewrite_good : c + length buf ≤ file_limit → GoodFile B (c + length buf) (rewrite B free c buf cs)
-  unfolding rewrite grown
+  unfolding rewrite grown_bytes
   rewrite_good limit = record { limit = limit; long = rewrite-length; cells = good_chop B _ (splice grown c buf) (rw (long, length-after) wide) }
 
   -- An accepted write leaves the bytes before the position, then the buffer, and the file ends there.
   pub contents-rewrite : contents (c + length buf) (rewrite B free c buf cs) ≡ take c (contents s cs) ++ buf
-  unfolding contents splice grown
+  unfolding contents splice grown_bytes
   contents-rewrite =
       ap (take (c + length buf)) stream-rewrite
       ∙ take-take (c + length buf) ((B - 4) * blocks_for B (c + length buf)) (splice grown c buf) (blocks_enough B five (c + length buf))
@@ -161,7 +160,7 @@ module _ (B s c : ℕ) (free buf : List ℕ) (cs : List Cell) (five : 5 ≤ B) (
 
   -- Past the end no byte of a kept block changes, and those of a new block are 0 (as `get_or` gives past the old bytes).
   rewrite-past : (k : ℕ) → c + length buf ≤ k → k < (B - 4) * blocks_for B (c + length buf) → get_or (stream (rewrite B free c buf cs)) k 0 ≡ get_or (stream cs) k 0
-  unfolding grown
+  unfolding grown_bytes
   rewrite-past k h l =
       ap (λ (z : List ℕ). get_or z k 0) stream-rewrite
       ∙ get_or-take ((B - 4) * blocks_for B (c + length buf)) (splice grown c buf) k 0 l

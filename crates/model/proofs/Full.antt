@@ -8,7 +8,7 @@ use Prim.Native.Nat.{ℕ, zero, suc, ◌+◌, ◌-◌, ◌≤◌}
 use native.Mathlib.Omega.{arith}
 use lib.ListN.{length, length-append, length-replicate, get_or}
 use Rattle.wire.specs.Be.{bytes, zeros}
-use Rattle.wire.proofs.Numbers.{length_bytes, get_d_zeros}
+use Rattle.wire.proofs.Numbers.{length_bytes, get_or-zeros}
 use Rattle.wire.proofs.Picks.{either}
 use Rattle.model.specs.Tree.{Name, Cell, Node, file, device, sub, Entry, Block, Below, Tree, first, then, called, holds, lookup, used, inside, Some, find}
 use Rattle.model.specs.Render.{Piece, View, blocks_at, cells_at, padded, entries_bytes, cell_pieces, node_pieces, entry_pieces, dir_pieces, view, render}
@@ -88,7 +88,7 @@ zero_block B h = let e : B ≡ suc (suc (suc (suc (B - 4)))) = omega arith in ap
 pub zero_byte : (k i : ℕ) → get_or (bytes 4 0 ++ zeros k) i 0 ≡ 0
 zero_byte k i =
     let e : 4 + k - 4 ≡ k = omega arith in
-    ap (λ (j : ℕ). get_or (bytes 4 0 ++ zeros j) i 0) (sym e) ∙ ap (λ (l : List ℕ). get_or l i 0) (sym (zero_block (4 + k) (omega arith))) ∙ get_d_zeros (4 + k) i
+    ap (λ (j : ℕ). get_or (bytes 4 0 ++ zeros j) i 0) (sym e) ∙ ap (λ (l : List ℕ). get_or l i 0) (sym (zero_block (4 + k) (omega arith))) ∙ get_or-zeros (4 + k) i
 
 pub whole_cells : (B : ℕ) → 4 ≤ B → (cs : List Cell) → All (GoodCell B) cs → All (Whole B) (cell_pieces cs)
 unfolding cell_pieces

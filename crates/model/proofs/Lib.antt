@@ -22,6 +22,7 @@ pub mod Versions
 pub mod Opens
 pub mod OneVolume
 pub mod Levels
+pub mod Grown
 pub mod Contents
 pub mod Free
 pub mod Makes

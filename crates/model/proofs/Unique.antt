@@ -6,7 +6,7 @@ use native.Mathlib.Omega.{arith}
 use lib.ListN.{length, get_or, take, drop, length-append}
 use lib.Seq.{take_at, drop_at, ext_get_or, get_or_at}
 use Rattle.wire.specs.Be.{zeros, be, bytes}
-use Rattle.wire.proofs.Numbers.{get_d_zeros, length_bytes, be_bytes}
+use Rattle.wire.proofs.Numbers.{get_or-zeros, length_bytes, be_bytes}
 use Rattle.model.specs.Tree.{Cell, Node, file, device, sub, Entry, Block, Below, Tree}
 use Rattle.model.specs.Render.{Piece, View, blocks_at, cells_at, padded, kind_of, address_of, size_of, entry_bytes, entries_bytes, cell_pieces, node_pieces, entry_pieces, dir_pieces, view, render, ShowsAll, Shows, ats, count}
 use Rattle.model.specs.Geometry.{Geo, block_size}
@@ -131,11 +131,11 @@ module _ {X : Type 0} (B : ℕ) (S : X → Type 0) (v : View X) where
   twins [] [] k j g h q = tt
   twins [] (f ∷ fs) k j g h q =
       let q₁ : zeros k ≡ entry_bytes v f ++ (entries_bytes v fs ++ zeros j) = q ∙ append_assoc (entry_bytes v f) (entries_bytes v fs) (zeros j) in
-      let z : 0 ≡ length f.name = sym (get_d_zeros k 17) ∙ ap (λ (l : List ℕ). get_or l 17 0) q₁ ∙ name_byte f _ in
+      let z : 0 ≡ length f.name = sym (get_or-zeros k 17) ∙ ap (λ (l : List ℕ). get_or l 17 0) q₁ ∙ name_byte f _ in
       absurd (omega (arith, h.0.good_name.some_bytes, z))
   twins (e ∷ es) [] k j g h q =
       let q₁ : entry_bytes v e ++ (entries_bytes v es ++ zeros k) ≡ zeros j = sym (append_assoc (entry_bytes v e) (entries_bytes v es) (zeros k)) ∙ q in
-      let z : 0 ≡ length e.name = sym (get_d_zeros j 17) ∙ ap (λ (l : List ℕ). get_or l 17 0) (sym q₁) ∙ name_byte e _ in
+      let z : 0 ≡ length e.name = sym (get_or-zeros j 17) ∙ ap (λ (l : List ℕ). get_or l 17 0) (sym q₁) ∙ name_byte e _ in
       absurd (omega (arith, g.0.good_name.some_bytes, z))
   twins (e ∷ es) (f ∷ fs) k j g h q =
       let t = twin_of e f (entries_bytes v es ++ zeros k) (entries_bytes v fs ++ zeros j) g.0.clock h.0.clock

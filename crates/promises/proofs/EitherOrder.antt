@@ -156,7 +156,7 @@ module _ (M : Mount) (I : List ℕ) (w : WellFormed M I) (h k : Handle) (f : Fil
   one = record { work = a.before₁; after = a.after₁; call = a.writes_first; count = a.count₁; said = a.accepts_first }
 
   two : Accepted M a.middle k y s a.second J
-  two = record { work = a.before₂; after = a.after₂; call = a.writes_second; count = a.count₂; said = a.accepts_second }
+  two = record { work = a.before₂; after = a.after₂; call = a.writes_second; count = a.count₂; said = search a.accepts_second }
 
   between : WellFormed M a.middle
   between = well M I h x r a.first a.middle one clock₁ w
@@ -200,7 +200,7 @@ same_file h buf now p z cs t u a b =
       cells = a.cells;
       others = b.cells;
       in_one = a.is;
-      in_other = b.is;
+      in_other = search b.is;
       same_bytes = b.bytes ∙ sym a.bytes;
     }
 

@@ -72,9 +72,9 @@ module _ (M : Mount) (I J : List ℕ) (w : WellFormed M I) (v : WellFormed M J) 
       record {
         same_file = f;
         same_device = d;
-        same_bytes = λ z k cs h. cells_same (block_size (geo_at M I)) I J cs
+        same_bytes = λ z k cs h b i l r. cells_same (block_size (geo_at M I)) I J cs
             (cells_shown (geo_at M I) I max_depth w.tree _ (volume_at M I w).laid q m z k cs h)
-            (cells_shown (geo_at M J) J max_depth v.tree _ (volume_at M J v).laid q m z k cs (still z k cs h));
+            (cells_shown (geo_at M J) J max_depth v.tree _ (volume_at M J v).laid q m z k cs (still z k cs h)) b i (search l) r;
       }
     where
       still : (z k : ℕ) (cs : List Cell) → (file_at max_depth q m w.tree ≡ some (z, k, cs)) ⊎ (device_at max_depth q m w.tree ≡ some (z, k, cs))

@@ -156,7 +156,7 @@ module _ (M : Mount) (a : ℕ) (p : List Name) (n : Name) (I J : List ℕ) (w : 
       go (inl e) =
           let m = write_tree M I W h buf now o J Z c e.0 w clock e.1 in
           written_next now h.position buf
-          (subst (λ (m : Name). TreeWrites (geo_at M I) max_depth p m now h.position buf w.tree I J) l.name
+          (subst (λ (m : Name). TreeWrites (geo_at M I) max_depth p m now h.position buf w.tree I J) {x = name_of h} {y = n} (search l.name)
           (subst (λ (q : List Name). TreeWrites (geo_at M I) max_depth q (name_of h) now h.position buf w.tree I J)
           (path_of h.dir.0 m.0 l.dir m.1) m.2))
           (λ b. write_bytes M I W h buf now o J Z c e.0 b d e.1)

@@ -9,8 +9,8 @@ use Rattle.promises.proofs.Kept.{write_others, create_file_others, create_dir_ot
 use Rattle.promises.proofs.Well.{format_well, file_well, dir_well, deleted_well, written_well, check_well}
 use Rattle.promises.proofs.Well.{format_used, create_file_used, create_dir_used, delete_used, write_used}
 
--- D1 is `one_outcome` and `refusal-keeps`, of Once; S6 is `calls-are-exact`, of Called, and S7 `check-is-exact`, of Checks.
--- D2 is `refusal-is-exact` and `room-is-exact`, of Refusals, and S5 `work_is_done`, of Work.
+-- D1 is `one_outcome` and `refusal_keeps`, of Once; S6 is `calls_are_exact`, of Called, and S7 `check_is_exact`, of Checks.
+-- D2 is `refusal_is_exact` and `room_is_exact`, of Refusals, and S5 `work_is_done`, of Work.
 
 -- S1.
 pub stays_well : StaysWell

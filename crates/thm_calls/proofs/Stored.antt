@@ -9,7 +9,7 @@ use lib.Dec.{eqb, ltb}
 use lib.ListN.{length, get_or, take, drop, set}
 use Rattle.wire.specs.Be.{bytes, splice, zeros}
 use Rattle.wire.specs.Pick.{pick, zero_from}
-use Rattle.wire.proofs.Numbers.{get_d_zeros}
+use Rattle.wire.proofs.Numbers.{get_or-zeros}
 use Rattle.bits.specs.Bit.{digit, with_digit, with_bit}
 use Rattle.block.specs.Block.{linked, zeroed, next}
 use Rattle.model.specs.Tree.{Name}
@@ -74,7 +74,7 @@ bytes_set (x ∷ l) (suc k) v h b zero = b 0
 bytes_set (x ∷ l) (suc k) v h b (suc i) = bytes_set l k v h (λ j. b (suc j)) i
 
 bytes_zeros : (n : ℕ) → Bytes (zeros n)
-bytes_zeros n i = omega (arith, get_d_zeros n i)
+bytes_zeros n i = omega (arith, get_or-zeros n i)
 
 bytes_splice : (l : List ℕ) (at : ℕ) (vs : List ℕ) → Bytes l → Bytes vs → Bytes (splice l at vs)
 unfolding splice

@@ -14,8 +14,8 @@ use Rattle.wire.specs.Be.{be, bytes, splice, zeros}
 -- ---- zeros
 
 -- zeros are zero at every place, and past their end
-pub get_d_zeros : (k i : ℕ) → ◌≡◌ {A = ℕ} (get_or (zeros k) i 0) 0
-get_d_zeros k i = go (dec_lt i k)
+pub get_or-zeros : (k i : ℕ) → ◌≡◌ {A = ℕ} (get_or (zeros k) i 0) 0
+get_or-zeros k i = go (dec_lt i k)
   where
     go : Dec (i < k) → ◌≡◌ {A = ℕ} (get_or (zeros k) i 0) 0
     go (yes h) = get_or-replicate k i 0 0 h

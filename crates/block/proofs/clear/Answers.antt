@@ -1,6 +1,5 @@
-use Rattle.block.specs.Block.{zeroed}
+use Rattle.block.proofs.Blocks.{zeroed_is}
 use Rattle.block.proofs.clear.Goals as goal
 
 pub returns : goal.returns
-unfolding zeroed
-returns c = cc
+returns c = search zeroed_is
