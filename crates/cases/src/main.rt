@@ -41,10 +41,7 @@
 // A read or a write that fails ends the program with its error.
 #![tactic(auto)]
 
-ghost use Rattle.std.specs.Prelude.{◌≡◌, ◌≤◌, ◌<◌, length, drop, All, OnOk};
-ghost use Rattle.cases.specs.Counts.{IsPrefixLen};
-ghost use Rattle.cases.specs.Digits.{IsDigit, value_after};
-ghost use Rattle.std.specs.Io.{ReadsAtMost};
+ghost use Rattle.std.specs.Prelude.{◌≡◌, ◌≤◌, ◌<◌, length, take, OnOk};
 ghost use Rattle.std.specs.Io.KnownBytes.{Appends};
 
 use block::Addr;
@@ -101,30 +98,8 @@ fn put_byte<W: Write>(out: &mut W, b: u8) -> io::Result<()> {
     put(out, &one)
 }
 
-// The decimal digits of a number, one at least, at the end of the buffer; answers where they begin.
-fn decimal(n: u64, digits: &mut [u8; 20]) -> usize
-    ensures some { result < 20 }
-    ensures digits { All IsDigit (drop result digits.new) }
-    ensures value { value_after 0 (drop result digits.new) ≡ n }
-{
-    let mut rest = n;
-    let mut from: usize = 20;
-    while 0 < from {
-        from -= 1;
-        digits[from] = 48 + (rest % 10) as u8;
-        rest /= 10;
-        if rest == 0 {
-            return from;
-        }
-    }
-    from
-}
-
 fn put_number<W: Write>(out: &mut W, n: u64) -> io::Result<()> {
-    put(out, b" ")?;
-    let mut digits = [0u8; 20];
-    let from = decimal(n, &mut digits);
-    put(out, &digits[from..])
+    write!(out, " {n}")
 }
 
 // A long name is told by its length.
@@ -499,7 +474,8 @@ fn no_text(next: usize) -> Text
 
 // The string at a place, into a buffer that has room for it.
 fn read_text(line: &[u8], at: usize, out: &mut [u8]) -> Text
-    ensures { IsPrefixLen result.len out.new }
+    ensures within { result.len ≤ length out.new }
+    ensures prefix { result.len ≡ length (take result.len out.new) }
 {
     let mut quoted = false;
     let mut last: u8 = 0;
@@ -527,7 +503,8 @@ fn read_text(line: &[u8], at: usize, out: &mut [u8]) -> Text
 
 // The same where a string is wanted.
 fn read_wanted(line: &[u8], at: usize, wanted: bool, out: &mut [u8]) -> Text
-    ensures { IsPrefixLen result.len out.new }
+    ensures within { result.len ≤ length out.new }
+    ensures prefix { result.len ≡ length (take result.len out.new) }
 {
     if wanted {
         if 0 < at {
@@ -1469,21 +1446,6 @@ fn follow_all<W: Write>(
     put(out, b"\n")
 }
 
-// Reads until the buffer is full or the input ends; answers how many bytes were put at the buffer's start.
-fn read_full<R: Read>(input: &mut R, buf: &mut [u8]) -> io::Result<usize>
-    ensures { ReadsAtMost result buf.new }
-{
-    let mut done: usize = 0;
-    while done < buf.len() {
-        let n = input.read(&mut buf[done..])?;
-        if n == 0 {
-            break;
-        }
-        done += n;
-    }
-    Ok(done)
-}
-
 // Reads the script into the buffer and follows it. One that is too long is cut, and what it lacks is missing in what is printed.
 fn run<R: Read, W: Write>(
     input: &mut R,
@@ -1494,7 +1456,7 @@ fn run<R: Read, W: Write>(
     text: &mut [u8],
 ) -> io::Result<()> {
     put(out, b"What the steps answer")?;
-    let n = read_full(input, list)?;
+    let n = input::read_full(input, list)?;
     follow_all(out, &list[..n], img, base, text)
 }
 

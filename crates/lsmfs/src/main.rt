@@ -2,8 +2,6 @@
 // lsmfs_pages::say. A read or a write that fails ends the program with its error.
 #![tactic(auto)]
 
-ghost use Rattle.std.specs.Io.{ReadsAtMost};
-
 use std::io;
 use std::io::{Read, Write};
 
@@ -36,31 +34,16 @@ fn put_root<W: Write>(out: &mut W, img: &[u8], more: bool) -> io::Result<()> {
     Ok(())
 }
 
-// Reads until the buffer is full or the input ends; answers how many bytes were put at the buffer's start.
-fn read_full<R: Read>(input: &mut R, buf: &mut [u8]) -> io::Result<usize>
-    ensures { ReadsAtMost result buf.new }
-{
-    let mut done: usize = 0;
-    while done < buf.len() {
-        let n = input.read(&mut buf[done..])?;
-        if n == 0 {
-            break;
-        }
-        done += n;
-    }
-    Ok(done)
-}
-
 // Whether the input goes on.
 fn goes_on<R: Read>(input: &mut R) -> io::Result<bool> {
     let mut past = [0u8; 1];
-    let n = read_full(input, &mut past)?;
+    let n = input::read_full(input, &mut past)?;
     Ok(n != 0)
 }
 
 // Reads an image into the buffer and writes what there is to say of it.
 fn run<R: Read, W: Write>(input: &mut R, out: &mut W, img: &mut [u8]) -> io::Result<()> {
-    let n = read_full(input, img)?;
+    let n = input::read_full(input, img)?;
     let mut more = false;
     if n == img.len() {
         more = goes_on(input)?;

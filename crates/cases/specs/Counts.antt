@@ -1,6 +1,0 @@
--- What the contracts of what is read into a buffer cite.
-use Rattle.std.specs.Prelude.{◌≡◌, ℕ, ◌≤◌, List, length, take}
-
--- `&xs[..n]` is in bounds and has n bytes. The second part follows from the first, and spares a caller's `&buf[..n]` a proof.
-abbrev pub IsPrefixLen : ℕ → List ℕ → Type 0
-IsPrefixLen n xs = (n ≤ length xs) × (n ≡ length (take n xs))
