@@ -59,6 +59,19 @@ def snake(part):
     return re.sub(r'(?<=[a-z0-9])([A-Z])', lambda m: '_' + m.group(1).lower(), part)
 
 
+KIT = re.compile(r'^\s*(?:ghost )?use ([^\s{]+)\.\{([^}]*)\}', re.M)
+
+
+def brought(text):
+    """The names that a file imports from elsewhere than the repository's crates."""
+    found = set()
+    for m in KIT.finditer(text):
+        head = m.group(1).split('.')
+        if not (head[0] == 'Rattle' and head[1] in crates):
+            found |= {x.split(' as ')[-1].strip() for x in m.group(2).split(',')}
+    return found
+
+
 def falls_as_field(kinds, old, new):
     return kinds[old] == {'member'} or kinds.get(new) == {'member'}
 
@@ -103,14 +116,9 @@ def main():
             if new + '_lem' in back:
                 print('falls together:', new + '_lem', sorted(names))
                 bad += 1
-    kit = re.compile(r'^\s*(?:ghost )?use ([^\s{]+)\.\{([^}]*)\}', re.M)
     changed = {}
     for p, t in texts.items():
-        foreign = set()
-        for m in kit.finditer(t):
-            head = m.group(1).split('.')
-            if not (head[0] == 'Rattle' and head[1] in crates):
-                foreign |= {x.split(' as ')[-1].strip() for x in m.group(2).split(',')}
+        foreign = brought(t)
         out = []
         for line in t.split('\n'):
             mark = '//' if p.endswith('.rt') else '--'

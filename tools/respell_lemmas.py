@@ -69,14 +69,9 @@ def main():
     if bad:
         print('%d names: nothing was written' % bad)
         return 1
-    kit = re.compile(r'^\s*(?:ghost )?use ([^\s{]+)\.\{([^}]*)\}', re.M)
     changed = 0
     for p, t in texts.items():
-        foreign = set()
-        for m in kit.finditer(t):
-            head = m.group(1).split('.')
-            if not (head[0] == 'Rattle' and head[1] in respell.crates):
-                foreign |= {x.split(' as ')[-1].strip() for x in m.group(2).split(',')}
+        foreign = respell.brought(t)
         new = ''.join(table[b] if b in table and b not in foreign else b for b in respell.SEP.split(t))
         if new != t:
             changed += 1
