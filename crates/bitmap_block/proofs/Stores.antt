@@ -243,11 +243,6 @@ module _ (g : Geo) (I : List ℕ) (s : Sound g (length I)) (x : ℕ) (h : data_a
     unfolding set_of
     set_used = used_marked g zero_of zero_sound x h v ∙ used_kept g I s _ zero_of zero_kept (λ o _ _. inl (omega (arith, (area g (length I) s).maps)))
 
-    -- (the same on the way, in the definition's own words)
-    pub length_half : length (marked g (zeroed (block_size g) I (data_at g + x) 1) x v) ≡ length I
-    unfolding set_of zero_of
-    length_half = set_kept.size ∙ zero_kept.size
-
     pub used_half : used_count g (marked g (zeroed (block_size g) I (data_at g + x) 1) x v) ≡ used_count g I
     unfolding set_of zero_of
     used_half = set_used

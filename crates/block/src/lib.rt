@@ -9,7 +9,7 @@ ghost use Rattle.block.specs.Block.{BlockSize, next, linked, zeroed};
 pub const BLOCK_SIZE: u32 = 512;
 
 // A block counted from the start of the image.
-#[derive(Clone, Copy)]
+#[derive(Clone, Copy, PartialEq, Eq)]
 pub struct Addr(pub u32);
 
 // A block counted from the start of the data area.
@@ -50,9 +50,7 @@ pub fn clear(img: &mut [u8], size: u32, a: Addr, k: u32)
     requires k_in_bounds { size * a.0 + size * k ≤ length img.old }
     ensures { img.new ≡ zeroed size img.old a.0 k }
 {
-    let at = offset(size, a);
-    let n = offset(size, Addr(k));
-    wire::fill(img, at, n, 0);
+    wire::fill(img, offset(size, a), offset(size, Addr(k)), 0);
 }
 
 // A block of a chain: a next address, then data bytes to the block's end.
@@ -86,9 +84,7 @@ impl LinkedBlock {
         requires size_in_bounds { self.size * self.addr.0 + self.size ≤ length img.now }
         ensures { result.0 ≡ next self.size img.now self.addr.0 }
     {
-        let a = self.addr;
-        let at = offset(self.size, a);
-        Addr(wire::get32(img, at))
+        Addr(wire::get32(img, offset(self.size, self.addr)))
     }
 
     pub fn set_next_addr(self, img: &mut [u8], to: Addr)
@@ -96,8 +92,6 @@ impl LinkedBlock {
         requires size_in_bounds { self.size * self.addr.0 + self.size ≤ length img.old }
         ensures { img.new ≡ linked self.size img.old self.addr.0 to.0 }
     {
-        let a = self.addr;
-        let at = offset(self.size, a);
-        wire::put(img, at, 4, to.0 as u64);
+        wire::put(img, offset(self.size, self.addr), 4, u64::from(to.0));
     }
 }

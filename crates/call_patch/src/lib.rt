@@ -5,8 +5,25 @@
 ghost use Rattle.model.specs.Geometry.{mount};
 ghost use Rattle.call_patch.specs.Patches.{Patches};
 
-use handle::{Counted, CountedOut, Handle};
-use super_block::Opened;
+use handle::{CountedOut, Handle};
+use limits::Refusal;
+
+// Patches on a volume that is checked first: the handle is moved where the patch is not refused.
+fn patch_on(
+    img: &mut [u8],
+    k: u32,
+    code: u32,
+    handle: &mut Handle,
+    buf: &[u8],
+    time: u64,
+    work: &mut [u8],
+) -> Result<usize, Refusal>
+    ensures { Patches (mount k code) img.old work.old handle.old buf.now time
+        (record { answer = result; handle = handle.new }) img.new work.new }
+{
+    let s = call_volume::open_checked(img, k, code, work)?;
+    patch::patch(handle, img, s, buf, time)
+}
 
 // Puts buf over the file's bytes from the handle's position on; the file keeps its size. Refusals: 1, 2, 3, 16, 17, 13, 11, 19; a
 // refused patch hands back the very handle.
@@ -14,7 +31,7 @@ pub fn patch(
     img: &mut [u8],
     k: u32,
     code: u32,
-    handle: Handle,
+    mut handle: Handle,
     buf: &[u8],
     time: u64,
     work: &mut [u8],
@@ -23,12 +40,6 @@ pub fn patch(
         img.new
         work.new }
 {
-    let checked = call_volume::open_checked(img, k, code, work);
-    match checked {
-        Opened::Refused(r) => CountedOut {
-            answer: Counted::Refused(r),
-            handle,
-        },
-        Opened::At(s) => patch::patch(handle, img, s, buf, time),
-    }
+    let answer = patch_on(img, k, code, &mut handle, buf, time, work);
+    CountedOut { answer, handle }
 }

@@ -6,7 +6,6 @@ use mathlib.Core.List.{List, [], ◌∷◌, ◌++◌}
 use Prim.Native.Nat.{ℕ, ◌+◌, ◌-◌, ◌^◌, ◌%◌, ◌≤◌, ◌<◌}
 use native.Mathlib.Nat.{mod-lt}
 use native.Mathlib.Omega.{arith}
-use native.Mathlib.Decide.{ℕ_discrete}
 use lib.Dec.{eqb}
 use borrow.Author.Tests.{not-true, eq-eqb}
 use Rattle.wire.specs.Pick.{same}
@@ -105,16 +104,6 @@ abbrev pub Tested : Bool → List Name → ℕ → ℕ → Type 0
 Tested t xs m k = (j : ℕ) → j < k → (t && distinct_in m j xs) ≡ true
 
 module _ (t : Bool) (xs : List Name) (m k : ℕ) where
-  pub tested_none : k ≡ 0 → Tested t xs m k
-  tested_none e j l = absurd (omega arith)
-
-  pub tested_more : (r : Bool) → Tested t xs m k → r ≡ (t && distinct_in m k xs) → r ≡ true → Tested t xs m (k + 1)
-  tested_more r v e u j l = go (ℕ_discrete j k)
-    where
-      go : Dec (j ≡ k) → (t && distinct_in m j xs) ≡ true
-      go (yes q) = ap (λ (i : ℕ). t && distinct_in m i xs) q ∙ sym e ∙ u
-      go (no n) = v j (omega arith)
-
   pub tested_all : Tested t xs m k → 0 < m → m ≤ k → true ≡ (t && distinct xs)
   tested_all v h l =
       let all : (j : ℕ) → j < m → (t ≡ true) × (distinct_in m j xs ≡ true)

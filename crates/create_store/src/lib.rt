@@ -12,68 +12,57 @@ ghost use Rattle.own_entry.specs.Own.{OwnIn};
 ghost use Rattle.create_store.specs.Create.{used_at, spot_for, needed, SpotIn, block_taken, opened, place_in, entered, inserted, inserted_at};
 
 use block::{Addr, Index, LinkedBlock};
-use dir_entry::{DirEntry, Kind, Slot};
-use own_entry::Own;
+use dir_entry::{DirEntry, Kind};
+use limits::Damage;
 use read_dir::Place;
-use super_block::SuperBlock;
+use super_block::{SuperBlock, Volume};
 
 // Where a new entry goes: at a place of the directory, or into a new block after its last one.
 #[derive(Clone, Copy)]
 pub enum Spot {
     In(Place),
     After(Addr),
-    Damaged,
 }
 
 // The offset where a block's entries stop.
-fn used_bytes(img: &[u8], size: u32, block: Addr) -> usize
-    requires block_size { BlockSize size }
-    requires size_in_bounds { size * block.0 + size ≤ length img.now }
-    ensures { (result ≡ used_at size img.now block.0) × (result ≤ size - 5) }
+fn used_bytes(v: Volume, block: Addr) -> usize
+    requires { v.s.size * block.0 + v.s.size ≤ length v.img.now }
+    ensures { (result ≡ used_at v.entry.s.size v.entry.img.now block.0) × (result ≤ v.entry.s.size - 5) }
 {
+    let block = LinkedBlock::new(v.s.size, block);
     let mut at: usize = 0;
-    loop {
-        match DirEntry::decode(img, LinkedBlock::new(size, block), at) {
-            Slot::Stop => return at,
-            Slot::Entry(e) => {
-                at = at + DirEntry::HEADER + (e.len as usize);
-            }
-        }
+    while let Some(e) = DirEntry::decode(v.img, block, at) {
+        at += DirEntry::HEADER + usize::from(e.len);
     }
+    at
 }
 
 // The first block of the chain with room for a name of len bytes, else its last one. Each is looked at before it is read.
-pub fn spot_for(img: &[u8], s: SuperBlock, dir: Addr, len: usize) -> Spot
-    requires fit { Fit s img.now }
-    requires len_bound { len ≤ 255 }
-    ensures { result ≡ spot_for (area_in s) img.now dir.0 len }
+pub fn spot_for(v: Volume, dir: Addr, len: usize) -> Result<Spot, Damage>
+    requires { len ≤ 255 }
+    ensures { result ≡ spot_for (area_in v.entry.s) v.entry.img.now dir.0 len }
 {
-    let d = s.area;
+    let d = v.s.area;
+    let capacity = (v.s.size - LinkedBlock::LINK) as usize;
     let mut b = dir;
-    let mut left = s.blocks - d.0;
-    let capacity = (s.size - LinkedBlock::LINK) as usize;
-    while 0 < left {
-        if b.0 < d.0 {
-            return Spot::Damaged;
+    for _ in d.0..v.s.blocks {
+        if !v.has(b) {
+            return Err(Damage);
         }
-        if s.blocks <= b.0 {
-            return Spot::Damaged;
-        }
-        let used = used_bytes(img, s.size, b);
+        let used = used_bytes(v, b);
         if used + DirEntry::HEADER + len <= capacity - 1 {
-            return Spot::In(Place {
+            return Ok(Spot::In(Place {
                 block: b,
                 offset: used,
-            });
+            }));
         }
-        let next = LinkedBlock::new(s.size, b).next_addr(img);
+        let next = v.next_addr(b);
         if next.0 == 0 {
-            return Spot::After(b);
+            return Ok(Spot::After(b));
         }
         b = next;
-        left -= 1;
     }
-    Spot::Damaged
+    Err(Damage)
 }
 
 // How many blocks an entry at that spot takes.
@@ -83,7 +72,6 @@ pub fn blocks_needed(spot: Spot) -> u32
     match spot {
         Spot::In(_) => 1,
         Spot::After(_) => 2,
-        Spot::Damaged => 0,
     }
 }
 
@@ -122,15 +110,8 @@ fn open_place(img: &mut [u8], s: SuperBlock, spot: Spot, len: usize) -> Place
 {
     match spot {
         Spot::In(p) => p,
-        Spot::After(a) => {
-            let b = grow(img, s, a);
-            Place {
-                block: b,
-                offset: 0,
-            }
-        }
-        Spot::Damaged => Place {
-            block: Addr(0),
+        Spot::After(last) => Place {
+            block: grow(img, s, last),
             offset: 0,
         },
     }
@@ -178,7 +159,7 @@ pub fn insert(
     s: SuperBlock,
     dir: Addr,
     spot: Spot,
-    own: Own,
+    own: Option<Place>,
     kind: Kind,
     name: &[u8],
     time: u64,

@@ -1,7 +1,9 @@
 -- What the code of a delete needs and gives: one law for each place.
-use mathlib.Core.Path.{◌≡◌, refl, sym, ap, ◌∙◌}
+use mathlib.Core.Path.{◌≡◌, sym, ap, ◌∙◌}
 use mathlib.Core.Bool.{Bool, true, false}
+use mathlib.Core.Logic.{◌⊎◌, inl, inr}
 use mathlib.Core.List.{List}
+use Rattle.std.specs.Prelude.{Some, None}
 use Prim.Native.Nat.{ℕ, suc, ◌+◌, ◌-◌, ◌*◌, ◌≤◌, ◌<◌}
 use native.Mathlib.Omega.{arith}
 use lib.ListN.{length, take, drop}
@@ -13,73 +15,63 @@ use Rattle.block.specs.Block.{next, linked}
 use Rattle.model.specs.Geometry.{block_size, data_at}
 use Rattle.super_block.specs.declared.SuperBlock.{SuperBlock}
 use Rattle.super_block.specs.Super.{geo_of, Fit}
-use Rattle.super_block.proofs.Fits.{fit_long, fit_inside}
+use Rattle.super_block.proofs.Fits.{fit_long}
 use Rattle.dir_entry.specs.declared.DirEntry.{DirEntry}
 use Rattle.dir_entry.specs.Entry.{header, place_at}
 use Rattle.read_dir.specs.declared.Place.{Place}
-use Rattle.own_entry.specs.declared.Own.{Own}
-use Rattle.own_entry.specs.declared.Own.TheVariants.{Root, At}
-use Rattle.own_entry.specs.Own.{OwnIn, sum_renewed}
+use Rattle.own_entry.specs.Own.{Own, OwnIn, sum_renewed}
 use Rattle.chain_store.specs.Chain.{released, chain_freed}
 use Rattle.delete_store.specs.Delete.{after, cut_out, before_from, unlinked, less_bare, entry_gone, removed}
 
 -- ---- what calls ask
 
 pub own_still : (B : ℕ) (I J L : List ℕ) (o : Own) → OwnIn B I o → length J ≡ length I → length L ≡ length J → OwnIn B L o
-own_still B I J L Root h e f = tt
-own_still B I J L (At p) h e f = (omega (arith, h.0), h.1)
+own_still B I J L None h e f = tt
+own_still B I J L (Some p) h e f = (omega (arith, h.0), h.1)
 
 pub fit_twice : (s : SuperBlock) (I J L : List ℕ) → Fit s I → length J ≡ length I → length L ≡ length J → Fit s L
 fit_twice s I J L f d e = fit_long (e ∙ d) f
 
--- the data bytes of a block of the volume are in the image
-pub bare_inside : (s : SuperBlock) (I : List ℕ) (at b : ℕ) → Fit s I → at ≡ place_at s.size b 0 → b < s.blocks
-    → at + (s.size - 4) ≤ length I
-bare_inside s I at b f e h = omega (arith, f.known.least, fit_inside s I I b b f refl refl h)
+-- ---- the block before: after i of e rounds, which began at D, what is left to walk is what was to be walked
 
--- ---- the block before: what is left to walk is what was to be walked
-
-module _ (B n : ℕ) (I : List ℕ) (left a b r : ℕ) (v : before_from B n I left a b ≡ r) where
-  pub before_end : left ≤ 0 → a ≡ r
+module _ (B n : ℕ) (I : List ℕ) (e i a b r : ℕ) (v : before_from B n I (e - i) a b ≡ r) where
+  pub before_end : e ≤ i → a ≡ r
   unfolding before_from
-  before_end h = let e : left ≡ 0 = omega arith in sym (ap (λ (k : ℕ). before_from B n I k a b) e) ∙ v
+  before_end h = let z : e - i ≡ 0 = omega arith in sym (ap (λ (k : ℕ). before_from B n I k a b) z) ∙ v
 
-  step_before : 0 < left → before_from B n I left a b ≡ before_from B n I (suc (left - 1)) a b
-  step_before h = let e : left ≡ suc (left - 1) = omega arith in ap (λ (k : ℕ). before_from B n I k a b) e
+  module _ (more : i < e) (to : ℕ) (x : to ≡ next B I a) where
+    one : before_from B n I (e - i) a b ≡ before_from B n I (suc (e - (i + 1))) a b
+    one = let z : e - i ≡ suc (e - (i + 1)) = omega arith in ap (λ (j : ℕ). before_from B n I j a b) z
 
-  module _ (more : 0 < left) (d c to : ℕ) (x : to ≡ next d I c) (k : d ≡ B) (y : c ≡ a) where
     reads : next B I a ≡ to
-    reads = sym (x ∙ (λ i. next (k i) I (y i)))
+    reads = sym x
 
-    pub before_here : to ≡ b → a ≡ r
+    pub before_stop : (to ≡ b) ⊎ ((to ≡ b → ⊥) × (n ≤ to)) → a ≡ r
     unfolding before_from
-    before_here e = sym (step_before more ∙ pick_true _ _ (eq-eqb (next B I a) b (reads ∙ e))) ∙ v
-
-    pub before_out : (to ≡ b → ⊥) → n ≤ to → a ≡ r
-    unfolding before_from
-    before_out e h =
-        sym (step_before more ∙ pick_false _ _ (ne_eqb (next B I a) b (λ w. e (sym reads ∙ w)))
+    before_stop (inl q) = sym (one ∙ pick_true _ _ (eq-eqb (next B I a) b (reads ∙ q))) ∙ v
+    before_stop (inr (q, h)) =
+        sym (one ∙ pick_false _ _ (ne_eqb (next B I a) b (λ w. q (sym reads ∙ w)))
         ∙ pick_true _ _ (le-leb n (next B I a) (omega (arith, reads)))) ∙ v
 
-    pub before_more : (to ≡ b → ⊥) → to < n → before_from B n I (left - 1) to b ≡ r
+    pub before_more : (to ≡ b → ⊥) → to < n → before_from B n I (e - (i + 1)) to b ≡ r
     unfolding before_from
-    before_more e h =
-        ap (λ (z : ℕ). before_from B n I (left - 1) z b) (sym reads)
-        ∙ sym (step_before more ∙ pick_false _ _ (ne_eqb (next B I a) b (λ w. e (sym reads ∙ w)))
+    before_more q h =
+        ap (λ (z : ℕ). before_from B n I (e - (i + 1)) z b) (sym reads)
+        ∙ sym (one ∙ pick_false _ _ (ne_eqb (next B I a) b (λ w. q (sym reads ∙ w)))
         ∙ pick_false _ _ (lt-leb n (next B I a) (omega (arith, reads)))) ∙ v
 
 -- ---- a block that is emptied
 
--- m and c, k and a are the sizes and the addresses of the linked blocks that code makes
-pub unlink_is : (s : SuperBlock) (I J L : List ℕ) (dir b to last k a m c : ℕ) → Fit s I → to ≡ next m I c → m ≡ s.size → c ≡ b
+-- k and a are the size and the address of the linked block that code makes
+pub unlink_is : (s : SuperBlock) (I J L : List ℕ) (dir b to last k a : ℕ) → Fit s I → to ≡ next s.size I b
     → last ≡ before_from s.size s.blocks I (s.blocks - s.area.0) dir b → k ≡ s.size → a ≡ last → J ≡ linked k I a to
     → L ≡ released (geo_of s) J b → L ≡ unlinked (geo_of s) I dir b
 unfolding unlinked
-unlink_is s I J L dir b to last k a m c f x u y z v w j l =
+unlink_is s I J L dir b to last k a f x z v w j l =
     let B : ℕ = block_size (geo_of s) in
     let p : last ≡ before_from B s.blocks I (s.blocks - data_at (geo_of s)) dir b
     = z ∙ (λ i. before_from (f.size i) s.blocks I (s.blocks - f.area i) dir b) in
-    let q : to ≡ next B I b = x ∙ (λ i. next ((u ∙ f.size) i) I (y i)) in
+    let q : to ≡ next B I b = x ∙ ap (λ (m : ℕ). next m I b) f.size in
     l ∙ ap (λ (K : List ℕ). released (geo_of s) K b) (j ∙ (λ i. linked ((v ∙ f.size) i) I ((w ∙ p) i) (q i)))
 
 module _ (s : SuperBlock) (I : List ℕ) (dir b : ℕ) where

@@ -14,28 +14,29 @@ ghost use Rattle.call_patch.specs.Patches.{Patches};
 ghost use Rattle.call_volume.specs.Checking.{Checks};
 ghost use Rattle.call_volume.specs.Format.{Formats, Uses};
 
-use call_read::{InfoOut, Listing, OpenOut};
-use call_room::RoomOut;
+use bitmap_room::Told;
+use call_read::{InfoOut, OpenOut};
 use call_volume::Space;
 use handle::{CountedOut, Handle, SeekFrom, Sought};
-use limits::Answer;
+use limits::Refusal;
+use read_dir::Listed;
 
 // Makes the whole image a volume with an empty root directory. Refusals: 1, 3.
-pub fn format(img: &mut [u8], k: u32, code: u32) -> Answer
+pub fn format(img: &mut [u8], k: u32, code: u32) -> Result<(), Refusal>
     ensures { Formats (mount k code) img.old result img.new }
 {
     call_volume::format(img, k, code)
 }
 
 // How much of the volume is used. Refusals: 1, 2, 3, 17.
-pub fn usage(img: &[u8], k: u32, code: u32) -> Space
+pub fn usage(img: &[u8], k: u32, code: u32) -> Result<Space, Refusal>
     ensures { Uses (mount k code) img.now result }
 {
     call_volume::usage(img, k, code)
 }
 
 // Whether so many blocks are free within reach, and how many bytes of the bitmap were read to tell. Refusals: 1, 2, 3.
-pub fn room(img: &[u8], k: u32, code: u32, count: u32) -> RoomOut
+pub fn room(img: &[u8], k: u32, code: u32, count: u32) -> Result<Told, Refusal>
     ensures { Asks (mount k code) img.now count result }
 {
     call_room::room(img, k, code, count)
@@ -43,7 +44,7 @@ pub fn room(img: &[u8], k: u32, code: u32, count: u32) -> RoomOut
 
 // Whether the image is a well-formed volume, W1 to W5. One bit a block is marked in the work buffer, and is zero again
 // afterwards. Refusals: 1, 2, 3, 16, 17.
-pub fn check(img: &[u8], k: u32, code: u32, work: &mut [u8]) -> Answer
+pub fn check(img: &[u8], k: u32, code: u32, work: &mut [u8]) -> Result<(), Refusal>
     ensures { Checks (mount k code) img.now work.old result work.new }
 {
     call_volume::check(img, k, code, work)
@@ -72,7 +73,7 @@ pub fn list(
     path: &[u8],
     i: u32,
     buf: &mut [u8],
-) -> Listing
+) -> Result<Listed, Refusal>
     ensures { Lists (mount k code) img.now cwd.now path.now i buf.old result
         buf.new }
 {
@@ -118,7 +119,7 @@ pub fn create_dir(
     path: &[u8],
     time: u64,
     work: &mut [u8],
-) -> Answer
+) -> Result<(), Refusal>
     ensures { CreatesDir (mount k code) img.old work.old cwd.now
         path.now time result img.new work.new }
 {
@@ -134,7 +135,7 @@ pub fn delete(
     path: &[u8],
     time: u64,
     work: &mut [u8],
-) -> Answer
+) -> Result<(), Refusal>
     ensures { Deletes (mount k code) img.old work.old cwd.now path.now time result
         img.new work.new }
 {

@@ -7,30 +7,28 @@ use Rattle.super_block.specs.declared.SuperBlock.{SuperBlock}
 use Rattle.super_block.specs.Super.{area_in, geo_of, Fit}
 use Rattle.super_block.proofs.Fits.{area_is}
 use Rattle.read_dir.specs.declared.Place.{Place}
-use Rattle.read_dir.specs.declared.Summed.{Summed}
-use Rattle.read_dir.specs.declared.Summed.TheVariants.{Total, Damaged}
+use Rattle.std.specs.Prelude.{Some, Result, Ok, Err}
+use Rattle.limits.specs.declared.Damage.{Damage}
 use Rattle.read_dir.specs.Walk.{walk}
 use Rattle.read_dir.specs.Finds.{sum_from}
-use Rattle.own_entry.specs.declared.Own.{Own}
-use Rattle.own_entry.specs.declared.Own.TheVariants.{At}
-use Rattle.own_entry.specs.Own.{OwnIn, own_renewed, own_summed, sum_renewed}
+use Rattle.own_entry.specs.Own.{Own, OwnIn, own_renewed, own_summed, sum_renewed}
 
-module _ (B : ℕ) (I : List ℕ) (o : Own) (p : Place) (e : o ≡ At p) where
-  pub own_at : OwnIn B I o → OwnIn B I (At p)
+module _ (B : ℕ) (I : List ℕ) (o : Own) (p : Place) (e : o ≡ Some p) where
+  pub own_at : OwnIn B I o → OwnIn B I (Some p)
   own_at h = subst (OwnIn B I) e h
 
-  pub renewed_at_lem : (J : List ℕ) (z k : ℕ) → J ≡ own_renewed B I (At p) z k → J ≡ own_renewed B I o z k
+  pub renewed_at_lem : (J : List ℕ) (z k : ℕ) → J ≡ own_renewed B I (Some p) z k → J ≡ own_renewed B I o z k
   renewed_at_lem J z k h = h ∙ ap (λ (x : Own). own_renewed B I x z k) (sym e)
 
 -- ---- the sum of the directory
 
-module _ (s : SuperBlock) (I : List ℕ) (dir : ℕ) (own : Own) (time : ℕ) (r : Summed) (f : Fit s I) (e : r ≡ sum_from 0 (walk (area_in s) I dir)) where
+module _ (s : SuperBlock) (I : List ℕ) (dir : ℕ) (own : Own) (time : ℕ) (r : Result ℕ Damage) (f : Fit s I) (e : r ≡ sum_from 0 (walk (area_in s) I dir)) where
   renewed_by : own_summed s.size I own time r ≡ sum_renewed (geo_of s) I dir own time
   unfolding sum_renewed
   renewed_by = ap (own_summed s.size I own time) e ∙ ap (λ (A : Area). own_summed A.size I own time (sum_from 0 (walk A I dir))) (area_is f)
 
-  pub sum_told : (J : List ℕ) (z : ℕ) → r ≡ Total z → J ≡ own_renewed s.size I own z time → J ≡ sum_renewed (geo_of s) I dir own time
+  pub sum_told : (J : List ℕ) (z : ℕ) → r ≡ Ok z → J ≡ own_renewed s.size I own z time → J ≡ sum_renewed (geo_of s) I dir own time
   sum_told J z q h = h ∙ ap (own_summed s.size I own time) (sym q) ∙ renewed_by
 
-  pub sum_damaged : r ≡ Damaged → I ≡ sum_renewed (geo_of s) I dir own time
-  sum_damaged q = ap (own_summed s.size I own time) (sym q) ∙ renewed_by
+  pub sum_damaged : (x : Damage) → r ≡ Err x → I ≡ sum_renewed (geo_of s) I dir own time
+  sum_damaged x q = ap (own_summed s.size I own time) (sym q) ∙ renewed_by

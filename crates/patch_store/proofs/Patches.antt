@@ -16,7 +16,7 @@ use Rattle.dir_entry.specs.declared.DirEntry.{DirEntry}
 use Rattle.dir_entry.specs.Shown.{head_of}
 use Rattle.read_dir.specs.declared.Place.{Place}
 use Rattle.thm_walk.specs.Shown.{spot_of}
-use Rattle.own_entry.specs.declared.Own.TheVariants as own
+use Rattle.std.specs.declared.option.Option.TheVariants as option
 use Rattle.own_entry.specs.Own.{own_renewed}
 use Rattle.write_store.specs.Write.{resized, spread, wrote, HeldCells, CanWrite}
 use Rattle.write_store.proofs.Resizes.{resized_same}
@@ -91,8 +91,8 @@ module _ (g : Geo) (I : List ℕ) (t : Tree max_depth) (p : List Name) (n : Name
       = ap (λ (a : ℕ). spread B I a c buf (blocks_for B (c + length buf))) head_addr
       ∙ sym (tail-spread g I v.laid.sound z cs good held c buf some_bytes inside)
       ∙ ap (λ (a : ℕ). spread B I a c vs m) (sym head_addr) in
-      (λ i. own_renewed B (bytes i) (own.At at) ((head_size ∙ sym whole_end) i) now)
-      ∙ ap (λ (J : List ℕ). own_renewed B (spread B J e.addr.0 c vs m) (own.At at) (c + length vs) now) old
+      (λ i. own_renewed B (bytes i) (option.Some at) ((head_size ∙ sym whole_end) i) now)
+      ∙ ap (λ (J : List ℕ). own_renewed B (spread B J e.addr.0 c vs m) (option.Some at) (c + length vs) now) old
 
   -- C19: for every well-formed volume and every file in it, the image that `patch` leaves (its contract) is that of `TreePatches`.
   pub patched_is : (now : ℕ) → now < 2 ^ 64 → TreePatches g max_depth p n now c buf t I (patched g I e at c buf now)

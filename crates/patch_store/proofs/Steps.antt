@@ -13,7 +13,7 @@ use Rattle.super_block.specs.Super.{geo_of, Fit}
 use Rattle.super_block.proofs.Fits.{fit_inside}
 use Rattle.dir_entry.specs.declared.DirEntry.{DirEntry}
 use Rattle.read_dir.specs.declared.Place.{Place}
-use Rattle.own_entry.specs.declared.Own.TheVariants as own
+use Rattle.std.specs.declared.option.Option.TheVariants as option
 use Rattle.own_entry.specs.Own.{OwnIn, own_renewed}
 use Rattle.write_store.specs.Write.{Along, spread}
 use Rattle.write_store.proofs.Hops.{along_less}
@@ -22,7 +22,7 @@ use Rattle.patch_store.specs.Patch.{patched, CanPatch}
 
 module _ (s : SuperBlock) (I : List ℕ) (f : Fit s I) (e : DirEntry) (p : Place) (c len : ℕ) (w : CanPatch (geo_of s) I e p c len) where
   -- the entry lies in the image, which keeps its length
-  pub entry_in_lem : (L : List ℕ) → length L ≡ length I → OwnIn s.size L (own.At p)
+  pub entry_in_lem : (L : List ℕ) → length L ≡ length I → OwnIn s.size L (option.Some p)
   entry_in_lem L k = (fit_inside s I L p.block.0 p.block.0 f k refl w.entry.block, omega (arith, w.entry.fits, f.size))
 
   module _ (m : ℕ) (n : m ≡ blocks_for s.size (c + len)) where
@@ -48,9 +48,9 @@ module _ (s : SuperBlock) (I : List ℕ) (f : Fit s I) (e : DirEntry) (p : Place
 -- the stores, one after the other
 pub patch_is : (s : SuperBlock) (I J L : List ℕ) (e : DirEntry) (p : Place) (c : ℕ) (vs : List ℕ) (time m : ℕ)
     → Fit s I → m ≡ blocks_for s.size (c + length vs) → J ≡ spread s.size I e.addr.0 c vs m
-    → L ≡ own_renewed s.size J (own.At p) e.size time → L ≡ patched (geo_of s) I e p c vs time
+    → L ≡ own_renewed s.size J (option.Some p) e.size time → L ≡ patched (geo_of s) I e p c vs time
 unfolding patched
 patch_is s I J L e p c vs time m f n j l =
     let y : m ≡ blocks_for (block_size (geo_of s)) (c + length vs) = n ∙ ap (λ (B : ℕ). blocks_for B (c + length vs)) f.size in
-    l ∙ (λ i. own_renewed (f.size i) (j i) (own.At p) e.size time)
-    ∙ (λ i. own_renewed (block_size (geo_of s)) (spread (f.size i) I e.addr.0 c vs (y i)) (own.At p) e.size time)
+    l ∙ (λ i. own_renewed (f.size i) (j i) (option.Some p) e.size time)
+    ∙ (λ i. own_renewed (block_size (geo_of s)) (spread (f.size i) I e.addr.0 c vs (y i)) (option.Some p) e.size time)

@@ -14,12 +14,12 @@ use Rattle.limits.specs.Refusals.{refusal_number}
 use Rattle.bitmap_block.specs.Bitmap.{clears}
 use Rattle.bitmap_block.proofs.Stores.{volume_clears}
 use Rattle.bitmap_room.specs.declared.Told.{Told}
-use Rattle.call_room.specs.declared.RoomOut.{RoomOut}
-use Rattle.call_room.specs.declared.RoomOut.TheVariants.{Known, Refused}
 use Rattle.bitmap_room.specs.Search.{room_in}
 use Rattle.call_room.specs.Room.{Asks}
 use Rattle.call_room.proofs.Means.{room_enough, room_fewest, room_all}
 use Rattle.promises.specs.Room.{RoomIsTold}
+use Rattle.std.specs.Prelude.{Result, Ok, Err}
+use Rattle.limits.specs.declared.Refusal.{Refusal}
 
 -- a refusal's number
 refusal_is : {A : Type 0} (k : ℕ) (a : A) (j : ℕ) → refused j ≡ reply k a → (1 ≤ j) × (k ≡ j)
@@ -28,9 +28,9 @@ refusal_is zero a j e = let z : ◌≡◌ {A = ℕ} 0 1 = cc in absurd (omega ar
 refusal_is (suc k) a j e = let n : j ≡ suc k = cc in (omega arith, sym n)
 
 -- none, and a value is answered
-known_is : (M : Mount) (I : List ℕ) (k : ℕ) (r : RoomOut) → Asks M I k r → open_refusal M I ≡ 0 → (t : Told) × (r ≡ Known t)
-known_is M I k (Known t) a z = (t, refl)
-known_is M I k (Refused x) a z = absurd (not_accepted (refusal_number x) (room_in (geo_at M I) I k) (a ∙ reply-none _ z))
+known_is : (M : Mount) (I : List ℕ) (k : ℕ) (r : Result Told Refusal) → Asks M I k r → open_refusal M I ≡ 0 → (t : Told) × (r ≡ Ok t)
+known_is M I k (Ok t) a z = (t, refl)
+known_is M I k (Err x) a z = absurd (not_accepted (refusal_number x) (room_in (geo_at M I) I k) (a ∙ reply-none _ z))
 
 -- the tree's free blocks are the clear ones
 free_is : (M : Mount) (I : List ℕ) (w : WellFormed M I) → clears (geo_at M I) I ≡ free_blocks (geo_at M I) max_depth w.tree

@@ -20,12 +20,10 @@ use Rattle.model.proofs.Others.{name_or, other_file}
 use Rattle.model.proofs.Replies.{settle-none}
 use Rattle.handle.specs.declared.Handle.{Handle}
 use Rattle.handle.specs.declared.CountedOut.{CountedOut}
-use Rattle.handle.specs.declared.Counted.TheVariants as counted
 use Rattle.handle.specs.Handles.{name_of}
 use Rattle.handle.specs.OnTree.{FileIn, OnFile}
 use Rattle.write_store.proofs.Writes.{good_file}
 use Rattle.write.specs.Writing.{count_of}
-use Rattle.write.specs.Written.{counted_says}
 use Rattle.patch_store.specs.Torn.{Arrived, Mixture}
 use Rattle.patch_store.proofs.Mixes.{same_first}
 use Rattle.patch_store.proofs.Tails.{overlaid-places}
@@ -38,7 +36,7 @@ use Rattle.thm_calls.proofs.Changing.{volume_at, tree_after, write_tree}
 use Rattle.thm_calls.proofs.Patching.{patch_passed, patch_on, patch_tree, patch_writes}
 use Rattle.promises.specs.Torn.{entry_of, PatchStays, Torn, TornPatch}
 use Rattle.promises.specs.Work.{FileOf}
-use Rattle.promises.proofs.Answered.{count_said}
+use Rattle.limits.proofs.Said.{said_ok}
 use Rattle.promises.proofs.Done.{file_of_lem}
 use Rattle.promises.proofs.EitherOrder.{path_one, OneFile, file_one}
 use Rattle.promises.proofs.Files.{file_there}
@@ -46,6 +44,8 @@ use Rattle.promises.proofs.Handles.{in_file, file_entry_lem}
 use Rattle.promises.proofs.Patched.{file_patched, patch_others}
 use Rattle.promises.proofs.Starts.{dir_stays}
 use Rattle.promises.proofs.UsedMoves.{used_moves}
+use Rattle.std.specs.Prelude.{Ok}
+use Rattle.limits.specs.Says.{says}
 
 -- ---- a handle and its file
 
@@ -74,9 +74,9 @@ on_from M J v j q s k cs f e =
 -- ---- S15
 
 module _ (M : Mount) (I W : List ℕ) (h : Handle) (buf : List ℕ) (now : ℕ) (o : CountedOut) (J Z : List ℕ) (c : Patches M I W h buf now o J Z) (k : ℕ)
-    (said : counted_says o.answer ≡ accepted k) where
-  counts : o.answer ≡ counted.Bytes k
-  counts = count_said o.answer k said
+    (said : says o.answer ≡ accepted k) where
+  counts : o.answer ≡ Ok k
+  counts = said_ok o.answer k said
 
   module _ (w : WellFormed M I) where
     abbrev able : Patchable max_depth w.tree h (length buf)

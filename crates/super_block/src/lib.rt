@@ -2,20 +2,21 @@
 // Only this crate computes D and the reach; all others take them from the struct.
 #![tactic(auto)]
 
-ghost use Rattle.std.specs.Prelude.{◌≡◌, ◌+◌, ◌-◌, ◌*◌, ◌/◌, ◌≤◌, ◌<◌, min, eqb, length};
+ghost use Rattle.std.specs.Prelude.{◌≡◌, ◌+◌, ◌-◌, ◌*◌, ◌/◌, ◌≤◌, eqb, leb, ltb, ◌&&◌, ◌<◌, length};
 ghost use Rattle.wire.specs.Pick.{pick};
-ghost use Rattle.block.specs.Block.{BlockSize};
+ghost use Rattle.block.specs.Block.{BlockSize, next};
 ghost use Rattle.model.specs.Geometry.{mount, numbered, code_size, last_code, rest, bad_image, bad_version, bad_mark, bad_count, used_count};
+ghost use Rattle.super_block.specs.One.{fit_is_one};
 ghost use Rattle.super_block.specs.Super.{geo_of, super_block, Fair, Fit, OpenedIs, MadeIs, counted, super_written};
 
-use block::Addr;
+use block::{Addr, LinkedBlock};
 use limits::Refusal;
 
 // Bytes of the largest image.
 const MAX_IMAGE: usize = 4_294_967_296;
 
 // The letters that a superblock begins with.
-const SIGNATURE: [u8; 8] = [77, 79, 82, 79, 83, 32, 70, 83];
+const SIGNATURE: [u8; 8] = *b"MOROS FS";
 
 // The version that is written, and the one before it, which is read too.
 const VERSION: u8 = 2;
@@ -45,24 +46,12 @@ pub struct SuperBlock {
     pub reach: u32,
 }
 
+// An image with the numbers of its volume, which fit: every block of the volume lies in the image.
 #[derive(Clone, Copy)]
-pub enum Opened {
-    At(SuperBlock),
-    Refused(Refusal),
-}
-
-// The smaller of two numbers.
-fn least(a: u32, b: u32) -> u32
-    ensures { result ≡ min a b }
-{
-    if a < b { a } else { b }
-}
-
-// A byte as a number of four bytes.
-fn wide(x: u8) -> u32
-    ensures { result ≡ x }
-{
-    x as u32
+pub struct Volume<'a> {
+    pub img: &'a [u8],
+    pub s: SuperBlock,
+    ghost fit: { Fit s img.now } by { fit_is_one s img.now },
 }
 
 // The bytes of a block.
@@ -71,9 +60,10 @@ fn block_size(code: u32) -> u32
     ensures { (result ≡ code_size code) × BlockSize result }
 {
     if code == 0 {
-        return block::BLOCK_SIZE;
+        block::BLOCK_SIZE
+    } else {
+        2 * block::BLOCK_SIZE
     }
-    2 * block::BLOCK_SIZE
 }
 
 // Refusal 1, by the image's length alone.
@@ -98,13 +88,11 @@ fn bad_image(len: usize, k: u32, code: u32) -> bool
 fn bad_version(v: u8, code: u32) -> bool
     ensures { result ≡ bad_version v code }
 {
-    if v == VERSION {
-        return false;
+    match v {
+        VERSION => false,
+        OLD_VERSION => code != 0,
+        _ => true,
     }
-    if v != OLD_VERSION {
-        return true;
-    }
-    code != 0
 }
 
 // Refusal 2.
@@ -117,24 +105,14 @@ fn bad_mark(img: &[u8], k: u32, code: u32) -> bool
     if !wire::same_bytes(img, at, &SIGNATURE) {
         return true;
     }
-    let c = img[at + 9];
-    let v = img[at + 8];
-    if wide(c) != code {
-        return true;
-    }
-    bad_version(v, code)
+    u32::from(img[at + 9]) != code || bad_version(img[at + 8], code)
 }
 
 // The blocks from the bitmap on.
 fn after_bitmap(n: u32, k: u32) -> u32
     ensures { result ≡ n - (k + 2) }
 {
-    let a = (k as u64) + 2;
-    let n = n as u64;
-    if n < a {
-        return 0;
-    }
-    (n - a) as u32
+    n.saturating_sub(k).saturating_sub(2)
 }
 
 // Refusal 3.
@@ -164,9 +142,10 @@ fn map_blocks(left: u32, span: u32, v: u8) -> u32
     ensures { result ≡ pick (eqb v 1) (left / (span + 1)) ((left + span) / (span + 1)) }
 {
     if v == OLD_VERSION {
-        return left / (span + 1);
+        left / (span + 1)
+    } else {
+        (left + span) / (span + 1)
     }
-    (left + span) / (span + 1)
 }
 
 impl SuperBlock {
@@ -183,7 +162,7 @@ impl SuperBlock {
         let d = a + b;
         let bits = span * b;
         let whole = span * (n / span);
-        let reach = least(least(n - d, whole), bits);
+        let reach = (n - d).min(whole).min(bits);
         SuperBlock {
             addr: Addr(k),
             blocks: n,
@@ -198,57 +177,57 @@ impl SuperBlock {
     }
 
     // The numbers of the image's superblock, at block k of a known size code.
-    fn read_known(img: &[u8], k: u32, code: u32) -> Opened
+    fn read_known(img: &[u8], k: u32, code: u32) -> Result<SuperBlock, Refusal>
         requires { code ≤ last_code }
         ensures { OpenedIs (mount k code) img.now result }
     {
         let len = img.len();
         if bad_image(len, k, code) {
-            return Opened::Refused(Refusal::BadImage);
+            return Err(Refusal::BadImage);
         }
         if bad_mark(img, k, code) {
-            return Opened::Refused(Refusal::NotMfs);
+            return Err(Refusal::NotMfs);
         }
         let at = block::offset(block_size(code), Addr(k));
         let v = img[at + 8];
         let n = wire::get32(img, at + 10);
         if bad_count(n, k, len, v, code) {
-            return Opened::Refused(Refusal::BadCount);
+            return Err(Refusal::BadCount);
         }
-        Opened::At(SuperBlock::new(k, n, v, code))
+        Ok(SuperBlock::new(k, n, v, code))
     }
 
     // The numbers of the image's superblock, at block k of that size code.
-    pub fn read(img: &[u8], k: u32, code: u32) -> Opened
+    pub fn read(img: &[u8], k: u32, code: u32) -> Result<SuperBlock, Refusal>
         ensures { OpenedIs (mount k code) img.now result }
     {
         if MAX_CODE < code {
-            return Opened::Refused(Refusal::NotMfs);
+            return Err(Refusal::NotMfs);
         }
         SuperBlock::read_known(img, k, code)
     }
 
     // The numbers that a volume of a known size code over a whole image of len bytes would have.
-    fn known_for(len: usize, k: u32, code: u32) -> Opened
+    fn known_for(len: usize, k: u32, code: u32) -> Result<SuperBlock, Refusal>
         requires { code ≤ last_code }
         ensures { MadeIs (mount k code) len result }
     {
         if bad_image(len, k, code) {
-            return Opened::Refused(Refusal::BadImage);
+            return Err(Refusal::BadImage);
         }
         let n = (len / (block_size(code) as usize)) as u32;
         if bad_count(n, k, len, VERSION, code) {
-            return Opened::Refused(Refusal::BadCount);
+            return Err(Refusal::BadCount);
         }
-        Opened::At(SuperBlock::new(k, n, VERSION, code))
+        Ok(SuperBlock::new(k, n, VERSION, code))
     }
 
     // The numbers that a volume of that size code over a whole image of len bytes would have.
-    pub fn for_image(len: usize, k: u32, code: u32) -> Opened
+    pub fn for_image(len: usize, k: u32, code: u32) -> Result<SuperBlock, Refusal>
         ensures { MadeIs (mount k code) len result }
     {
         if MAX_CODE < code {
-            return Opened::Refused(Refusal::NotMfs);
+            return Err(Refusal::NotMfs);
         }
         SuperBlock::known_for(len, k, code)
     }
@@ -281,11 +260,29 @@ impl SuperBlock {
         let a = self.addr;
         let n = self.blocks;
         let at = block::offset(self.size, a);
-        let mark = [77, 79, 82, 79, 83, 32, 70, 83, self.version, self.code];
-        wire::copy(img, at, &mark, 0, 10);
+        wire::copy(img, at, &SIGNATURE, 0, 8);
+        wire::copy(img, at + 8, &[self.version, self.code], 0, 2);
         wire::put(img, at + 10, 4, n as u64);
         wire::put(img, at + 14, 4, v as u64);
         let rest = (self.size - 18) as usize;
         wire::fill(img, at + 18, rest, 0);
+    }
+}
+
+impl<'a> Volume<'a> {
+    // Whether a block is one of the data area's.
+    pub fn has(self, a: Addr) -> bool
+        ensures { result ≡ (leb self.entry.s.area.0 a.0 && ltb a.0 self.entry.s.blocks) }
+    {
+        let d = self.s.area;
+        d.0 <= a.0 && a.0 < self.s.blocks
+    }
+
+    // The next address of a block, 0 at the end of its chain.
+    pub fn next_addr(self, a: Addr) -> Addr
+        requires { a.0 < self.s.blocks }
+        ensures { result.0 ≡ next self.entry.s.size self.entry.img.now a.0 }
+    {
+        LinkedBlock::new(self.s.size, a).next_addr(self.img)
     }
 }

@@ -160,6 +160,11 @@ module _ (c : ℕ) where
     unfolding ranges
     above_all e h k = e ∙ sym (past_F3 h ∙ high 0xF4 0xF4 c (from_to 0x80 0x8F ∷ tail ∷ tail ∷ []) [] (omega arith) ∙ no_row)
 
+-- a byte that there is not, as the code's range
+pub never_is : never ≡ ranges 1 1 0
+unfolding ranges
+never_is = refl
+
 -- ---- after one byte more
 
 module _ (d : Due) (c : ℕ) (x : List Range) where

@@ -1,4 +1,5 @@
 -- The entries of a directory's block that an image shows are those that the check reads.
+use Rattle.std.specs.Prelude as prelude
 use mathlib.Core.Path.{◌≡◌, ap, ◌∙◌}
 use mathlib.Core.Bool.{true}
 use mathlib.Core.Option.{Option, some}
@@ -15,7 +16,6 @@ use Rattle.model.specs.Tree.{Name, Entry, then, weight, used}
 use Rattle.model.specs.Render.{View, padded, entry_bytes, entries_bytes, Shows}
 use Rattle.model.specs.Volume.{All}
 use Rattle.dir_entry.specs.declared.DirEntry.{DirEntry}
-use Rattle.dir_entry.specs.declared.Slot.{Slot}
 use Rattle.dir_entry.specs.Entry.{place_at, name_at}
 use Rattle.dir_entry.specs.Shown.{head_of}
 use Rattle.dir_entry.proofs.Shown.{Legible, less_left, first_shown, zero_at, block_stops, slot_is, name_is}
@@ -56,11 +56,11 @@ module _ {X : Type 0} (A : Area) (I : List ℕ) (v : View X) (a : ℕ) (known : 
   unfolding raws_from raws_of on_slot used entries_bytes
   find_raws es zero o k h l s = absurd (omega arith)
   find_raws [] (suc f) o k h l s =
-      ap (λ (z : Slot). on_slot z (reads A.size I a f o) (stops A.size I a o)) (block_stops A.size I v a o (omega arith) s)
+      ap (λ (z : prelude.Option DirEntry). on_slot z (reads A.size I a f o) (stops A.size I a o)) (block_stops A.size I v a o (omega arith) s)
       ∙ pick_true _ _ (zeros_pass I (A.size - 4 - o) (place_at A.size a o) (zero_at A.size I v a o s))
   find_raws (e ∷ es) (suc f) o k h l s =
       let q = first_shown A.size I v a o e es (unfold entries_bytes in s) in
       let g : 18 ≤ weight e = unfold weight in omega arith in
       let m : raws_from A.size I f a (o + weight e) ≡ some (raws_of v es) = find_raws es f (o + weight e) (less_left A.size o f (weight e) k (omega arith)) (omega arith) l.1 q.1 in
-      ap (λ (z : Slot). on_slot z (reads A.size I a f o) (stops A.size I a o)) (slot_is A.size I v a o e l.0 (omega arith) q.0)
+      ap (λ (z : prelude.Option DirEntry). on_slot z (reads A.size I a f o) (stops A.size I a o)) (slot_is A.size I v a o e l.0 (omega arith) q.0)
       ∙ reads_entry f o e (raws_of v es) l.0 (omega arith) q.0 m

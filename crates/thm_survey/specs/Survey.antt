@@ -1,7 +1,8 @@
 -- The check of W2 to W4 as a function on the bytes of any image: the tree that stands at an address, or nothing.
 -- Definitions alone.
 -- A is the data area: the size of its blocks, its first address and the volume's end.
-use Rattle.std.specs.Prelude.{Bool, true, false, not, ◌&&◌, List, [], ◌∷◌, ◌++◌, ℕ, zero, suc, ◌+◌, ◌-◌, ◌*◌, leb, eqb, take, drop}
+use Rattle.std.specs.Prelude.{Bool, true, false, not, ◌&&◌, List, [], ◌∷◌, ◌++◌, ℕ, zero, suc, ◌+◌, ◌-◌, ◌*◌, leb, eqb, take, drop, Some, None}
+use Rattle.std.specs.Prelude as prelude
 use Rattle.std.proofs.Math.Option.{Option, none, some}
 use Rattle.wire.specs.Pick.{pick, zero_from}
 use Rattle.block.specs.Block.{Area, next}
@@ -11,8 +12,6 @@ use Rattle.model.specs.Volume.{file_limit, blocks_for}
 use Rattle.dir_entry.specs.declared.Kind.{Kind}
 use Rattle.dir_entry.specs.declared.Kind.TheVariants as kind
 use Rattle.dir_entry.specs.declared.DirEntry.{DirEntry}
-use Rattle.dir_entry.specs.declared.Slot.{Slot}
-use Rattle.dir_entry.specs.declared.Slot.TheVariants as slot
 use Rattle.dir_entry.specs.Entry.{header, place_at, name_at, slot_at}
 use Rattle.read_dir.specs.Walk.{in_area}
 use Rattle.text.specs.Text.{is_name}
@@ -54,9 +53,9 @@ unfoldable pub seen_of : {X : Type 0} → Option (Claimed X) → Option (List �
 seen_of o = then o (λ c. some c.seen)
 
 -- what follows where there is an entry, and where the entries stop
-unfoldable pub on_slot : {X : Type 0} → Slot → (DirEntry → X) → X → X
-on_slot (slot.Entry e) f x = f e
-on_slot slot.Stop f x = x
+unfoldable pub on_slot : {X : Type 0} → prelude.Option DirEntry → (DirEntry → X) → X → X
+on_slot (Some e) f x = f e
+on_slot None f x = x
 
 -- W3: the address is not 0 (that it lies in the area says the claim of its block), and the name's bytes are good
 unfoldable pub passes : DirEntry → Name → Bool

@@ -1,12 +1,9 @@
 use Rattle.check_names.proofs.Parts.{extent_fits, extent_less, extent_more}
-use Rattle.super_block.proofs.Fits.{fit_inside}
-use Rattle.block.proofs.Blocks.{linked_inside}
-use Prim.Native.Nat.{◌-◌}
-use borrow.Author.Rules.{rules}
+use Rattle.super_block.proofs.Fits.{has_below}
 use Rattle.check_names.proofs.extent.Goals as goal
 
 pub next_addr-a-requires : goal.next_addr-a-requires
-next_addr-a-requires c = record { block_size = search rules; size_in_bounds = search (linked_inside, fit_inside) }
+next_addr-a-requires c = search has_below
 
 pub overflow_add-n : goal.overflow_add-n
 overflow_add-n c = record { fits = search extent_fits }

@@ -2,8 +2,8 @@ use borrow.Author.Rules.{rules}
 use Rattle.own_entry.proofs.Renewals.{sum_told, sum_damaged}
 use Rattle.own_entry.proofs.renew_sum.Goals as goal
 
-pub returns-in-Total : goal.returns-in-Total
-returns-in-Total c = search (sum_told, rules)
+pub returns-in-Ok : goal.returns-in-Ok
+returns-in-Ok c = search (sum_told, rules)
 
-pub returns-in-Damaged : goal.returns-in-Damaged
-returns-in-Damaged c = search (sum_damaged, rules)
+pub returns-in_default : goal.returns-in_default
+returns-in_default c = search (sum_damaged, rules)

@@ -1,5 +1,5 @@
 use mathlib.Core.Path.{refl}
-use Rattle.super_block.proofs.Tests.{mark_in, byte_in, byte_fits, count_fits, count_in, read_1, read_2, read_3, read_fair, read_0}
+use Rattle.super_block.proofs.Tests.{mark_in, byte_in, count_in, read_1, read_2, read_3, read_fair, read_0}
 use borrow.Author.Rules.{rules}
 use Rattle.super_block.proofs.SuperBlock.read_known.Goals as goal
 
@@ -12,14 +12,8 @@ bad_mark-requires c = record { code_le_last_code = search rules; k_in_bounds = s
 pub returns-then-bad_mark : goal.returns-then-bad_mark
 returns-then-bad_mark c = search (read_2, rules)
 
-pub overflow_add-v : goal.overflow_add-v
-overflow_add-v c = search (byte_fits, rules)
-
 pub bounds-img-at : goal.bounds-img-at
 bounds-img-at c = search (byte_in, rules)
-
-pub overflow_add-at : goal.overflow_add-at
-overflow_add-at c = search (count_fits, rules)
 
 pub get32-n-requires : goal.get32-n-requires
 get32-n-requires c = search (count_in, rules)
