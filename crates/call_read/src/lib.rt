@@ -201,7 +201,8 @@ fn list_full(v: Volume, full: &[u8], i: u32, buf: &mut [u8]) -> Result<Listed, R
         buf.old buf.new result }
 {
     let dir = dir::open(v, full)?;
-    Ok(dir_list::list(v, dir, i, buf)?)
+    let listed = dir_list::list(v, dir, i, buf)?;
+    Ok(listed)
 }
 
 // Lists the directory at a path from entry number i on, into buf: the bytes of the records in it, and the number of the entry after

@@ -1,6 +1,7 @@
 use Prim.Native.Nat.{ℕ, ◌<◌}
 use lib.ListN.{get_or}
 use native.Mathlib.Omega.{arith}
+use borrow.Author.Rules.{rules}
 use Rattle.limits.proofs.Passed.{err_is}
 use Rattle.call_read.proofs.Opening.{open_lost, found_short, open_other, open_large_no, open_file}
 use Rattle.call_read.proofs.open_full.Goals as goal
@@ -17,7 +18,7 @@ pub returns-in-Dir : goal.returns-in-Dir
 returns-in-Dir c = open_other _ _ _ _ c.in_ok-found.ensures c.in-Dir.is
 
 pub returns-in-File : goal.returns-in-File
-returns-in-File c = open_large_no _ _ _ _ c.in_ok-found.ensures c.in-File.is (search c.if-e-gt-FILE_LIMIT.true)
+returns-in-File c = open_large_no _ _ _ _ c.in_ok-found.ensures c.in-File.is (search rules)
 
 pub returns-in-File-2 : goal.returns-in-File-2
-returns-in-File-2 c = open_file _ _ _ _ c.in_ok-found.ensures c.in-File-2.is (search c.if-e-gt-FILE_LIMIT.false) _ c.parts_of.ensures.name_is _ c.new.ensures
+returns-in-File-2 c = open_file _ _ _ _ c.in_ok-found.ensures c.in-File-2.is (search rules) _ c.parts_of.ensures.name_is _ c.new.ensures
