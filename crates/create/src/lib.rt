@@ -9,7 +9,6 @@ ghost use Rattle.super_block.specs.Super.{area_in, geo_of, Ready};
 ghost use Rattle.dir_entry.specs.Entry.{is_dir};
 ghost use Rattle.own_entry.specs.Own.{OwnIn};
 ghost use Rattle.create_store.specs.Create.{spot_for};
-ghost use Rattle.path.specs.Path.{path_limit};
 ghost use Rattle.dir.specs.Post.{hold_of};
 ghost use Rattle.create.specs.Creating.{bad_name, site_at, site_in, fresh_of, created_on, image_at, created_image};
 ghost use Rattle.create.specs.Post.{sited, SitedIn, made};
@@ -39,10 +38,10 @@ fn bad_name(name: &[u8]) -> bool
 }
 
 // Whether a directory in one at that depth would be too deep.
-fn too_deep(kind: Kind, depth: u32) -> bool
+fn too_deep(kind: Kind, depth: usize) -> bool
     ensures { result ≡ (is_dir kind && leb max_depth depth) }
 {
-    kind == Kind::Dir && limits::MAX_DEPTH <= depth
+    kind == Kind::Dir && limits::MAX_DEPTH as usize <= depth
 }
 
 // The spot of a name of len bytes in the directory h: all that the stores need is known before the first of them.
@@ -108,8 +107,7 @@ pub fn create(
     kind: Kind,
     time: u64,
 ) -> Result<Created, Refusal>
-    requires ready { Ready s img.old }
-    requires full_bound { length full.now ≤ path_limit }
+    requires { Ready s img.old }
     ensures result_value { says_by made result ≡ created_on (geo_of s) img.old kind full.now }
     ensures img_after { img.new ≡ created_image (geo_of s) img.old kind full.now time }
 {
