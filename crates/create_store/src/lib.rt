@@ -9,7 +9,8 @@ ghost use Rattle.super_block.specs.Super.{area_in, geo_of, Fit};
 ghost use Rattle.bitmap_block.specs.Bitmap.{fresh, Room};
 ghost use Rattle.dir_entry.specs.Entry.{header, head_bytes, place_at};
 ghost use Rattle.own_entry.specs.Own.{OwnIn};
-ghost use Rattle.create_store.specs.Create.{used_at, spot_for, needed, SpotIn, block_taken, opened, place_in, entered, inserted, inserted_at};
+ghost use Rattle.create_store.specs.Create.{used_at, spot_for, needed, SpotIn, block_taken, opened, place_in};
+ghost use Rattle.create_store.specs.Create.{entered, inserted, inserted_at};
 
 use block::{Addr, Index, LinkedBlock};
 use dir_entry::{DirEntry, Kind};
