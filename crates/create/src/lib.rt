@@ -16,7 +16,7 @@ ghost use Rattle.create.specs.Post.{sited, SitedIn, made};
 use block::Addr;
 use create_store::Spot;
 use dir::Holding;
-use dir_entry::Kind;
+use dir_entry::{Kind, Name};
 use limits::Refusal;
 use super_block::{SuperBlock, Volume};
 
@@ -45,9 +45,8 @@ fn too_deep(kind: Kind, depth: usize) -> bool
 }
 
 // The spot of a name of len bytes in the directory h: all that the stores need is known before the first of them.
-fn site_at(v: Volume, h: Holding, len: usize) -> Result<Spot, Refusal>
-    requires ready { Ready v.s v.img.now }
-    requires len_bound { len ≤ 255 }
+fn site_at(v: Volume, h: Holding, len: u8) -> Result<Spot, Refusal>
+    requires { Ready v.s v.img.now }
     ensures result_value { says_by (sited (hold_of h)) result ≡ site_at (geo_of v.entry.s) v.entry.img.now (hold_of h)
         (spot_for (area_in v.entry.s) v.entry.img.now h.dir.0 len) }
     ensures sited_in { IfOk result (SitedIn v.entry.s v.entry.img.now len) }
@@ -61,17 +60,16 @@ fn site_at(v: Volume, h: Holding, len: usize) -> Result<Spot, Refusal>
 }
 
 // The spot of a new name in the directory h.
-fn site_in(v: Volume, h: Holding, kind: Kind, name: &[u8]) -> Result<Spot, Refusal>
-    requires ready { Ready v.s v.img.now }
-    requires name_len_bound { length name.now ≤ 255 }
+fn site_in(v: Volume, h: Holding, kind: Kind, name: Name) -> Result<Spot, Refusal>
+    requires { Ready v.s v.img.now }
     ensures result_value { says_by (sited (hold_of h)) result ≡ site_in (geo_of v.entry.s) v.entry.img.now
-        kind name.now (hold_of h) }
-    ensures sited_in { IfOk result (SitedIn v.entry.s v.entry.img.now (length name.now)) }
+        kind name.entry.bytes.now (hold_of h) }
+    ensures sited_in { IfOk result (SitedIn v.entry.s v.entry.img.now (length name.entry.bytes.now)) }
 {
     if too_deep(kind, h.depth) {
         return Err(Refusal::TooDeep);
     }
-    if dir_lookup::lookup(v, h.dir, name)?.is_some() {
+    if dir_lookup::lookup(v, h.dir, name.bytes)?.is_some() {
         return Err(Refusal::Exists);
     }
     site_at(v, h, name.len())
@@ -83,16 +81,15 @@ fn create_in(
     s: SuperBlock,
     h: Holding,
     kind: Kind,
-    name: &[u8],
+    name: Name,
     time: u64,
 ) -> Result<Created, Refusal>
     requires ready { Ready s img.old }
-    requires name_len_bound { length name.now ≤ 255 }
     requires own_in { OwnIn s.size img.old h.own }
     ensures result_value { says_by made result ≡ fresh_of (geo_of s) img.old
-        (site_in (geo_of s) img.old kind name.now (hold_of h)) }
-    ensures img_after { img.new ≡ image_at (geo_of s) img.old kind name.now time
-        (site_in (geo_of s) img.old kind name.now (hold_of h)) }
+        (site_in (geo_of s) img.old kind name.entry.bytes.now (hold_of h)) }
+    ensures img_after { img.new ≡ image_at (geo_of s) img.old kind name.entry.bytes.now time
+        (site_in (geo_of s) img.old kind name.entry.bytes.now (hold_of h)) }
 {
     let spot = site_in(Volume { img, s }, h, kind, name)?;
     let block = create_store::insert(img, s, h.dir, spot, h.own, kind, name, time);
@@ -115,6 +112,7 @@ pub fn create(
     if bad_name(parts.name) {
         return Err(Refusal::BadName);
     }
+    let name = Name { bytes: parts.name };
     let h = dir::hold(Volume { img, s }, parts.dir)?;
-    create_in(img, s, h, kind, parts.name, time)
+    create_in(img, s, h, kind, name, time)
 }

@@ -27,8 +27,8 @@ returns-in_err-h-clause-img_after c =
     path_leaves c.args.s c.args.img.now c.args.kind c.args.full.now _ _ c.args.time c.parts_of-parts.ensures.dir_is c.parts_of-parts.ensures.name_is
     _ c.bad_name.ensures c.requires c.if-bad_name.false _ c.in_err-h.ensures
 
-pub create_in-requires-clause-name_len_bound : goal.create_in-requires-clause-name_len_bound
-create_in-requires-clause-name_len_bound c = short_name _ _ c.bad_name.ensures c.if-bad_name.false
+pub invariant_of-name : goal.invariant_of-name
+invariant_of-name c = record { short = short_name _ _ c.bad_name.ensures c.if-bad_name.false }
 
 pub create_in-requires-clause-own_in : goal.create_in-requires-clause-own_in
 create_in-requires-clause-own_in c = hold_inside c.args.s c.args.img.now c.requires.fit _ (hold_of c.in_ok-h.h) (sym c.in_ok-h.ensures)
