@@ -15,7 +15,7 @@ ghost use Rattle.call_read.specs.Reading.{Informs, list_on, records_on, ListIs, 
 ghost use Rattle.handle.specs.Post.{SoughtIs};
 
 use block::Addr;
-use dir_entry::Kind;
+use dir_entry::{Kind, Name};
 use handle::{CountedOut, Handle, SeekFrom, Sought};
 use limits::Refusal;
 use read_dir::Listed;
@@ -104,7 +104,10 @@ fn open_full(img: &[u8], s: SuperBlock, full: &[u8]) -> Result<Handle, Refusal>
     match e.kind {
         Kind::Dir | Kind::Device => Err(Refusal::WrongKind),
         Kind::File if limits::FILE_LIMIT < e.size => Err(Refusal::TooLarge),
-        Kind::File => Ok(Handle::new(found.dir, path::parts_of(full).name, e.addr, e.size)),
+        Kind::File => {
+            let bytes = path::parts_of(full).name;
+            Ok(Handle::new(found.dir, Name { bytes }, e.addr, e.size))
+        }
     }
 }
 
@@ -144,13 +147,13 @@ fn about_full(img: &[u8], s: SuperBlock, full: &[u8]) -> Result<About, Refusal>
     ensures { says result ≡ and_then (entry_of (area_in s) img.now full.now) (about_entry (last_name full.now)) }
 {
     let e = dir::find(Volume { img, s }, full)?.entry;
-    let name = path::parts_of(full).name;
+    let bytes = path::parts_of(full).name;
     Ok(About {
         kind: e.kind,
         size: e.size,
         time: e.time,
-        name: handle::name_array(name),
-        len: name.len(),
+        name: handle::name_array(Name { bytes }),
+        len: bytes.len(),
     })
 }
 

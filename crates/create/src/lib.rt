@@ -2,7 +2,7 @@
 // order, then the stores of `create_store`.
 #![tactic(auto)]
 
-ghost use Rattle.std.specs.Prelude.{◌≡◌, ◌&&◌, ◌≤◌, leb, length, IfOk};
+ghost use Rattle.std.specs.Prelude.{◌≡◌, ◌&&◌, leb, length, IfOk};
 ghost use Rattle.model.specs.Volume.{max_depth};
 ghost use Rattle.limits.specs.Says.{says_by};
 ghost use Rattle.super_block.specs.Super.{area_in, geo_of, Ready};
