@@ -11,7 +11,7 @@ ghost use Rattle.call_volume.specs.Checking.{work_after};
 ghost use Rattle.call_change.specs.Changing.{BeginIs, create_reply, create_image, fresh_handle, CreatesFile, CreatesDir, Deletes, Writes};
 
 use call_read::OpenOut;
-use dir_entry::Kind;
+use dir_entry::{Kind, Name};
 use handle::{CountedOut, Handle};
 use limits::Refusal;
 use super_block::SuperBlock;
@@ -54,8 +54,8 @@ fn create_at(
     let mut full = [0u8; path::PATH_LIMIT];
     let (s, n) = begin(img, k, code, cwd, path, work, &mut full)?;
     let created = create::create(img, s, &full[..n], kind, time)?;
-    let name = path::parts_of(&full[..n]).name;
-    Ok(Handle::new(created.dir, name, created.block, 0))
+    let bytes = path::parts_of(&full[..n]).name;
+    Ok(Handle::new(created.dir, Name { bytes }, created.block, 0))
 }
 
 // Creates a file of 0 bytes at a path, and opens it. Refusals: 1, 2, 3, 16, 17, 4, 8, 5, 6, 7, 9.

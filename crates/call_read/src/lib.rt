@@ -1,20 +1,21 @@
 // The public calls that read: open, info, list, read and seek. Their answers for a caller are those of `mfs`.
 #![tactic(auto)]
 
-ghost use Rattle.std.specs.Prelude.{◌≡◌, ◌≤◌, length};
+ghost use Rattle.std.specs.Prelude.{◌≡◌, length};
 ghost use Rattle.model.specs.Geometry.{mount};
 ghost use Rattle.super_block.specs.Super.{area_in, Fit};
 ghost use Rattle.model.specs.Answers.{and_then};
 ghost use Rattle.limits.specs.Says.{says};
-ghost use Rattle.path.specs.Path.{path_limit, last_name};
+ghost use Rattle.path.specs.Path.{last_name};
 ghost use Rattle.dir.specs.Resolve.{entry_of};
 ghost use Rattle.read_dir.specs.Walk.{walk};
 ghost use Rattle.read_dir.specs.Finds.{sum_from};
-ghost use Rattle.call_read.specs.Reading.{StartIs, open_on, open_reply, Opens, about_root, about_entry, info_reply, Informs, list_on, records_on, ListIs, Lists, Reads};
+ghost use Rattle.call_read.specs.Reading.{StartIs, open_on, open_reply, Opens, about_root, about_entry, info_reply};
+ghost use Rattle.call_read.specs.Reading.{Informs, list_on, records_on, ListIs, Lists, Reads};
 ghost use Rattle.handle.specs.Post.{SoughtIs};
 
 use block::Addr;
-use dir_entry::Kind;
+use dir_entry::{Kind, Name};
 use handle::{CountedOut, Handle, SeekFrom, Sought};
 use limits::Refusal;
 use read_dir::Listed;
@@ -27,7 +28,8 @@ pub struct OpenOut {
     pub handle: Handle,
 }
 
-// What is known of an entry; the name stands in the first len bytes. A struct and no Result: by H6 all is empty where it is refused.
+// What is known of an entry; the name stands in the first len bytes. A struct and no Result: by H6 all is empty where it is
+// refused.
 #[derive(Clone, Copy)]
 pub struct InfoOut {
     pub answer: Result<(), Refusal>,
@@ -91,11 +93,10 @@ fn start(
     Ok((s, n))
 }
 
-// A handle on the file at a full path, which must be within the limit. The image is lent by itself here and in about_full, since that
-// a name has at most 255 bytes asks that its length byte is a byte, which is known of a slice and not of one within a struct.
+// A handle on the file at a full path. The image is lent by itself here and in about_full, since that a name has at most 255
+// bytes asks that its length byte is a byte, which is known of a slice and not of one within a struct.
 fn open_full(img: &[u8], s: SuperBlock, full: &[u8]) -> Result<Handle, Refusal>
-    requires fit { Fit s img.now }
-    requires full_bound { length full.now ≤ path_limit }
+    requires { Fit s img.now }
     ensures { says result ≡ open_on (area_in s) img.now full.now }
 {
     let found = dir::find(Volume { img, s }, full)?;
@@ -103,7 +104,10 @@ fn open_full(img: &[u8], s: SuperBlock, full: &[u8]) -> Result<Handle, Refusal>
     match e.kind {
         Kind::Dir | Kind::Device => Err(Refusal::WrongKind),
         Kind::File if limits::FILE_LIMIT < e.size => Err(Refusal::TooLarge),
-        Kind::File => Ok(Handle::new(found.dir, path::parts_of(full).name, e.addr, e.size)),
+        Kind::File => {
+            let bytes = path::parts_of(full).name;
+            Ok(Handle::new(found.dir, Name { bytes }, e.addr, e.size))
+        }
     }
 }
 
@@ -139,18 +143,17 @@ fn about_root(v: Volume) -> Result<About, Refusal>
 
 // What is known of the entry at a full path.
 fn about_full(img: &[u8], s: SuperBlock, full: &[u8]) -> Result<About, Refusal>
-    requires fit { Fit s img.now }
-    requires full_bound { length full.now ≤ path_limit }
+    requires { Fit s img.now }
     ensures { says result ≡ and_then (entry_of (area_in s) img.now full.now) (about_entry (last_name full.now)) }
 {
     let e = dir::find(Volume { img, s }, full)?.entry;
-    let name = path::parts_of(full).name;
+    let bytes = path::parts_of(full).name;
     Ok(About {
         kind: e.kind,
         size: e.size,
         time: e.time,
-        name: handle::name_array(name),
-        len: name.len(),
+        name: handle::name_array(Name { bytes }),
+        len: bytes.len(),
     })
 }
 
@@ -195,7 +198,6 @@ pub fn info(img: &[u8], k: u32, code: u32, cwd: &[u8], path: &[u8]) -> InfoOut
 
 // Lists the directory at a full path.
 fn list_full(v: Volume, full: &[u8], i: u32, buf: &mut [u8]) -> Result<Listed, Refusal>
-    requires { length full.now ≤ path_limit }
     ensures { ListIs (list_on (area_in v.entry.s) v.entry.img.now full.now i (length buf.old))
         (records_on (area_in v.entry.s) v.entry.img.now full.now i (length buf.old))
         buf.old buf.new result }
@@ -205,8 +207,8 @@ fn list_full(v: Volume, full: &[u8], i: u32, buf: &mut [u8]) -> Result<Listed, R
     Ok(listed)
 }
 
-// Lists the directory at a path from entry number i on, into buf: the bytes of the records in it, and the number of the entry after
-// them. Refusals: 1, 2, 3, 4, 5, 6, 17.
+// Lists the directory at a path from entry number i on, into buf: the bytes of the records in it, and the number of the entry
+// after them. Refusals: 1, 2, 3, 4, 5, 6, 17.
 pub fn list(
     img: &[u8],
     k: u32,

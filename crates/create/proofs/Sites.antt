@@ -129,9 +129,9 @@ module _ (s : SuperBlock) (I : List ℕ) (ok : Ready s I) (h : Hold) (k : Kind) 
           go (Some z) w = refl
           go None w = absurd (not_both w refl)
 
-      pub in_free : is_some o ≡ false → (r : Reply Site) → r ≡ site_at (geo_of s) I h (spot_for (area_in s) I h.dir (length x))
-          → r ≡ site_in (geo_of s) I k x h
-      in_free e r z = z ∙ sym (looked ∙ given_none _ (ap exists_number g ∙ go o e))
+      pub in_free : is_some o ≡ false → (len : ℕ) → len ≡ length x → (r : Reply Site)
+          → r ≡ site_at (geo_of s) I h (spot_for (area_in s) I h.dir len) → r ≡ site_in (geo_of s) I k x h
+      in_free e len l r z = z ∙ ap (λ (n : ℕ). site_at (geo_of s) I h (spot_for (area_in s) I h.dir n)) l ∙ sym (looked ∙ given_none _ (ap exists_number g ∙ go o e))
         where
           go : (y : Option Placed) → is_some y ≡ false → exists_number (Ok y) ≡ 0
           go (Some v) w = absurd (not_both refl w)

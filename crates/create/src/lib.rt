@@ -2,14 +2,13 @@
 // order, then the stores of `create_store`.
 #![tactic(auto)]
 
-ghost use Rattle.std.specs.Prelude.{◌≡◌, ◌&&◌, ◌≤◌, leb, length, IfOk};
+ghost use Rattle.std.specs.Prelude.{◌≡◌, ◌&&◌, leb, length, IfOk};
 ghost use Rattle.model.specs.Volume.{max_depth};
 ghost use Rattle.limits.specs.Says.{says_by};
 ghost use Rattle.super_block.specs.Super.{area_in, geo_of, Ready};
 ghost use Rattle.dir_entry.specs.Entry.{is_dir};
 ghost use Rattle.own_entry.specs.Own.{OwnIn};
 ghost use Rattle.create_store.specs.Create.{spot_for};
-ghost use Rattle.path.specs.Path.{path_limit};
 ghost use Rattle.dir.specs.Post.{hold_of};
 ghost use Rattle.create.specs.Creating.{bad_name, site_at, site_in, fresh_of, created_on, image_at, created_image};
 ghost use Rattle.create.specs.Post.{sited, SitedIn, made};
@@ -17,7 +16,7 @@ ghost use Rattle.create.specs.Post.{sited, SitedIn, made};
 use block::Addr;
 use create_store::Spot;
 use dir::Holding;
-use dir_entry::Kind;
+use dir_entry::{Kind, Name};
 use limits::Refusal;
 use super_block::{SuperBlock, Volume};
 
@@ -39,16 +38,15 @@ fn bad_name(name: &[u8]) -> bool
 }
 
 // Whether a directory in one at that depth would be too deep.
-fn too_deep(kind: Kind, depth: u32) -> bool
+fn too_deep(kind: Kind, depth: usize) -> bool
     ensures { result ≡ (is_dir kind && leb max_depth depth) }
 {
-    kind == Kind::Dir && limits::MAX_DEPTH <= depth
+    kind == Kind::Dir && limits::MAX_DEPTH as usize <= depth
 }
 
 // The spot of a name of len bytes in the directory h: all that the stores need is known before the first of them.
-fn site_at(v: Volume, h: Holding, len: usize) -> Result<Spot, Refusal>
-    requires ready { Ready v.s v.img.now }
-    requires len_bound { len ≤ 255 }
+fn site_at(v: Volume, h: Holding, len: u8) -> Result<Spot, Refusal>
+    requires { Ready v.s v.img.now }
     ensures result_value { says_by (sited (hold_of h)) result ≡ site_at (geo_of v.entry.s) v.entry.img.now (hold_of h)
         (spot_for (area_in v.entry.s) v.entry.img.now h.dir.0 len) }
     ensures sited_in { IfOk result (SitedIn v.entry.s v.entry.img.now len) }
@@ -62,17 +60,16 @@ fn site_at(v: Volume, h: Holding, len: usize) -> Result<Spot, Refusal>
 }
 
 // The spot of a new name in the directory h.
-fn site_in(v: Volume, h: Holding, kind: Kind, name: &[u8]) -> Result<Spot, Refusal>
-    requires ready { Ready v.s v.img.now }
-    requires name_len_bound { length name.now ≤ 255 }
+fn site_in(v: Volume, h: Holding, kind: Kind, name: Name) -> Result<Spot, Refusal>
+    requires { Ready v.s v.img.now }
     ensures result_value { says_by (sited (hold_of h)) result ≡ site_in (geo_of v.entry.s) v.entry.img.now
-        kind name.now (hold_of h) }
-    ensures sited_in { IfOk result (SitedIn v.entry.s v.entry.img.now (length name.now)) }
+        kind name.entry.bytes.now (hold_of h) }
+    ensures sited_in { IfOk result (SitedIn v.entry.s v.entry.img.now (length name.entry.bytes.now)) }
 {
     if too_deep(kind, h.depth) {
         return Err(Refusal::TooDeep);
     }
-    if dir_lookup::lookup(v, h.dir, name)?.is_some() {
+    if dir_lookup::lookup(v, h.dir, name.bytes)?.is_some() {
         return Err(Refusal::Exists);
     }
     site_at(v, h, name.len())
@@ -84,16 +81,15 @@ fn create_in(
     s: SuperBlock,
     h: Holding,
     kind: Kind,
-    name: &[u8],
+    name: Name,
     time: u64,
 ) -> Result<Created, Refusal>
     requires ready { Ready s img.old }
-    requires name_len_bound { length name.now ≤ 255 }
     requires own_in { OwnIn s.size img.old h.own }
     ensures result_value { says_by made result ≡ fresh_of (geo_of s) img.old
-        (site_in (geo_of s) img.old kind name.now (hold_of h)) }
-    ensures img_after { img.new ≡ image_at (geo_of s) img.old kind name.now time
-        (site_in (geo_of s) img.old kind name.now (hold_of h)) }
+        (site_in (geo_of s) img.old kind name.entry.bytes.now (hold_of h)) }
+    ensures img_after { img.new ≡ image_at (geo_of s) img.old kind name.entry.bytes.now time
+        (site_in (geo_of s) img.old kind name.entry.bytes.now (hold_of h)) }
 {
     let spot = site_in(Volume { img, s }, h, kind, name)?;
     let block = create_store::insert(img, s, h.dir, spot, h.own, kind, name, time);
@@ -108,8 +104,7 @@ pub fn create(
     kind: Kind,
     time: u64,
 ) -> Result<Created, Refusal>
-    requires ready { Ready s img.old }
-    requires full_bound { length full.now ≤ path_limit }
+    requires { Ready s img.old }
     ensures result_value { says_by made result ≡ created_on (geo_of s) img.old kind full.now }
     ensures img_after { img.new ≡ created_image (geo_of s) img.old kind full.now time }
 {
@@ -117,6 +112,7 @@ pub fn create(
     if bad_name(parts.name) {
         return Err(Refusal::BadName);
     }
+    let name = Name { bytes: parts.name };
     let h = dir::hold(Volume { img, s }, parts.dir)?;
-    create_in(img, s, h, kind, parts.name, time)
+    create_in(img, s, h, kind, name, time)
 }

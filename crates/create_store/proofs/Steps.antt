@@ -191,15 +191,14 @@ entry_stored B I J L at p e name h w f j l =
     ∙ splice-then I J q (q + 18) (head_bytes e) name (j ∙ ap (λ (z : ℕ). splice I z (head_bytes e)) f) k (omega (arith, length_head e))
 
 -- enter
-pub enter_image : (s : SuperBlock) (I J L : List ℕ) (p : Place) (k : Kind) (a : Addr) (name : Name) (time : ℕ) (e : DirEntry)
-    → Fit s I → J ≡ block_taken (geo_of s) I → a.0 ≡ fresh (geo_of s) I
-    → e ≡ record { kind = k; addr = a; size = 0; time = time; len = length name }
-    → L ≡ splice J (place_at s.size p.block.0 p.offset) (head_bytes e ++ name) → L ≡ entered (geo_of s) I p k name time
+pub enter_image : (s : SuperBlock) (I J L : List ℕ) (p : Place) (k : Kind) (a : Addr) (name : Name) (time n : ℕ)
+    → Fit s I → J ≡ block_taken (geo_of s) I → a.0 ≡ fresh (geo_of s) I → n ≡ length name
+    → L ≡ splice J (place_at s.size p.block.0 p.offset) (head_bytes (record { kind = k; addr = a; size = 0; time = time; len = n }) ++ name)
+    → L ≡ entered (geo_of s) I p k name time
 unfolding entered
-enter_image s I J L p k a name time e fit j f d l =
+enter_image s I J L p k a name time n fit j f d l =
     let at : ℕ → ℕ = λ B. place_at B p.block.0 p.offset in
-    l ∙ (λ i. splice (j i) (at (fit.size i)) (head_bytes (d i) ++ name))
-    ∙ (λ i. splice (block_taken (geo_of s) I) (at (block_size (geo_of s))) (head_bytes (new_head k (f i) time (length name)) ++ name))
+    l ∙ (λ i. splice (j i) (at (fit.size i)) (head_bytes (new_head k (f i) time (d i)) ++ name))
 
 -- insert
 pub insert_image : (s : SuperBlock) (I J L M : List ℕ) (dir : ℕ) (t : Spot) (own : Own) (k : Kind) (name : Name) (time : ℕ) (p : Place)

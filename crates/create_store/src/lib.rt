@@ -9,10 +9,11 @@ ghost use Rattle.super_block.specs.Super.{area_in, geo_of, Fit};
 ghost use Rattle.bitmap_block.specs.Bitmap.{fresh, Room};
 ghost use Rattle.dir_entry.specs.Entry.{header, head_bytes, place_at};
 ghost use Rattle.own_entry.specs.Own.{OwnIn};
-ghost use Rattle.create_store.specs.Create.{used_at, spot_for, needed, SpotIn, block_taken, opened, place_in, entered, inserted, inserted_at};
+ghost use Rattle.create_store.specs.Create.{used_at, spot_for, needed, SpotIn, block_taken, opened, place_in};
+ghost use Rattle.create_store.specs.Create.{entered, inserted, inserted_at};
 
 use block::{Addr, Index, LinkedBlock};
-use dir_entry::{DirEntry, Kind};
+use dir_entry::{DirEntry, Kind, Name};
 use limits::Damage;
 use read_dir::Place;
 use super_block::{SuperBlock, Volume};
@@ -38,8 +39,7 @@ fn used_bytes(v: Volume, block: Addr) -> usize
 }
 
 // The first block of the chain with room for a name of len bytes, else its last one. Each is looked at before it is read.
-pub fn spot_for(v: Volume, dir: Addr, len: usize) -> Result<Spot, Damage>
-    requires { len ≤ 255 }
+pub fn spot_for(v: Volume, dir: Addr, len: u8) -> Result<Spot, Damage>
     ensures { result ≡ spot_for (area_in v.entry.s) v.entry.img.now dir.0 len }
 {
     let d = v.s.area;
@@ -50,7 +50,7 @@ pub fn spot_for(v: Volume, dir: Addr, len: usize) -> Result<Spot, Damage>
             return Err(Damage);
         }
         let used = used_bytes(v, b);
-        if used + DirEntry::HEADER + len <= capacity - 1 {
+        if used + DirEntry::HEADER + len as usize <= capacity - 1 {
             return Ok(Spot::In(Place {
                 block: b,
                 offset: used,
@@ -101,7 +101,7 @@ fn grow(img: &mut [u8], s: SuperBlock, last: Addr) -> Addr
 }
 
 // The place for the entry: in a block with room, or at the start of a new one.
-fn open_place(img: &mut [u8], s: SuperBlock, spot: Spot, len: usize) -> Place
+fn open_place(img: &mut [u8], s: SuperBlock, spot: Spot, len: u8) -> Place
     requires fit { Fit s img.old }
     requires room { Room (geo_of s) img.old (needed spot) }
     requires spot_in { SpotIn (area_in s) len spot }
@@ -132,13 +132,12 @@ fn store_entry(img: &mut [u8], size: u32, p: Place, e: DirEntry, name: &[u8])
 }
 
 // Takes the entry's own block, and stores the entry.
-fn enter(img: &mut [u8], s: SuperBlock, p: Place, kind: Kind, name: &[u8], time: u64) -> Addr
+fn enter(img: &mut [u8], s: SuperBlock, p: Place, kind: Kind, name: Name, time: u64) -> Addr
     requires fit { Fit s img.old }
     requires room { Room (geo_of s) img.old 1 }
     requires size_in_bounds { s.size * p.block.0 + s.size ≤ length img.old }
-    requires name_bound { p.offset + header + length name.now ≤ s.size - 5 }
-    requires name_len_bound { length name.now ≤ 255 }
-    ensures { (img.new ≡ entered (geo_of s) img.old p kind name.now time)
+    requires name_bound { p.offset + header + length name.bytes.now ≤ s.size - 5 }
+    ensures { (img.new ≡ entered (geo_of s) img.old p kind name.entry.bytes.now time)
         × (result.0 ≡ fresh (geo_of s) img.old) }
 {
     let a = take_block(img, s);
@@ -147,9 +146,9 @@ fn enter(img: &mut [u8], s: SuperBlock, p: Place, kind: Kind, name: &[u8], time:
         addr: a,
         size: 0,
         time,
-        len: name.len() as u8,
+        len: name.len(),
     };
-    store_entry(img, s.size, p, e, name);
+    store_entry(img, s.size, p, e, name.bytes);
     a
 }
 
@@ -161,15 +160,14 @@ pub fn insert(
     spot: Spot,
     own: Option<Place>,
     kind: Kind,
-    name: &[u8],
+    name: Name,
     time: u64,
 ) -> Addr
     requires fit { Fit s img.old }
     requires room { Room (geo_of s) img.old (needed spot) }
-    requires spot_in { SpotIn (area_in s) (length name.now) spot }
-    requires name_len_bound { length name.now ≤ 255 }
+    requires spot_in { SpotIn (area_in s) (length name.bytes.now) spot }
     requires own_in { OwnIn s.size img.old own }
-    ensures { (img.new ≡ inserted (geo_of s) img.old dir.0 spot own kind name.now time)
+    ensures { (img.new ≡ inserted (geo_of s) img.old dir.0 spot own kind name.entry.bytes.now time)
         × (result.0 ≡ inserted_at (geo_of s) img.old spot) }
 {
     let p = open_place(img, s, spot, name.len());

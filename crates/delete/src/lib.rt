@@ -3,10 +3,9 @@
 // they are the tree's delete (proofs/OnVolume.antt).
 #![tactic(auto)]
 
-ghost use Rattle.std.specs.Prelude.{◌≡◌, ◌≤◌, length};
+ghost use Rattle.std.specs.Prelude.{◌≡◌};
 ghost use Rattle.limits.specs.Says.{says, says_by};
 ghost use Rattle.super_block.specs.Super.{geo_of, Ready};
-ghost use Rattle.path.specs.Path.{path_limit};
 ghost use Rattle.delete.specs.Deleting.{has_entries, doomed_of, deleted_on, deleted_image};
 ghost use Rattle.delete.specs.Post.{doomed};
 
@@ -27,7 +26,6 @@ fn has_entries(e: DirEntry) -> bool
 // The entry to delete at a full path, and the directory that holds it. An empty last name is not found, and nothing is
 // walked for it.
 fn doomed_of(v: Volume, full: &[u8]) -> Result<(Holding, Placed), Refusal>
-    requires { length full.now ≤ path_limit }
     ensures { says_by doomed result ≡ doomed_of (geo_of v.entry.s) v.entry.img.now full.now }
 {
     let parts = path::parts_of(full);
@@ -44,8 +42,7 @@ fn doomed_of(v: Volume, full: &[u8]) -> Result<(Holding, Placed), Refusal>
 
 // Deletes the entry at a full path. Any refusal comes before the first store.
 pub fn delete(img: &mut [u8], s: SuperBlock, full: &[u8], time: u64) -> Result<(), Refusal>
-    requires ready { Ready s img.old }
-    requires full_bound { length full.now ≤ path_limit }
+    requires { Ready s img.old }
     ensures result_value { says result ≡ deleted_on (geo_of s) img.old full.now }
     ensures img_after { img.new ≡ deleted_image (geo_of s) img.old full.now time }
 {

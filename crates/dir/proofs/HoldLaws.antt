@@ -27,7 +27,7 @@ use Rattle.read_dir.specs.Walk.{walk}
 use Rattle.read_dir.specs.Finds.{find_in}
 use Rattle.read_dir.proofs.Items.{found_item}
 use Rattle.own_entry.specs.Own.{OwnIn}
-use Rattle.path.specs.Path.{path_limit, split}
+use Rattle.path.specs.Path.{split}
 use Rattle.path.specs.Post.{pieces}
 use Rattle.dir.specs.Resolve.{on_placed, resolve, open_dir}
 use Rattle.dir.specs.Hold.{Hold, root_hold, hold_at, entered, hold_from, hold_dir}
@@ -85,10 +85,10 @@ module _ (A : Area) (I : List ℕ) where
 
 -- ---- what is left of the way
 
--- how deep it may still lead: no deeper than its bytes
-abbrev pub Room : Option (List ℕ) → ℕ → Type 0
-Room None k = Unit {0}
-Room (Some l) k = k + length l ≤ path_limit
+-- from depth k it leads no deeper than n, the bytes of the whole way
+abbrev pub Room : ℕ → Option (List ℕ) → ℕ → Type 0
+Room n None k = Unit {0}
+Room n (Some l) k = k + length l ≤ n
 
 -- how many bytes of it are left, and one for there being any
 abbrev pub bytes_left : Option (List ℕ) → ℕ
@@ -96,28 +96,24 @@ bytes_left None = 0
 bytes_left (Some l) = suc (length l)
 
 module _ (rest : Option (Bor (List ℕ))) where
-  pub room_start : (d : List ℕ) (h : Hold) (D : ℕ) → h ≡ root_hold D → IfSome rest (λ w. length w.now ≤ length d) → length d ≤ path_limit
-      → Room (option_copied rest) h.depth
-  room_start d h D r i l = go rest i
+  pub room_start : (n : ℕ) (h : Hold) (D : ℕ) → h ≡ root_hold D → IfSome rest (λ w. length w.now ≤ n) → Room n (option_copied rest) h.depth
+  room_start n h D r i = go rest i
     where
-      go : (o : Option (Bor (List ℕ))) → IfSome o (λ w. length w.now ≤ length d) → Room (option_copied o) h.depth
+      go : (o : Option (Bor (List ℕ))) → IfSome o (λ w. length w.now ≤ n) → Room n (option_copied o) h.depth
       go None j = tt
       go (Some w) j = omega (arith, ap (λ (x : Hold). x.depth) r)
 
   module _ (way : Bor (List ℕ)) (is : rest ≡ Some way) where
-    room_some : (k : ℕ) → Room (option_copied rest) k → k + length way.now ≤ path_limit
-    room_some k r = subst (λ (o : Option (Bor (List ℕ))). Room (option_copied o) k) is r
-
-    pub room_depth : (k : ℕ) → Room (option_copied rest) k → k ≤ path_limit
-    room_depth k r = let q = room_some k r in omega arith
+    pub room_some : (n k : ℕ) → Room n (option_copied rest) k → k + length way.now ≤ n
+    room_some n k r = subst (λ (o : Option (Bor (List ℕ))). Room n (option_copied o) k) is r
 
     module _ (more : Option (Bor (List ℕ))) (less : IfSome more (λ w. length w.now < length way.now)) where
-      pub room_on : (k j : ℕ) → Room (option_copied rest) k → j ≡ k + 1 → Room (option_copied more) j
-      room_on k j r e = go more less
+      pub room_on : (n k j : ℕ) → Room n (option_copied rest) k → j ≡ k + 1 → Room n (option_copied more) j
+      room_on n k j r e = go more less
         where
-          go : (o : Option (Bor (List ℕ))) → IfSome o (λ w. length w.now < length way.now) → Room (option_copied o) j
+          go : (o : Option (Bor (List ℕ))) → IfSome o (λ w. length w.now < length way.now) → Room n (option_copied o) j
           go None h = tt
-          go (Some w) h = let q = room_some k r in omega arith
+          go (Some w) h = let q = room_some n k r in omega arith
 
       pub fewer_left : bytes_left (option_copied more) < bytes_left (option_copied rest)
       fewer_left =

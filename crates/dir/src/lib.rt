@@ -2,13 +2,12 @@
 // A path is a slice, as the crate path makes it.
 #![tactic(auto)]
 
-ghost use Rattle.std.specs.Prelude.{◌≡◌, ◌≤◌, length};
+ghost use Rattle.std.specs.Prelude.{◌≡◌, ◌<◌};
 ghost use Rattle.model.specs.Answers.{accepted};
 ghost use Rattle.limits.specs.Says.{says, says_by};
 ghost use Rattle.super_block.specs.Super.{area_in};
 ghost use Rattle.read_dir.specs.Walk.{walk};
 ghost use Rattle.read_dir.specs.Finds.{find_in};
-ghost use Rattle.path.specs.Path.{path_limit};
 ghost use Rattle.dir.specs.Resolve.{on_placed, open_dir, entry_of};
 ghost use Rattle.dir.specs.Hold.{root_hold, hold_at, entered, hold_dir};
 ghost use Rattle.dir.specs.Post.{number_of, located, hold_of};
@@ -32,7 +31,7 @@ pub struct Located {
 pub struct Holding {
     pub dir: Addr,
     pub own: Option<Place>,
-    pub depth: u32,
+    pub depth: usize,
 }
 
 // The entry of that name in the directory at `dir`, which is not found where there is none.
@@ -44,8 +43,8 @@ pub fn entry_in(v: Volume, dir: Addr, name: &[u8]) -> Result<Placed, Refusal>
 
 // The directory that an entry stands for, in a directory at that depth. Its own entry is that entry, which the way
 // leads over: its place is kept.
-fn directory(x: Placed, depth: u32) -> Result<Holding, Refusal>
-    requires { depth ≤ path_limit }
+fn directory(x: Placed, depth: usize) -> Result<Holding, Refusal>
+    requires { depth < usize.MAX }
     ensures { says_by hold_of result ≡ hold_at depth x }
 {
     match x.entry.kind {
@@ -60,7 +59,7 @@ fn directory(x: Placed, depth: u32) -> Result<Holding, Refusal>
 
 // The directory of that name in the directory h. An empty name is not found, and nothing is walked for it.
 fn enter(v: Volume, h: Holding, name: &[u8]) -> Result<Holding, Refusal>
-    requires { h.depth ≤ path_limit }
+    requires { h.depth < usize.MAX }
     ensures { says_by hold_of result ≡ entered (area_in v.entry.s) v.entry.img.now (hold_of h) name.now }
 {
     if name.is_empty() {
@@ -80,9 +79,8 @@ fn root(v: Volume) -> Holding
     }
 }
 
-// The directory of that path, by its pieces from the root on. The path's limit bounds the depth.
+// The directory of that path, by its pieces from the root on. It is no deeper than the path has bytes.
 pub fn hold(v: Volume, dir_path: &[u8]) -> Result<Holding, Refusal>
-    requires { length dir_path.now ≤ path_limit }
     ensures { says_by hold_of result ≡ hold_dir (area_in v.entry.s) v.entry.img.now dir_path.now }
 {
     let mut h = root(v);
@@ -97,7 +95,6 @@ pub fn hold(v: Volume, dir_path: &[u8]) -> Result<Holding, Refusal>
 
 // The first address of the directory of that path.
 pub fn open(v: Volume, dir_path: &[u8]) -> Result<Addr, Refusal>
-    requires { length dir_path.now ≤ path_limit }
     ensures { says_by number_of result ≡ open_dir (area_in v.entry.s) v.entry.img.now dir_path.now }
 {
     Ok(hold(v, dir_path)?.dir)
@@ -105,7 +102,6 @@ pub fn open(v: Volume, dir_path: &[u8]) -> Result<Addr, Refusal>
 
 // The entry at a full path. An empty last name is not found, and nothing is walked for it.
 pub fn find(v: Volume, full: &[u8]) -> Result<Located, Refusal>
-    requires { length full.now ≤ path_limit }
     ensures { says_by located result ≡ entry_of (area_in v.entry.s) v.entry.img.now full.now }
 {
     let parts = path::parts_of(full);

@@ -26,6 +26,22 @@ pub struct DirEntry {
     pub len: u8,
 }
 
+// A name that an entry may have: its length is a byte.
+#[derive(Clone, Copy)]
+pub struct Name<'a> {
+    pub bytes: &'a [u8],
+    ghost short: { length bytes.now ≤ 255 },
+}
+
+impl Name<'_> {
+    // How many bytes it has.
+    pub fn len(self) -> u8
+        ensures { result ≡ length self.entry.bytes.now }
+    {
+        self.bytes.len() as u8
+    }
+}
+
 // The byte of the image where an offset of a block's data stands.
 pub fn place(size: u32, a: Addr, offset: usize) -> usize
     requires block_size { BlockSize size }

@@ -14,7 +14,7 @@ ghost use Rattle.handle.specs.Handles.{new_handle, stale_fields, moved, target, 
 ghost use Rattle.handle.specs.Post.{answer_number, AimedIs, SoughtIs, handle_refusal};
 
 use block::Addr;
-use dir_entry::Kind;
+use dir_entry::{Kind, Name};
 use limits::{Damage, Refusal};
 use read_dir::{Placed, ReadDir};
 use super_block::Volume;
@@ -59,26 +59,24 @@ fn position(size: u32, to: i64) -> Option<u32>
     u32::try_from(to).ok().filter(|p| *p <= size)
 }
 
-// A name of at most 255 bytes, in an array of its own.
-pub fn name_array(name: &[u8]) -> [u8; 255]
-    requires { length name.now ≤ 255 }
-    ensures { result ≡ padded 255 name.now }
+// A name in an array of its own.
+pub fn name_array(name: Name) -> [u8; 255]
+    ensures { result ≡ padded 255 name.entry.bytes.now }
 {
     let mut all = [0u8; 255];
-    all[..name.len()].copy_from_slice(name);
+    all[..name.bytes.len()].copy_from_slice(name.bytes);
     all
 }
 
 impl Handle {
     // At position 0, on the file of that name in the directory at `dir`.
-    pub fn new(dir: Addr, name: &[u8], addr: Addr, size: u32) -> Handle
-        requires { length name.now ≤ 255 }
-        ensures { result ≡ new_handle dir name.now addr size }
+    pub fn new(dir: Addr, name: Name, addr: Addr, size: u32) -> Handle
+        ensures { result ≡ new_handle dir name.entry.bytes.now addr size }
     {
         Handle {
             dir,
             name: name_array(name),
-            len: name.len(),
+            len: name.bytes.len(),
             addr,
             size,
             position: 0,

@@ -3,10 +3,10 @@ use mathlib.Core.Path.{◌≡◌, refl, sym, ◌∙◌, subst}
 use mathlib.Core.Bool.{Bool, true, false, not, ◌||◌, ◌&&◌}
 use mathlib.Core.Logic.{◌⊎◌, inl, inr}
 use mathlib.Core.List.{List, [], ◌∷◌}
-use Prim.Native.Nat.{ℕ, zero, suc, ◌≤◌}
+use Prim.Native.Nat.{ℕ, zero, suc}
 use native.Mathlib.Omega.{arith}
 use lib.Dec.{ltb, eqb}
-use lib.ListN.{length, take, drop, length-take}
+use lib.ListN.{length, take, drop}
 use lib.Seq.{take_at}
 use borrow.Author.Tests.{eqb-true, eqb-false, not-false}
 use Rattle.wire.specs.Be.{splice}
@@ -19,7 +19,7 @@ use Rattle.model.specs.Volume.{All}
 use Rattle.model.proofs.Counts.{count_same, count_other, count_none}
 use Rattle.model.proofs.Opens.{or_false}
 use Rattle.path.specs.Path.{slash, path_limit, starts_slash, real_path, bad_path, trimmed, untrailed, before_name, last_name}
-use Rattle.path.specs.Path.{dir_part, split, unled, steps}
+use Rattle.path.specs.Path.{split, unled, steps}
 use Rattle.path.specs.Post.{Stores}
 use Rattle.path.proofs.Pieces.{front, split-none, split-slash, split_other}
 
@@ -193,14 +193,6 @@ trimmed_text l h = go (either (ltb 1 (length l)))
     go (inl t) = rw (pick_true (take (untrailed l) l) l t) (untrailed_text [] l tt h)
     go (inr f) = rw (pick_false (take (untrailed l) l) l f) h
 
-trimmed_short : (l : List ℕ) → length (trimmed l) ≤ length l
-unfolding trimmed
-trimmed_short l = go (either (ltb 1 (length l)))
-  where
-    go : (ltb 1 (length l) ≡ true) ⊎ (ltb 1 (length l) ≡ false) → length (trimmed l) ≤ length l
-    go (inl t) = rw (pick_true _ _ t, length-take) (omega arith)
-    go (inr f) = rw (pick_false _ _ f) (omega arith)
-
 -- the last name of text is a name, but for its length
 pub last_name_lem : (l : List ℕ) → is_text l ≡ true → is_name (last_name l) ≡ true
 unfolding last_name is_name
@@ -212,16 +204,3 @@ last_name_lem l h =
     whole : (k : ℕ) → text_from (behind k []) (drop k (trimmed l)) ≡ true → is_text (drop k (trimmed l)) ≡ true
     whole zero r = r
     whole (suc k) r = r
-
-dir_take : (l : List ℕ) → (d : ℕ) × (dir_part l ≡ take d (trimmed l))
-unfolding dir_part
-dir_take l = go (before_name (trimmed l)) refl
-  where
-    go : (k : ℕ) → before_name (trimmed l) ≡ k → (d : ℕ) × (dir_part l ≡ take d (trimmed l))
-    go zero e = (0, rw e)
-    go (suc zero) e = (1, rw e)
-    go (suc (suc k)) e = (suc k, rw e)
-
--- a directory part is no longer than its path
-pub dir_short : (l : List ℕ) → length (dir_part l) ≤ length l
-dir_short l = let d = dir_take l in rw (d.1, length-take) (omega (arith, trimmed_short l))

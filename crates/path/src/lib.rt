@@ -2,7 +2,8 @@
 // Everything is tested before the first byte is written, so a refusal leaves the buffer as it was.
 #![tactic(auto)]
 
-ghost use Rattle.std.specs.Prelude.{◌≡◌, ◌≢◌, false, not, ◌||◌, [], ◌∷◌, ◌++◌, ℕ, ◌+◌, ◌≤◌, ◌<◌, ltb, length, slice_index, EachIndex, MatchOption, IfSome, option_copied};
+ghost use Rattle.std.specs.Prelude.{◌≡◌, ◌≢◌, false, not, ◌||◌, [], ◌∷◌, ◌++◌, ℕ, ◌+◌, ◌≤◌, ◌<◌, ltb, length, slice_index};
+ghost use Rattle.std.specs.Prelude.{EachIndex, MatchOption, IfSome, option_copied};
 ghost use Rattle.wire.specs.Be.{splice};
 ghost use Rattle.wire.specs.Pick.{pick, same};
 ghost use Rattle.text.specs.Text.{is_text};

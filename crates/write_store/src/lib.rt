@@ -11,7 +11,8 @@ ghost use Rattle.model.specs.Geometry.{block_size, map_at, data_at};
 ghost use Rattle.super_block.specs.Super.{geo_of, Fit};
 ghost use Rattle.dir_entry.specs.Entry.{place_at};
 ghost use Rattle.bitmap_block.specs.Bitmap.{fresh, Room};
-ghost use Rattle.write_store.specs.Write.{hop, Along, grown, extended, cut_after, resized, poured, spread, wrote, Resizable, CanWrite};
+ghost use Rattle.write_store.specs.Write.{hop, Along, grown, extended, cut_after, resized, poured, spread};
+ghost use Rattle.write_store.specs.Write.{wrote, Resizable, CanWrite};
 
 use block::{Addr, Index, LinkedBlock};
 use read_dir::Placed;

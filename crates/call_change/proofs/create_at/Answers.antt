@@ -18,8 +18,8 @@ returns-in_err-created-clause-result_value c =
 pub returns-in_err-created-clause-img_after : goal.returns-in_err-created-clause-img_after
 returns-in_err-created-clause-img_after c = c.in_err-created.ensures.img_after ∙ create_image_at _ _ _ _ _ _ _ _ c.in_ok-s.ensures.begin_is _ _
 
-pub new-requires : goal.new-requires
-new-requires c = created_short _ _ _ _ _ c.in_ok-created.ensures.result_value _ c.parts_of.ensures.name_is
+pub invariant_of-new : goal.invariant_of-new
+invariant_of-new c = record { short = created_short _ _ _ _ _ c.in_ok-created.ensures.result_value _ c.parts_of.ensures.name_is }
 
 pub returns-clause-result_value : goal.returns-clause-result_value
 returns-clause-result_value c =

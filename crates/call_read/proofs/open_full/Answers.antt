@@ -9,10 +9,10 @@ use Rattle.call_read.proofs.open_full.Goals as goal
 pub returns-in_err-found : goal.returns-in_err-found
 returns-in_err-found c = rw (err_is c.from_residual.result c.from_residual.ensures.1) (open_lost _ _ _ _ c.in_err-found.ensures)
 
-pub new-requires : goal.new-requires
-new-requires c =
+pub invariant_of-new : goal.invariant_of-new
+invariant_of-new c =
     let bytes : (i : ℕ) → get_or c.args.img.now i 0 < 256 = λ i. omega (arith, c.type_inv.img i) in
-    found_short _ _ _ bytes _ c.in_ok-found.ensures _ c.parts_of.ensures.name_is
+    record { short = found_short _ _ _ bytes _ c.in_ok-found.ensures _ c.parts_of.ensures.name_is }
 
 pub returns-in-Dir : goal.returns-in-Dir
 returns-in-Dir c = open_other _ _ _ _ c.in_ok-found.ensures c.in-Dir.is

@@ -20,6 +20,6 @@ returns-clause-result_value c =
 
 pub returns-clause-sited_in : goal.returns-clause-sited_in
 returns-clause-sited_in c = (
-  spot_room c.args.v.s c.args.v.img.now c.in_ok-spot.spot _ c.blocks_needed-needed.ensures _ c.requires.ready c.lacks.ensures c.if-lacks.false,
+  spot_room c.args.v.s c.args.v.img.now c.in_ok-spot.spot _ c.blocks_needed-needed.ensures _ c.requires c.lacks.ensures c.if-lacks.false,
   spot_in c.args.v.s c.args.v.img.now c.in_ok-spot.spot _ _ c.in_ok-spot.ensures,
 )

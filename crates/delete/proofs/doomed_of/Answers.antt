@@ -1,7 +1,4 @@
-use mathlib.Core.Path.{ap, ◌∙◌}
-use native.Mathlib.Omega.{arith}
-use lib.ListN.{length}
-use Rattle.path.proofs.FullPaths.{dir_short}
+use mathlib.Core.Path.{◌∙◌}
 use Rattle.dir.specs.Post.{hold_of}
 use Rattle.dir.proofs.Answers.{passed_on}
 use Rattle.delete.specs.Post.{doomed}
@@ -12,9 +9,6 @@ pub returns-then-is_empty : goal.returns-then-is_empty
 returns-then-is_empty c =
     mark_empty c.args.v.s c.args.v.img.now c.args.full.now _ _ c.args.v.fit c.parts_of-parts.ensures.dir_is c.parts_of-parts.ensures.name_is
     _ c.is_empty.ensures c.if-is_empty.true
-
-pub hold-requires : goal.hold-requires
-hold-requires c = omega (arith, ap length c.parts_of-parts.ensures.dir_is, dir_short c.args.full.now, c.requires)
 
 pub returns-in_err-h : goal.returns-in_err-h
 returns-in_err-h c =

@@ -1,20 +1,13 @@
 use mathlib.Core.Path.{◌∙◌}
-use native.Mathlib.Omega.{arith}
 use Rattle.super_block.specs.Super.{area_in}
-use Rattle.path.proofs.FullPaths.{dir_short}
 use Rattle.dir.specs.Post.{located}
 use Rattle.dir.proofs.Answers.{passed_on, entry_empty, entry_no, entry_lost, entry_found}
-use mathlib.Core.Path.{ap}
-use lib.ListN.{length}
 use Rattle.dir.proofs.find.Goals as goal
 
 pub returns-then-is_empty : goal.returns-then-is_empty
 returns-then-is_empty c =
     entry_empty (area_in c.args.v.s) c.args.v.img.now c.args.full.now _ _ c.parts_of-parts.ensures.dir_is c.parts_of-parts.ensures.name_is
     _ c.is_empty.ensures c.if-is_empty.true
-
-pub open-requires : goal.open-requires
-open-requires c = omega (arith, ap length c.parts_of-parts.ensures.dir_is, dir_short c.args.full.now, c.requires)
 
 pub returns-in_err-dir : goal.returns-in_err-dir
 returns-in_err-dir c =

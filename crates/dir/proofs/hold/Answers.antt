@@ -1,19 +1,20 @@
 use mathlib.Core.Path.{◌∙◌}
+use native.Mathlib.Omega.{arith}
 use Rattle.super_block.specs.Super.{area_in}
 use Rattle.dir.specs.Hold.{hold_from}
 use Rattle.dir.specs.Post.{hold_of}
 use Rattle.dir.proofs.Answers.{passed_on}
-use Rattle.dir.proofs.HoldLaws.{room_start, room_depth, room_on, fewer_left, way_on, way_done, piece_on, piece_refused, entered_deep}
+use Rattle.dir.proofs.HoldLaws.{room_start, room_some, room_on, fewer_left, way_on, way_done, piece_on, piece_refused, entered_deep}
 use Rattle.dir.proofs.hold.Goals as goal
 
 pub loop-rest-init : goal.loop-rest-init
 loop-rest-init c = record {
   way = λ i. hold_from (area_in c.args.v.s) c.args.v.img.now (c.way-rest.ensures.value i) (c.root-h.ensures i);
-  room = room_start c.way-rest.result c.args.dir_path.now _ _ c.root-h.ensures c.way-rest.ensures.within c.requires;
+  room = room_start c.way-rest.result _ _ _ c.root-h.ensures c.way-rest.ensures.within;
 }
 
 pub enter-requires : goal.enter-requires
-enter-requires c = room_depth c.loop-rest.rest c.in-Some.way c.in-Some.is _ c.loop-rest.invariant.room
+enter-requires c = omega (arith, room_some c.loop-rest.rest c.in-Some.way c.in-Some.is _ _ c.loop-rest.invariant.room)
 
 pub returns-in_err-h : goal.returns-in_err-h
 returns-in_err-h c =
@@ -32,7 +33,7 @@ loop-rest-preserved c =
     let deep = entered_deep (area_in c.args.v.s) c.args.v.img.now h c.first_piece.result.0.now (hold_of c.in_ok-h.h) c.in_ok-h.ensures in
     record {
       way = piece_on (area_in c.args.v.s) c.args.v.img.now h c.in-Some.way.now _ _ _ c.first_piece.ensures.value w _ c.in_ok-h.ensures;
-      room = room_on c.loop-rest.rest c.in-Some.way c.in-Some.is c.first_piece.result.1 c.first_piece.ensures.shorter _ _
+      room = room_on c.loop-rest.rest c.in-Some.way c.in-Some.is c.first_piece.result.1 c.first_piece.ensures.shorter _ _ _
           c.loop-rest.invariant.room deep;
     }
 
