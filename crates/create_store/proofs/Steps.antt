@@ -9,7 +9,6 @@ use lib.Seq.{take_all}
 use Rattle.wire.specs.Be.{splice}
 use Rattle.wire.proofs.Numbers.{length-splice}
 use Rattle.block.specs.declared.Addr.{Addr}
-use Rattle.block.specs.declared.LinkedBlock.{LinkedBlock}
 use Rattle.block.specs.Block.{Area, linked, Off, Kept}
 use Rattle.block.proofs.Blocks.{linked_kept}
 use Rattle.model.specs.Tree.{Name}
@@ -190,13 +189,13 @@ entry_stored B I J L at a o e name h w f j l =
     l ∙ (λ i. splice J (f i + 18) (take_all (length name) name (omega arith) i))
     ∙ splice-then I J q (q + 18) (head_bytes e) name (j ∙ ap (λ (z : ℕ). splice I z (head_bytes e)) f) k (omega (arith, length_head e))
 
--- enter
-pub enter_image : (s : SuperBlock) (I J L : List ℕ) (p : Place) (x : LinkedBlock) (k : Kind) (a : Addr) (name : Name) (time : ℕ) (e : DirEntry)
-    → Fit s I → x.size ≡ s.size → x.addr.0 ≡ p.block.0 → J ≡ block_taken (geo_of s) I → a.0 ≡ fresh (geo_of s) I
+-- enter: z and m are the size and the address of the linked block that it stores in
+pub enter_image : (s : SuperBlock) (I J L : List ℕ) (p : Place) (z m : ℕ) (k : Kind) (a : Addr) (name : Name) (time : ℕ) (e : DirEntry)
+    → Fit s I → z ≡ s.size → m ≡ p.block.0 → J ≡ block_taken (geo_of s) I → a.0 ≡ fresh (geo_of s) I
     → e ≡ record { kind = k; addr = a; size = 0; time = time; len = length name }
-    → L ≡ splice J (place_at x.size x.addr.0 p.offset) (head_bytes e ++ name) → L ≡ entered (geo_of s) I p k name time
+    → L ≡ splice J (place_at z m p.offset) (head_bytes e ++ name) → L ≡ entered (geo_of s) I p k name time
 unfolding entered
-enter_image s I J L p x k a name time e fit g h j f d l =
+enter_image s I J L p z m k a name time e fit g h j f d l =
     let at : ℕ → ℕ = λ B. place_at B p.block.0 p.offset in
     l ∙ (λ i. splice (j i) (place_at (g i) (h i) p.offset) (head_bytes (d i) ++ name))
     ∙ (λ i. splice (block_taken (geo_of s) I) (at (fit.size i)) (head_bytes (new_head k (f i) time (length name)) ++ name))

@@ -3,7 +3,6 @@ use mathlib.Core.Path.{◌≡◌, sym, ap, ◌∙◌}
 use mathlib.Core.List.{List}
 use Prim.Native.Nat.{ℕ}
 use Rattle.block.specs.Block.{Area}
-use Rattle.block.specs.declared.LinkedBlock.{LinkedBlock}
 use Rattle.super_block.specs.declared.SuperBlock.{SuperBlock}
 use Rattle.super_block.specs.Super.{area_in, geo_of, Fit}
 use Rattle.super_block.proofs.Fits.{area_is}
@@ -14,11 +13,10 @@ use Rattle.read_dir.specs.Walk.{walk}
 use Rattle.read_dir.specs.Finds.{sum_from}
 use Rattle.own_entry.specs.Own.{Own, own_renewed, own_summed, sum_renewed}
 
--- an entry in the linked block x of a place's own block
-module _ (B : ℕ) (I : List ℕ) (p : Place) (x : LinkedBlock) (e : x.size ≡ B) (f : x.addr.0 ≡ p.block.0) where
-  pub renewed_in : (J : List ℕ) (z k : ℕ) → J ≡ own_renewed x.size I (Some (record { block = x.addr; offset = p.offset })) z k
-      → J ≡ own_renewed B I (Some p) z k
-  renewed_in J z k h = h ∙ (λ i. own_renewed (e i) I (Some (record { block = record { 0 = f i }; offset = p.offset })) z k)
+-- an entry at a place, by the size z and the address a of the linked block that code makes
+pub renewed_in : (B : ℕ) (I J : List ℕ) (p : Place) (z a n k : ℕ) → z ≡ B → a ≡ p.block.0
+    → J ≡ own_renewed z I (Some (record { block = record { 0 = a }; offset = p.offset })) n k → J ≡ own_renewed B I (Some p) n k
+renewed_in B I J p z a n k e f h = h ∙ (λ i. own_renewed (e i) I (Some (record { block = record { 0 = f i }; offset = p.offset })) n k)
 
 -- ---- the sum of the directory
 
@@ -27,17 +25,16 @@ module _ (s : SuperBlock) (I : List ℕ) (dir : ℕ) (own : Own) (time : ℕ) (r
   unfolding sum_renewed
   renewed_by = ap (own_summed s.size I own time) e ∙ ap (λ (A : Area). own_summed A.size I own time (sum_from 0 (walk A I dir))) (area_is f)
 
-  module _ (z : ℕ) (q : r ≡ Ok z) where
-    pub sum_told : (J : List ℕ) (p : Place) (x : LinkedBlock) → own ≡ Some p → x.size ≡ s.size → x.addr.0 ≡ p.block.0
-        → J ≡ own_renewed x.size I (Some (record { block = x.addr; offset = p.offset })) z time → J ≡ sum_renewed (geo_of s) I dir own time
-    sum_told J p x o g h j =
-        renewed_in s.size I p x g h J z time j
-        ∙ ap (λ (w : Own). own_renewed s.size I w z time) (sym o)
-        ∙ ap (own_summed s.size I own time) (sym q)
-        ∙ renewed_by
+  module _ (n : ℕ) (q : r ≡ Ok n) where
+    told : own_renewed s.size I own n time ≡ sum_renewed (geo_of s) I dir own time
+    told = ap (own_summed s.size I own time) (sym q) ∙ renewed_by
+
+    pub sum_told : (J : List ℕ) (p : Place) (z a : ℕ) → own ≡ Some p → z ≡ s.size → a ≡ p.block.0
+        → J ≡ own_renewed z I (Some (record { block = record { 0 = a }; offset = p.offset })) n time → J ≡ sum_renewed (geo_of s) I dir own time
+    sum_told J p z a o g h j = renewed_in s.size I J p z a n time g h j ∙ ap (λ (w : Own). own_renewed s.size I w n time) (sym o) ∙ told
 
     pub sum_of_root : own ≡ None → I ≡ sum_renewed (geo_of s) I dir own time
-    sum_of_root o = ap (λ (w : Own). own_renewed s.size I w z time) (sym o) ∙ ap (own_summed s.size I own time) (sym q) ∙ renewed_by
+    sum_of_root o = ap (λ (w : Own). own_renewed s.size I w n time) (sym o) ∙ told
 
   pub sum_damaged : (x : Damage) → r ≡ Err x → I ≡ sum_renewed (geo_of s) I dir own time
   sum_damaged x q = ap (own_summed s.size I own time) (sym q) ∙ renewed_by
