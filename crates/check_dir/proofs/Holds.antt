@@ -93,13 +93,14 @@ module _ (B : ℕ) (I : List ℕ) (late : Bool) (a b o z : ℕ) (known : BlockSi
     looks_empty t g = sym (stopped ∙ rw t (rw g refl))
 
     -- k is the block's capacity, p the byte behind its entries
-    pub looks_zeros : (p k : ℕ) (r : Bool) → ((late ≡ true) × (o ≡ 0 → ⊥)) ⊎ (late ≡ false) → p ≡ place_at z b o → k ≡ z - 4 → r ≡ zero_from I p (k - o)
-        → r ≡ may_stand late (raws_from B I B a 0)
+    pub looks_zeros : (p k : ℕ) (r : Bool) → ((late ≡ true) × (o ≡ 0 → ⊥)) ⊎ (late ≡ false) → p ≡ place_at z b o → k ≡ z - 4
+        → r ≡ zero_from I p (k - o) → r ≡ may_stand late (raws_from B I B a 0)
     looks_zeros p k r t g c h =
         let y : (late && eqb o 0) ≡ false = wanted t in
         let q : p ≡ place_at B a o = place_is o large same g in
         let m : k - o ≡ B - 4 - o = omega (arith, large) in
-        h ∙ (λ i. zero_from I (q i) (m i)) ∙ sym (stopped ∙ ap (λ (x : Bool). not x && zero_from I (place_at B a o) (B - 4 - o)) y)
+        h ∙ (λ i. zero_from I (q i) (m i))
+        ∙ sym (stopped ∙ ap (λ (x : Bool). not x && zero_from I (place_at B a o) (B - 4 - o)) y)
       where
         wanted : ((late ≡ true) × (o ≡ 0 → ⊥)) ⊎ (late ≡ false) → (late && eqb o 0) ≡ false
         wanted (inl f) = ap (λ (x : Bool). x && eqb o 0) f.0 ∙ ne_eqb o 0 f.1

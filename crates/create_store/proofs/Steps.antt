@@ -180,9 +180,9 @@ after_image s I J t a f e j =
     j ∙ ap (λ (B : ℕ). linked B (block_taken (geo_of s) I) a.0 (fresh (geo_of s) I)) f.size ∙ ap (opened (geo_of s) I) (sym e)
 
 -- store_entry
-pub entry_stored : (B : ℕ) (I J L : List ℕ) (at a o : ℕ) (e : DirEntry) (name : Name) → B * a + B ≤ length I → o + 18 + length name ≤ B - 5
-    → at ≡ place_at B a o → J ≡ splice I at (head_bytes e) → L ≡ splice J (at + 18) (take (length name) (drop 0 name))
-    → L ≡ splice I (place_at B a o) (head_bytes e ++ name)
+pub entry_stored : (B : ℕ) (I J L : List ℕ) (at a o : ℕ) (e : DirEntry) (name : Name) → B * a + B ≤ length I
+    → o + 18 + length name ≤ B - 5 → at ≡ place_at B a o → J ≡ splice I at (head_bytes e)
+    → L ≡ splice J (at + 18) (take (length name) (drop 0 name)) → L ≡ splice I (place_at B a o) (head_bytes e ++ name)
 entry_stored B I J L at a o e name h w f j l =
     let q : ℕ = place_at B a o in
     let k : q + 18 ≡ q + length (head_bytes e) = omega (arith, length_head e) in
@@ -190,8 +190,8 @@ entry_stored B I J L at a o e name h w f j l =
     ∙ splice-then I J q (q + 18) (head_bytes e) name (j ∙ ap (λ (z : ℕ). splice I z (head_bytes e)) f) k (omega (arith, length_head e))
 
 -- enter: z and m are the size and the address of the linked block that it stores in
-pub enter_image : (s : SuperBlock) (I J L : List ℕ) (p : Place) (z m : ℕ) (k : Kind) (a : Addr) (name : Name) (time : ℕ) (e : DirEntry)
-    → Fit s I → z ≡ s.size → m ≡ p.block.0 → J ≡ block_taken (geo_of s) I → a.0 ≡ fresh (geo_of s) I
+pub enter_image : (s : SuperBlock) (I J L : List ℕ) (p : Place) (z m : ℕ) (k : Kind) (a : Addr) (name : Name) (time : ℕ)
+    (e : DirEntry) → Fit s I → z ≡ s.size → m ≡ p.block.0 → J ≡ block_taken (geo_of s) I → a.0 ≡ fresh (geo_of s) I
     → e ≡ record { kind = k; addr = a; size = 0; time = time; len = length name }
     → L ≡ splice J (place_at z m p.offset) (head_bytes e ++ name) → L ≡ entered (geo_of s) I p k name time
 unfolding entered

@@ -81,8 +81,8 @@ module _ (s : SuperBlock) (I : List ℕ) (dir b : ℕ) where
   unfolding less_bare
   bare_first e = sym (pick_true _ _ (eq-eqb b dir e))
 
-  module _ (f : Fit s I) (z m at k : ℕ) (r : Bool) (n : b ≡ dir → ⊥) (v : z ≡ s.size) (w : m ≡ b) (p : at ≡ place_at z m 0) (c : k ≡ z - 4)
-      (q : r ≡ zero_from I at k) where
+  module _ (f : Fit s I) (z m at k : ℕ) (r : Bool) (n : b ≡ dir → ⊥) (v : z ≡ s.size) (w : m ≡ b)
+      (p : at ≡ place_at z m 0) (c : k ≡ z - 4) (q : r ≡ zero_from I at k) where
     tested : zero_from I (block_size (geo_of s) * b + 4) (block_size (geo_of s) - 4) ≡ r
     tested =
         let x : at ≡ s.size * b + 4 = rw (v, w, add-zero) at p in
@@ -100,15 +100,17 @@ module _ (s : SuperBlock) (I : List ℕ) (dir b : ℕ) where
 -- ---- the whole
 
 -- the bytes that move down and the zeros behind them, as code stores them
-pub cut_is : (B : ℕ) (I J L : List ℕ) (a o w at k : ℕ) → at ≡ place_at B a o → k ≡ B - 4 → J ≡ splice I at (take (k - (o + w)) (drop (at + w) I))
+pub cut_is : (B : ℕ) (I J L : List ℕ) (a o w at k : ℕ) → at ≡ place_at B a o → k ≡ B - 4
+    → J ≡ splice I at (take (k - (o + w)) (drop (at + w) I))
     → L ≡ splice J (at + (k - (o + w))) (zeros w) → L ≡ cut_out B I a o w
 unfolding cut_out
 cut_is B I J L a o w at k e c h j =
     j ∙ ap (λ (K : List ℕ). splice K (at + (k - (o + w))) (zeros w)) h
     ∙ (λ i. splice (splice I (e i) (take (c i - (o + w)) (drop (e i + w) I))) (e i + (c i - (o + w))) (zeros w))
 
-pub gone_is : (s : SuperBlock) (I J L : List ℕ) (dir : ℕ) (e : DirEntry) (p : Place) (z m : ℕ) → Fit s I → z ≡ s.size → m ≡ p.block.0
-    → J ≡ cut_out z I m p.offset (18 + e.len) → L ≡ less_bare (geo_of s) J dir p.block.0 → L ≡ entry_gone (geo_of s) I dir e p
+pub gone_is : (s : SuperBlock) (I J L : List ℕ) (dir : ℕ) (e : DirEntry) (p : Place) (z m : ℕ) → Fit s I → z ≡ s.size
+    → m ≡ p.block.0 → J ≡ cut_out z I m p.offset (18 + e.len) → L ≡ less_bare (geo_of s) J dir p.block.0
+    → L ≡ entry_gone (geo_of s) I dir e p
 unfolding entry_gone
 gone_is s I J L dir e p z m f v w x y =
     y ∙ ap (λ (K : List ℕ). less_bare (geo_of s) K dir p.block.0)

@@ -16,7 +16,8 @@ use Rattle.own_entry.specs.Own.{Own, own_renewed, own_summed, sum_renewed}
 -- an entry at a place, by the size z and the address a of the linked block that code makes
 pub renewed_in : (B : ℕ) (I J : List ℕ) (p : Place) (z a n k : ℕ) → z ≡ B → a ≡ p.block.0
     → J ≡ own_renewed z I (Some (record { block = record { 0 = a }; offset = p.offset })) n k → J ≡ own_renewed B I (Some p) n k
-renewed_in B I J p z a n k e f h = h ∙ (λ i. own_renewed (e i) I (Some (record { block = record { 0 = f i }; offset = p.offset })) n k)
+renewed_in B I J p z a n k e f h =
+    h ∙ (λ i. own_renewed (e i) I (Some (record { block = record { 0 = f i }; offset = p.offset })) n k)
 
 -- ---- the sum of the directory
 
@@ -30,8 +31,10 @@ module _ (s : SuperBlock) (I : List ℕ) (dir : ℕ) (own : Own) (time : ℕ) (r
     told = ap (own_summed s.size I own time) (sym q) ∙ renewed_by
 
     pub sum_told : (J : List ℕ) (p : Place) (z a : ℕ) → own ≡ Some p → z ≡ s.size → a ≡ p.block.0
-        → J ≡ own_renewed z I (Some (record { block = record { 0 = a }; offset = p.offset })) n time → J ≡ sum_renewed (geo_of s) I dir own time
-    sum_told J p z a o g h j = renewed_in s.size I J p z a n time g h j ∙ ap (λ (w : Own). own_renewed s.size I w n time) (sym o) ∙ told
+        → J ≡ own_renewed z I (Some (record { block = record { 0 = a }; offset = p.offset })) n time
+        → J ≡ sum_renewed (geo_of s) I dir own time
+    sum_told J p z a o g h j =
+        renewed_in s.size I J p z a n time g h j ∙ ap (λ (w : Own). own_renewed s.size I w n time) (sym o) ∙ told
 
     pub sum_of_root : own ≡ None → I ≡ sum_renewed (geo_of s) I dir own time
     sum_of_root o = ap (λ (w : Own). own_renewed s.size I w n time) (sym o) ∙ told

@@ -33,7 +33,8 @@ module _ (s : SuperBlock) (I : List ℕ) (f : Fit s I) (e : DirEntry) (p : Place
   few_blocks =
       let k : ℕ = blocks_for s.size e.size in
       let q : blocks_for s.size (c + len) ≤ k
-      = blocks_least s.size five (c + len) k (blocks-some s.size five e.size) (omega (arith, blocks_enough s.size five e.size, w.inside)) in
+      = blocks_least s.size five (c + len) k (blocks-some s.size five e.size)
+      (omega (arith, blocks_enough s.size five e.size, w.inside)) in
       omega (arith, n, q, ap (λ (B : ℕ). blocks_for B e.size) f.size)
 
   pub patch_along : Along (geo_of s) I e.addr.0 m

@@ -178,7 +178,8 @@ module _ (s : SuperBlock) (I : List ℕ) (f : Fit s I) (b at : ℕ) (vs : List �
       (rw e (next_kept s.size _ I (splice I (s.size * b + (4 + at)) vs) k c four (λ o m _ p _. omega arith)))
 
 module _ (s : SuperBlock) (L vs I : List ℕ) (b at left fewer : ℕ) (h : left ≡ suc fewer) (l : at < s.size - 4) (to : ℕ) (J : List ℕ)
-    (et : to ≡ next s.size I b) (z m : ℕ) (ez : z ≡ s.size) (em : m ≡ b) (filled : J ≡ splice I (z * m + 4 + at) (take (z - 4 - at) vs)) where
+    (et : to ≡ next s.size I b) (z m : ℕ) (ez : z ≡ s.size) (em : m ≡ b)
+    (filled : J ≡ splice I (z * m + 4 + at) (take (z - 4 - at) vs)) where
   stored : J ≡ splice I (s.size * b + 4 + at) (take (s.size - 4 - at) vs)
   stored = rw (ez, em) at filled
 
@@ -196,7 +197,8 @@ module _ (s : SuperBlock) (L vs I : List ℕ) (b at left fewer : ℕ) (h : left 
       → poured s.size I b at vs left ≡ poured s.size L a o us k → poured s.size J to 0 ws fewer ≡ poured s.size L a o us k
   unfolding poured
   pour_more a k o us ws er t =
-      (λ j. poured s.size (stored j) (et j) 0 ((er ∙ (λ i. drop (ez i - 4 - at) vs)) j) fewer) ∙ sym (ap (poured s.size I b at vs) h) ∙ t
+      let rest : ws ≡ drop (s.size - 4 - at) vs = rw ez at er in
+      (λ j. poured s.size (stored j) (et j) 0 (rest j) fewer) ∙ sym (ap (poured s.size I b at vs) h) ∙ t
 
 pub pour_ends : (B : ℕ) (L : List ℕ) (a k o : ℕ) (us I : List ℕ) (b at : ℕ) (vs : List ℕ) (left : ℕ)
     → poured B I b at vs left ≡ poured B L a o us k → left ≤ 0 → I ≡ poured B L a o us k
