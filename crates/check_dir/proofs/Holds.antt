@@ -16,7 +16,7 @@ use Rattle.block.specs.Block.{BlockSize}
 use Rattle.model.specs.Tree.{then}
 use Rattle.dir_entry.specs.declared.DirEntry.{DirEntry}
 use Rattle.dir_entry.specs.Entry.{place_at, name_at, slot_at}
-use Rattle.dir_entry.proofs.Slots.{slot_stands}
+use Rattle.dir_entry.proofs.Slots.{place_is, slot_stands}
 use Rattle.text.specs.Text.{is_name}
 use Rattle.thm_survey.specs.Survey.{Raw, has_some, passes, on_slot, raws_from}
 use Rattle.check_dir.specs.Blocks.{may_stand}
@@ -92,10 +92,15 @@ module _ (B : ℕ) (I : List ℕ) (late : Bool) (a b o z : ℕ) (known : BlockSi
     pub looks_empty : late ≡ true → o ≡ 0 → false ≡ may_stand late (raws_from B I B a 0)
     looks_empty t g = sym (stopped ∙ rw t (rw g refl))
 
-    pub looks_zeros : (p : ℕ) (r : Bool) → ((late ≡ true) × (o ≡ 0 → ⊥)) ⊎ (late ≡ false) → p ≡ place_at B a o → r ≡ zero_from I p (B - 4 - o) → r ≡ may_stand late (raws_from B I B a 0)
-    looks_zeros p r t g h =
+    -- k is the block's capacity, p the byte behind its entries
+    pub looks_zeros : (p k : ℕ) (r : Bool) → ((late ≡ true) × (o ≡ 0 → ⊥)) ⊎ (late ≡ false) → p ≡ place_at z b o → k ≡ z - 4
+        → r ≡ zero_from I p (k - o) → r ≡ may_stand late (raws_from B I B a 0)
+    looks_zeros p k r t g c h =
         let y : (late && eqb o 0) ≡ false = wanted t in
-        h ∙ ap (λ (x : ℕ). zero_from I x (B - 4 - o)) g ∙ sym (stopped ∙ ap (λ (x : Bool). not x && zero_from I (place_at B a o) (B - 4 - o)) y)
+        let q : p ≡ place_at B a o = place_is o large same g in
+        let m : k - o ≡ B - 4 - o = omega (arith, large) in
+        h ∙ (λ i. zero_from I (q i) (m i))
+        ∙ sym (stopped ∙ ap (λ (x : Bool). not x && zero_from I (place_at B a o) (B - 4 - o)) y)
       where
         wanted : ((late ≡ true) × (o ≡ 0 → ⊥)) ⊎ (late ≡ false) → (late && eqb o 0) ≡ false
         wanted (inl f) = ap (λ (x : Bool). x && eqb o 0) f.0 ∙ ne_eqb o 0 f.1

@@ -14,7 +14,7 @@ ghost use Rattle.check_chain.specs.Marks.{MarksAnswer, Inside};
 ghost use Rattle.check_dir.specs.Blocks.{may_stand, block_check};
 ghost use Rattle.thm_survey.specs.Steps.{open_dir, is_total};
 
-use block::{Addr, LinkedBlock};
+use block::Addr;
 use dir_entry::DirEntry;
 use read_dir::{Place, Placed};
 use super_block::Volume;
@@ -39,9 +39,10 @@ fn stands(v: Volume, a: Addr, later: bool) -> bool
     requires { v.s.size * a.0 + v.s.size ≤ length v.img.now }
     ensures { result ≡ may_stand later (raws_from v.entry.s.size v.entry.img.now v.entry.s.size a.0 0) }
 {
-    let capacity = (v.s.size - LinkedBlock::LINK) as usize;
+    let block = v.block(a);
+    let capacity = block.capacity() as usize;
     let mut o: usize = 0;
-    while let Some(e) = DirEntry::decode(v.img, LinkedBlock::new(v.s.size, a), o) {
+    while let Some(e) = DirEntry::decode(v.img, block, o) {
         if !passes(v, a, o, e) {
             return false;
         }
@@ -50,7 +51,7 @@ fn stands(v: Volume, a: Addr, later: bool) -> bool
     if later && o == 0 {
         return false;
     }
-    wire::zero_bytes(v.img, dir_entry::place(v.s.size, a, o), capacity - o)
+    wire::zero_bytes(v.img, dir_entry::place(block, o), capacity - o)
 }
 
 // Claims block a of a directory and looks at its entries.

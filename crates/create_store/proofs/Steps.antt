@@ -180,25 +180,25 @@ after_image s I J t a f e j =
     j ∙ ap (λ (B : ℕ). linked B (block_taken (geo_of s) I) a.0 (fresh (geo_of s) I)) f.size ∙ ap (opened (geo_of s) I) (sym e)
 
 -- store_entry
-pub entry_stored : (B : ℕ) (I J L : List ℕ) (at : ℕ) (p : Place) (e : DirEntry) (name : Name) → B * p.block.0 + B ≤ length I
-    → p.offset + 18 + length name ≤ B - 5 → at ≡ place_at B p.block.0 p.offset → J ≡ splice I at (head_bytes e)
-    → L ≡ splice J (at + 18) (take (length name) (drop 0 name))
-    → L ≡ splice I (place_at B p.block.0 p.offset) (head_bytes e ++ name)
-entry_stored B I J L at p e name h w f j l =
-    let q : ℕ = place_at B p.block.0 p.offset in
+pub entry_stored : (B : ℕ) (I J L : List ℕ) (at a o : ℕ) (e : DirEntry) (name : Name) → B * a + B ≤ length I → o + 18 + length name ≤ B - 5
+    → at ≡ place_at B a o → J ≡ splice I at (head_bytes e) → L ≡ splice J (at + 18) (take (length name) (drop 0 name))
+    → L ≡ splice I (place_at B a o) (head_bytes e ++ name)
+entry_stored B I J L at a o e name h w f j l =
+    let q : ℕ = place_at B a o in
     let k : q + 18 ≡ q + length (head_bytes e) = omega (arith, length_head e) in
     l ∙ (λ i. splice J (f i + 18) (take_all (length name) name (omega arith) i))
     ∙ splice-then I J q (q + 18) (head_bytes e) name (j ∙ ap (λ (z : ℕ). splice I z (head_bytes e)) f) k (omega (arith, length_head e))
 
--- enter
-pub enter_image : (s : SuperBlock) (I J L : List ℕ) (p : Place) (k : Kind) (a : Addr) (name : Name) (time n : ℕ)
-    → Fit s I → J ≡ block_taken (geo_of s) I → a.0 ≡ fresh (geo_of s) I → n ≡ length name
-    → L ≡ splice J (place_at s.size p.block.0 p.offset) (head_bytes (record { kind = k; addr = a; size = 0; time = time; len = n }) ++ name)
-    → L ≡ entered (geo_of s) I p k name time
+-- enter: z and m are the size and the address of the linked block that it stores in, n the length that the entry says
+pub enter_image : (s : SuperBlock) (I J L : List ℕ) (p : Place) (z m n : ℕ) (k : Kind) (a : Addr) (name : Name) (time : ℕ) (e : DirEntry)
+    → Fit s I → z ≡ s.size → m ≡ p.block.0 → J ≡ block_taken (geo_of s) I → a.0 ≡ fresh (geo_of s) I
+    → n ≡ length name → e ≡ record { kind = k; addr = a; size = 0; time = time; len = n }
+    → L ≡ splice J (place_at z m p.offset) (head_bytes e ++ name) → L ≡ entered (geo_of s) I p k name time
 unfolding entered
-enter_image s I J L p k a name time n fit j f d l =
+enter_image s I J L p z m n k a name time e fit g h j f q d l =
     let at : ℕ → ℕ = λ B. place_at B p.block.0 p.offset in
-    l ∙ (λ i. splice (j i) (at (fit.size i)) (head_bytes (new_head k (f i) time (d i)) ++ name))
+    l ∙ (λ i. splice (j i) (place_at (g i) (h i) p.offset) (head_bytes (d i) ++ name))
+    ∙ (λ i. splice (block_taken (geo_of s) I) (at (fit.size i)) (head_bytes (new_head k (f i) time (q i)) ++ name))
 
 -- insert
 pub insert_image : (s : SuperBlock) (I J L M : List ℕ) (dir : ℕ) (t : Spot) (own : Own) (k : Kind) (name : Name) (time : ℕ) (p : Place)

@@ -4,7 +4,7 @@
 
 ghost use Rattle.std.specs.Prelude.{◌≡◌, ◌++◌, ◌+◌, ◌-◌, ◌*◌, ◌≤◌, ◌<◌, length};
 ghost use Rattle.wire.specs.Be.{splice};
-ghost use Rattle.block.specs.Block.{BlockSize, linked};
+ghost use Rattle.block.specs.Block.{linked};
 ghost use Rattle.super_block.specs.Super.{area_in, geo_of, Fit};
 ghost use Rattle.bitmap_block.specs.Bitmap.{fresh, Room};
 ghost use Rattle.dir_entry.specs.Entry.{header, head_bytes, place_at};
@@ -30,7 +30,7 @@ fn used_bytes(v: Volume, block: Addr) -> usize
     requires { v.s.size * block.0 + v.s.size ≤ length v.img.now }
     ensures { (result ≡ used_at v.entry.s.size v.entry.img.now block.0) × (result ≤ v.entry.s.size - 5) }
 {
-    let block = LinkedBlock::new(v.s.size, block);
+    let block = v.block(block);
     let mut at: usize = 0;
     while let Some(e) = DirEntry::decode(v.img, block, at) {
         at += DirEntry::HEADER + usize::from(e.len);
@@ -118,15 +118,12 @@ fn open_place(img: &mut [u8], s: SuperBlock, spot: Spot, len: u8) -> Place
 }
 
 // Stores an entry's fixed part and its name.
-fn store_entry(img: &mut [u8], size: u32, p: Place, e: DirEntry, name: &[u8])
-    requires block_size { BlockSize size }
-    requires size_in_bounds { size * p.block.0 + size ≤ length img.old }
-    requires name_bound { p.offset + header + length name.now ≤ size - 5 }
-    ensures { img.new ≡ splice img.old (place_at size p.block.0 p.offset)
-        (head_bytes e ++ name.now) }
+fn store_entry(img: &mut [u8], block: LinkedBlock, offset: usize, e: DirEntry, name: &[u8])
+    requires size_in_bounds { block.size * block.addr.0 + block.size ≤ length img.old }
+    requires name_bound { offset + header + length name.now ≤ block.size - 5 }
+    ensures { img.new ≡ splice img.old (place_at block.size block.addr.0 offset) (head_bytes e ++ name.now) }
 {
-    let b = p.block;
-    let at = dir_entry::place(size, b, p.offset);
+    let at = dir_entry::place(block, offset);
     e.store(img, at);
     wire::copy(img, at + DirEntry::HEADER, name, 0, name.len());
 }
@@ -148,7 +145,7 @@ fn enter(img: &mut [u8], s: SuperBlock, p: Place, kind: Kind, name: Name, time: 
         time,
         len: name.len(),
     };
-    store_entry(img, s.size, p, e, name.bytes);
+    store_entry(img, LinkedBlock::new(s.size, p.block), p.offset, e, name.bytes);
     a
 }
 

@@ -5,6 +5,7 @@ use mathlib.Core.Logic.{◌⊎◌, inl, inr}
 use mathlib.Core.List.{List}
 use Rattle.std.specs.Prelude.{Some, None}
 use Prim.Native.Nat.{ℕ, suc, ◌+◌, ◌-◌, ◌*◌, ◌≤◌, ◌<◌}
+use native.Mathlib.Nat.{add-zero}
 use native.Mathlib.Omega.{arith}
 use lib.ListN.{length, take, drop}
 use borrow.Author.Tests.{eq-eqb, ne_eqb, le-leb, lt-leb}
@@ -21,7 +22,7 @@ use Rattle.dir_entry.specs.Entry.{header, place_at}
 use Rattle.read_dir.specs.declared.Place.{Place}
 use Rattle.own_entry.specs.Own.{Own, OwnIn, sum_renewed}
 use Rattle.chain_store.specs.Chain.{released, chain_freed}
-use Rattle.delete_store.specs.Delete.{after, cut_out, before_from, unlinked, less_bare, entry_gone, removed}
+use Rattle.delete_store.specs.Delete.{cut_out, before_from, unlinked, less_bare, entry_gone, removed}
 
 -- ---- what calls ask
 
@@ -62,16 +63,17 @@ module _ (B n : ℕ) (I : List ℕ) (e i a b r : ℕ) (v : before_from B n I (e 
 
 -- ---- a block that is emptied
 
--- k and a are the size and the address of the linked block that code makes
-pub unlink_is : (s : SuperBlock) (I J L : List ℕ) (dir b to last k a : ℕ) → Fit s I → to ≡ next s.size I b
-    → last ≡ before_from s.size s.blocks I (s.blocks - s.area.0) dir b → k ≡ s.size → a ≡ last → J ≡ linked k I a to
+-- In the laws below z and m are the size and the address of the linked block that code makes.
+
+pub unlink_is : (s : SuperBlock) (I J L : List ℕ) (dir b to last z m : ℕ) → Fit s I → to ≡ next s.size I b
+    → last ≡ before_from s.size s.blocks I (s.blocks - s.area.0) dir b → z ≡ s.size → m ≡ last → J ≡ linked z I m to
     → L ≡ released (geo_of s) J b → L ≡ unlinked (geo_of s) I dir b
 unfolding unlinked
-unlink_is s I J L dir b to last k a f x z v w j l =
+unlink_is s I J L dir b to last z m f x y v w j l =
     let B : ℕ = block_size (geo_of s) in
     let p : last ≡ before_from B s.blocks I (s.blocks - data_at (geo_of s)) dir b
-    = z ∙ (λ i. before_from (f.size i) s.blocks I (s.blocks - f.area i) dir b) in
-    let q : to ≡ next B I b = x ∙ ap (λ (m : ℕ). next m I b) f.size in
+    = y ∙ (λ i. before_from (f.size i) s.blocks I (s.blocks - f.area i) dir b) in
+    let q : to ≡ next B I b = x ∙ ap (λ (k : ℕ). next k I b) f.size in
     l ∙ ap (λ (K : List ℕ). released (geo_of s) K b) (j ∙ (λ i. linked ((v ∙ f.size) i) I ((w ∙ p) i) (q i)))
 
 module _ (s : SuperBlock) (I : List ℕ) (dir b : ℕ) where
@@ -79,12 +81,13 @@ module _ (s : SuperBlock) (I : List ℕ) (dir b : ℕ) where
   unfolding less_bare
   bare_first e = sym (pick_true _ _ (eq-eqb b dir e))
 
-  module _ (f : Fit s I) (at : ℕ) (r : Bool) (n : b ≡ dir → ⊥) (p : at ≡ place_at s.size b 0)
-      (q : r ≡ zero_from I at (s.size - 4)) where
+  module _ (f : Fit s I) (z m at k : ℕ) (r : Bool) (n : b ≡ dir → ⊥) (v : z ≡ s.size) (w : m ≡ b)
+      (p : at ≡ place_at z m 0) (c : k ≡ z - 4) (q : r ≡ zero_from I at k) where
     tested : zero_from I (block_size (geo_of s) * b + 4) (block_size (geo_of s) - 4) ≡ r
     tested =
-        let z : place_at s.size b 0 ≡ s.size * b + 4 = omega arith in
-        sym (q ∙ ap (λ (x : ℕ). zero_from I x (s.size - 4)) (p ∙ z) ∙ ap (λ (B : ℕ). zero_from I (B * b + 4) (B - 4)) f.size)
+        let x : at ≡ s.size * b + 4 = rw (v, w, add-zero) at p in
+        let y : k ≡ s.size - 4 = rw v at c in
+        sym (q ∙ (λ i. zero_from I (x i) (y i)) ∙ ap (λ (B : ℕ). zero_from I (B * b + 4) (B - 4)) f.size)
 
     pub bare_kept : r ≡ false → I ≡ less_bare (geo_of s) I dir b
     unfolding less_bare
@@ -97,19 +100,21 @@ module _ (s : SuperBlock) (I : List ℕ) (dir b : ℕ) where
 -- ---- the whole
 
 -- the bytes that move down and the zeros behind them, as code stores them
-pub cut_is : (B : ℕ) (I J L : List ℕ) (a o w at : ℕ) → at ≡ place_at B a o → J ≡ splice I at (take (after B o w) (drop (at + w) I))
-    → L ≡ splice J (at + after B o w) (zeros w) → L ≡ cut_out B I a o w
+pub cut_is : (B : ℕ) (I J L : List ℕ) (a o w at k : ℕ) → at ≡ place_at B a o → k ≡ B - 4
+    → J ≡ splice I at (take (k - (o + w)) (drop (at + w) I))
+    → L ≡ splice J (at + (k - (o + w))) (zeros w) → L ≡ cut_out B I a o w
 unfolding cut_out
-cut_is B I J L a o w at e h k =
-    k ∙ ap (λ (K : List ℕ). splice K (at + after B o w) (zeros w)) h
-    ∙ ap (λ (r : ℕ). splice (splice I r (take (after B o w) (drop (r + w) I))) (r + after B o w) (zeros w)) e
+cut_is B I J L a o w at k e c h j =
+    j ∙ ap (λ (K : List ℕ). splice K (at + (k - (o + w))) (zeros w)) h
+    ∙ (λ i. splice (splice I (e i) (take (c i - (o + w)) (drop (e i + w) I))) (e i + (c i - (o + w))) (zeros w))
 
-pub gone_is : (s : SuperBlock) (I J L : List ℕ) (dir : ℕ) (e : DirEntry) (p : Place) → Fit s I
-    → J ≡ cut_out s.size I p.block.0 p.offset (18 + e.len) → L ≡ less_bare (geo_of s) J dir p.block.0 → L ≡ entry_gone (geo_of s) I dir e p
+pub gone_is : (s : SuperBlock) (I J L : List ℕ) (dir : ℕ) (e : DirEntry) (p : Place) (z m : ℕ) → Fit s I → z ≡ s.size
+    → m ≡ p.block.0 → J ≡ cut_out z I m p.offset (18 + e.len) → L ≡ less_bare (geo_of s) J dir p.block.0
+    → L ≡ entry_gone (geo_of s) I dir e p
 unfolding entry_gone
-gone_is s I J L dir e p f x y =
+gone_is s I J L dir e p z m f v w x y =
     y ∙ ap (λ (K : List ℕ). less_bare (geo_of s) K dir p.block.0)
-    (x ∙ ap (λ (B : ℕ). cut_out B I p.block.0 p.offset (header + e.len)) f.size)
+    (x ∙ (λ i. cut_out ((v ∙ f.size) i) I (w i) p.offset (header + e.len)))
 
 pub removed_in : (s : SuperBlock) (I J L M : List ℕ) (dir : ℕ) (e : DirEntry) (p : Place) (own : Own) (time : ℕ) → Fit s I → J ≡ entry_gone (geo_of s) I dir e p
     → L ≡ chain_freed (geo_of s) J (s.blocks - s.area.0) e.addr.0 → M ≡ sum_renewed (geo_of s) L dir own time → M ≡ removed (geo_of s) I dir e p own time

@@ -3,7 +3,6 @@
 #![tactic(auto)]
 
 ghost use Rattle.std.specs.Prelude.{◌≡◌, ◌+◌, ◌-◌, ◌*◌, ◌≤◌, ◌<◌, length};
-ghost use Rattle.block.specs.Block.{BlockSize};
 ghost use Rattle.super_block.specs.Super.{geo_of, Fit};
 ghost use Rattle.dir_entry.specs.Entry.{header};
 ghost use Rattle.own_entry.specs.Own.{OwnIn};
@@ -15,17 +14,15 @@ use dir_entry::DirEntry;
 use read_dir::{Place, Placed};
 use super_block::{SuperBlock, Volume};
 
-// The w bytes at a place go: those after them in the block move down, and the block's end is zeroed.
-fn cut_out(img: &mut [u8], size: u32, p: Place, w: usize)
-    requires block_size { BlockSize size }
-    requires size_in_bounds { size * p.block.0 + size ≤ length img.old }
-    requires w_bound { p.offset + w ≤ size - 5 }
-    ensures { img.new ≡ cut_out size img.old p.block.0 p.offset w }
+// The w bytes at an offset of a block go: those after them in the block move down, and the block's end is zeroed.
+fn cut_out(img: &mut [u8], block: LinkedBlock, offset: usize, w: usize)
+    requires size_in_bounds { block.size * block.addr.0 + block.size ≤ length img.old }
+    requires w_bound { offset + w ≤ block.size - 5 }
+    ensures { img.new ≡ cut_out block.size img.old block.addr.0 offset w }
 {
-    let b = p.block;
-    let at = dir_entry::place(size, b, p.offset);
-    let capacity = (size - LinkedBlock::LINK) as usize;
-    let after = capacity - (p.offset + w);
+    let at = dir_entry::place(block, offset);
+    let capacity = block.capacity() as usize;
+    let after = capacity - (offset + w);
     wire::move_down(img, at, w, after);
     wire::fill(img, at + after, w, 0);
 }
@@ -75,8 +72,9 @@ fn drop_bare(img: &mut [u8], s: SuperBlock, dir: Addr, b: Addr)
     if b.0 == dir.0 {
         return;
     }
-    let at = dir_entry::place(s.size, b, 0);
-    if wire::zero_bytes(img, at, (s.size - LinkedBlock::LINK) as usize) {
+    let block = LinkedBlock::new(s.size, b);
+    let at = dir_entry::place(block, 0);
+    if wire::zero_bytes(img, at, block.capacity() as usize) {
         unlink(img, s, dir, b);
     }
 }
@@ -90,13 +88,14 @@ fn take_out(img: &mut [u8], s: SuperBlock, dir: Addr, x: Placed)
     requires len_bound { x.place.offset + header + x.entry.len ≤ s.size - 5 }
     ensures { img.new ≡ entry_gone (geo_of s) img.old dir.0 x.entry x.place }
 {
+    let p = x.place;
     cut_out(
         img,
-        s.size,
-        x.place,
+        LinkedBlock::new(s.size, p.block),
+        p.offset,
         DirEntry::HEADER + usize::from(x.entry.len),
     );
-    drop_bare(img, s, dir, x.place.block);
+    drop_bare(img, s, dir, p.block);
 }
 
 // Gives back the whole chain from a on.

@@ -18,6 +18,10 @@ use Rattle.block.specs.Block.{cell, Kept}
 use Rattle.dir_entry.specs.declared.DirEntry.{DirEntry}
 use Rattle.dir_entry.specs.Entry.{header, entry_at, place_at, name_at, slot_at}
 
+-- a place in the linked block of an address is one in that block
+pub place_is : {B a z m p : ℕ} (o : ℕ) → z ≡ B → m ≡ a → p ≡ place_at z m o → p ≡ place_at B a o
+place_is o e f h = h ∙ (λ i. place_at (e i) (f i) o)
+
 -- ---- the ways out, each from the tests that lead there
 
 module _ (B : ℕ) (I : List ℕ) (a o : ℕ) where

@@ -3,7 +3,6 @@
 
 ghost use Rattle.std.specs.Prelude.{◌≡◌, ◌+◌, ◌*◌, ◌≤◌, ◌<◌, length};
 ghost use Rattle.wire.specs.Be.{splice};
-ghost use Rattle.block.specs.Block.{BlockSize};
 ghost use Rattle.dir_entry.specs.Entry.{kind_at, kind_byte, entry_at, head_bytes, place_at, slot_at};
 
 use block::{Addr, LinkedBlock};
@@ -43,12 +42,11 @@ impl Name<'_> {
 }
 
 // The byte of the image where an offset of a block's data stands.
-pub fn place(size: u32, a: Addr, offset: usize) -> usize
-    requires block_size { BlockSize size }
-    requires offset_le_size { offset ≤ size }
-    ensures { result ≡ place_at size a.0 offset }
+pub fn place(block: LinkedBlock, offset: usize) -> usize
+    requires { offset ≤ block.size }
+    ensures { result ≡ place_at block.size block.addr.0 offset }
 {
-    block::offset(size, a) + (LinkedBlock::LINK as usize) + offset
+    block::offset(block.size, block.addr) + (LinkedBlock::LINK as usize) + offset
 }
 
 // The kind that a byte of at most 2 stands for.
@@ -93,16 +91,14 @@ impl DirEntry {
 
     // The entry at an offset of a block's data, unless one of the four stop rules says that the block's entries end there.
     pub fn decode(img: &[u8], block: LinkedBlock, offset: usize) -> Option<DirEntry>
-        requires block_size { BlockSize block.size }
-        requires size_in_bounds { block.size * block.addr.0 + block.size ≤ length img.now }
+        requires { block.size * block.addr.0 + block.size ≤ length img.now }
         ensures { result ≡ slot_at block.size img.now block.addr.0 offset }
     {
         let capacity = block.capacity() as usize;
         if capacity - DirEntry::HEADER <= offset {
             return None;
         }
-        let a = block.addr;
-        let at = place(block.size, a, offset);
+        let at = place(block, offset);
         if 2 < img[at] {
             return None;
         }

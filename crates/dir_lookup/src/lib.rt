@@ -9,7 +9,7 @@ ghost use Rattle.read_dir.specs.Walk.{walk};
 ghost use Rattle.read_dir.specs.Cursor.{len_of, Over};
 ghost use Rattle.read_dir.specs.Finds.{find_in};
 
-use block::{Addr, LinkedBlock};
+use block::Addr;
 use dir_entry::DirEntry;
 use limits::Damage;
 use read_dir::{Placed, ReadDir};
@@ -21,11 +21,12 @@ pub fn entry_len(v: Volume, b: Addr, o: usize) -> usize
     requires { v.s.size * b.0 + v.s.size ≤ length v.img.now }
     ensures { result ≡ len_of (slot_at v.entry.s.size v.entry.img.now b.0 o) }
 {
-    let capacity = LinkedBlock::new(v.s.size, b).capacity() as usize;
+    let block = v.block(b);
+    let capacity = block.capacity() as usize;
     if capacity - DirEntry::HEADER <= o {
         return 0;
     }
-    let at = dir_entry::place(v.s.size, b, o);
+    let at = dir_entry::place(block, o);
     if 2 < v.img[at] {
         return 0;
     }
@@ -47,7 +48,7 @@ fn named_at(v: Volume, b: Addr, o: usize, n: usize, name: &[u8]) -> bool
     }
     wire::same_bytes(
         v.img,
-        dir_entry::place(v.s.size, b, o) + DirEntry::HEADER,
+        dir_entry::place(v.block(b), o) + DirEntry::HEADER,
         name,
     )
 }

@@ -63,7 +63,7 @@ fn pour(v: Volume, a: Addr, o: usize, buf: &mut [u8], k: usize)
     // Over an index: of the bytes that are written through chunks_mut a proof knows nothing.
     while i < k {
         let run = limits::run_of(capacity, at, k - i);
-        wire::copy(buf, i, v.img, dir_entry::place(v.s.size, b, at), run);
+        wire::copy(buf, i, v.img, dir_entry::place(v.block(b), at), run);
         b = v.next_addr(b);
         at = 0;
         i += run;

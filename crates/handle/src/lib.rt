@@ -161,7 +161,7 @@ impl Handle {
         ensures { result ≡ (eqb (length (name_at v.entry.img.now (place_at v.entry.s.size b.0 o) n)) self.len
             && eqb (be 4 v.entry.img.now (place_at v.entry.s.size b.0 o + 1)) self.addr.0) }
     {
-        n == self.len && wire::get32(v.img, dir_entry::place(v.s.size, b, o) + 1) == self.addr.0
+        n == self.len && wire::get32(v.img, dir_entry::place(v.block(b), o) + 1) == self.addr.0
     }
 
     // Over the entries in the cursor's block that are not the handle's by their length or their address.

@@ -23,7 +23,7 @@ fn is_dir(v: Volume, b: Addr, o: usize) -> bool
     requires o_bound { o + 22 < v.s.size }
     ensures { result ≡ is_dir (kind_at (get_or v.entry.img.now (place_at v.entry.s.size b.0 o) 0)) }
 {
-    let kind = Kind::from(v.img[dir_entry::place(v.s.size, b, o)]);
+    let kind = Kind::from(v.img[dir_entry::place(v.block(b), o)]);
     matches!(kind, Kind::Dir)
 }
 

@@ -10,7 +10,7 @@ ghost use Rattle.read_dir.specs.Walk.{walk};
 ghost use Rattle.read_dir.specs.Cursor.{start, at_offset, hop_move, over_move, move_at, Stepped};
 ghost use Rattle.read_dir.specs.Finds.{sum_from};
 
-use block::{Addr, LinkedBlock};
+use block::Addr;
 use dir_entry::DirEntry;
 use limits::Damage;
 use super_block::Volume;
@@ -126,7 +126,7 @@ impl ReadDir {
         if !v.has(self.block) {
             return Err(Damage);
         }
-        match DirEntry::decode(v.img, LinkedBlock::new(v.s.size, self.block), self.offset) {
+        match DirEntry::decode(v.img, v.block(self.block), self.offset) {
             None => Ok(self.hop(v)),
             Some(e) => Ok(self.over(e)),
         }
@@ -158,7 +158,7 @@ impl Placed {
             (place_at v.entry.s.size self.place.block.0 self.place.offset) self.entry.len }
     {
         let p = self.place;
-        let from = dir_entry::place(v.s.size, p.block, p.offset) + DirEntry::HEADER;
+        let from = dir_entry::place(v.block(p.block), p.offset) + DirEntry::HEADER;
         &v.img[from..from + (self.entry.len as usize)]
     }
 

@@ -278,11 +278,18 @@ impl<'a> Volume<'a> {
         d.0 <= a.0 && a.0 < self.s.blocks
     }
 
+    // The block of an address, as one of a chain.
+    pub fn block(self, a: Addr) -> LinkedBlock
+        ensures { (result.size ≡ self.entry.s.size) × (result.addr.0 ≡ a.0) }
+    {
+        LinkedBlock::new(self.s.size, a)
+    }
+
     // The next address of a block, 0 at the end of its chain.
     pub fn next_addr(self, a: Addr) -> Addr
         requires { a.0 < self.s.blocks }
         ensures { result.0 ≡ next self.entry.s.size self.entry.img.now a.0 }
     {
-        LinkedBlock::new(self.s.size, a).next_addr(self.img)
+        self.block(a).next_addr(self.img)
     }
 }

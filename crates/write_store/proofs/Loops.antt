@@ -141,8 +141,11 @@ put-splice : (a k : ℕ) (I us : List ℕ) → k ≡ length us → put_mid a k I
 unfolding splice
 put-splice a k I us e = ap (λ (l : List ℕ). take a I ++ (us ++ l)) (drop-drop k a I ∙ ap (λ (j : ℕ). drop (a + j) I) e)
 
--- a run of a block has as many bytes as are left, or as the n that the block has room for
-module _ (vs : List ℕ) (n r : ℕ) (e : r ≡ min (length vs) n) where
+-- a run of a block has as many bytes as are left, or as the n that the block has room for; k is its capacity
+module _ (vs : List ℕ) (B at k r : ℕ) (c : k ≡ B - 4) (e : r ≡ min (length vs) (k - at)) where
+  abbrev n : ℕ
+  n = B - 4 - at
+
   run_same : (take r vs ≡ take n vs) × (drop r vs ≡ drop n vs)
   run_same = go (dec_lt (length vs) n)
     where
@@ -175,7 +178,11 @@ module _ (s : SuperBlock) (I : List ℕ) (f : Fit s I) (b at : ℕ) (vs : List �
       (rw e (next_kept s.size _ I (splice I (s.size * b + (4 + at)) vs) k c four (λ o m _ p _. omega arith)))
 
 module _ (s : SuperBlock) (L vs I : List ℕ) (b at left fewer : ℕ) (h : left ≡ suc fewer) (l : at < s.size - 4) (to : ℕ) (J : List ℕ)
-    (et : to ≡ next s.size I b) (stored : J ≡ splice I (s.size * b + 4 + at) (take (s.size - 4 - at) vs)) where
+    (et : to ≡ next s.size I b) (z m : ℕ) (ez : z ≡ s.size) (em : m ≡ b)
+    (filled : J ≡ splice I (z * m + 4 + at) (take (z - 4 - at) vs)) where
+  stored : J ≡ splice I (s.size * b + 4 + at) (take (s.size - 4 - at) vs)
+  stored = rw (ez, em) at filled
+
   pub pour_along : Fit s L → length I ≡ length L → Along (geo_of s) I b left → Along (geo_of s) J to fewer
   pour_along f long w =
       let g : Fit s I = fit_long long f in
@@ -186,11 +193,12 @@ module _ (s : SuperBlock) (L vs I : List ℕ) (b at left fewer : ℕ) (h : left 
       (along_kept (geo_of s) I (splice I (s.size * b + 4 + at) us)
       (run_kept s I g b at us l (along_here (geo_of s) I b left w (omega arith)).1 few) fewer to n)
 
-  pub pour_more : (a k o : ℕ) (us ws : List ℕ) → ws ≡ drop (s.size - 4 - at) vs
+  pub pour_more : (a k o : ℕ) (us ws : List ℕ) → ws ≡ drop (z - 4 - at) vs
       → poured s.size I b at vs left ≡ poured s.size L a o us k → poured s.size J to 0 ws fewer ≡ poured s.size L a o us k
   unfolding poured
   pour_more a k o us ws er t =
-      (λ j. poured s.size (stored j) (et j) 0 (er j) fewer) ∙ sym (ap (poured s.size I b at vs) h) ∙ t
+      let rest : ws ≡ drop (s.size - 4 - at) vs = rw ez at er in
+      (λ j. poured s.size (stored j) (et j) 0 (rest j) fewer) ∙ sym (ap (poured s.size I b at vs) h) ∙ t
 
 pub pour_ends : (B : ℕ) (L : List ℕ) (a k o : ℕ) (us I : List ℕ) (b at : ℕ) (vs : List ℕ) (left : ℕ)
     → poured B I b at vs left ≡ poured B L a o us k → left ≤ 0 → I ≡ poured B L a o us k

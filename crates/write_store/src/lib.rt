@@ -6,7 +6,6 @@
 ghost use Rattle.std.specs.Prelude.{◌≡◌, ◌+◌, ◌-◌, ◌*◌, ◌/◌, ◌≤◌, ◌<◌, length, take, drop};
 ghost use Rattle.wire.specs.Be.{splice};
 ghost use Rattle.bits.specs.Bit.{AllSet};
-ghost use Rattle.block.specs.Block.{BlockSize};
 ghost use Rattle.model.specs.Geometry.{block_size, map_at, data_at};
 ghost use Rattle.super_block.specs.Super.{geo_of, Fit};
 ghost use Rattle.dir_entry.specs.Entry.{place_at};
@@ -91,17 +90,16 @@ fn resize(img: &mut [u8], s: SuperBlock, a: Addr, old: u32, new: u32)
     }
 }
 
-// As many of the bytes as block b has room for from data byte `at` on; answers the others.
-fn put_run<'a>(img: &mut [u8], size: u32, b: Addr, at: usize, bytes: &'a [u8]) -> &'a [u8]
-    requires block_size { BlockSize size }
-    requires at_bound { at < size - 4 }
-    requires size_in_bounds { size * b.0 + size ≤ length img.old }
-    ensures { (img.new ≡ splice img.old (place_at size b.0 at) (take (size - 4 - at) bytes.now))
-        × (result.now ≡ drop (size - 4 - at) bytes.now) }
+// As many of the bytes as a block has room for from data byte `at` on; answers the others.
+fn put_run<'a>(img: &mut [u8], block: LinkedBlock, at: usize, bytes: &'a [u8]) -> &'a [u8]
+    requires at_bound { at < block.size - 4 }
+    requires size_in_bounds { block.size * block.addr.0 + block.size ≤ length img.old }
+    ensures { (img.new ≡ splice img.old (place_at block.size block.addr.0 at) (take (block.size - 4 - at) bytes.now))
+        × (result.now ≡ drop (block.size - 4 - at) bytes.now) }
 {
-    let capacity = (size - LinkedBlock::LINK) as usize;
+    let capacity = block.capacity() as usize;
     let (run, rest) = bytes.split_at(limits::run_of(capacity, at, bytes.len()));
-    let from = dir_entry::place(size, b, at);
+    let from = dir_entry::place(block, at);
     img[from..from + run.len()].copy_from_slice(run);
     rest
 }
@@ -118,7 +116,7 @@ fn pour(img: &mut [u8], s: SuperBlock, a: Addr, o: usize, buf: &[u8], k: u32)
     let mut rest = buf;
     for _ in 0..k {
         let then = Volume { img, s }.next_addr(b);
-        rest = put_run(img, s.size, b, at, rest);
+        rest = put_run(img, LinkedBlock::new(s.size, b), at, rest);
         b = then;
         at = 0;
     }
@@ -149,5 +147,6 @@ pub fn write(img: &mut [u8], s: SuperBlock, at: Placed, c: u32, buf: &[u8], time
     let new = limits::blocks_for(s.size, size);
     resize(img, s, a, old, new);
     put_bytes(img, s, a, c, buf, new);
-    own_entry::renew_at(img, s.size, at.place, size, time);
+    let p = at.place;
+    own_entry::renew_at(img, LinkedBlock::new(s.size, p.block), p.offset, size, time);
 }

@@ -1,6 +1,7 @@
 use mathlib.Core.Path.{◌≡◌}
 use Prim.Native.Nat.{suc, ◌+◌, ◌-◌, ◌≤◌, ◌<◌}
 use native.Mathlib.Omega.{arith}
+use Rattle.block.proofs.Blocks.{linked_inside}
 use Rattle.write_store.proofs.Loops.{chain_below, chain_inside, pour_more, pour_along, pour_ends}
 use Rattle.write_store.proofs.pour.Goals as goal
 
@@ -12,7 +13,7 @@ next_addr-then-requires c =
 pub put_run-rest-requires-clause-size_in_bounds : goal.put_run-rest-requires-clause-size_in_bounds
 put_run-rest-requires-clause-size_in_bounds c =
     let h : 0 < c.args.k - c.loop.counter = omega arith in
-    search chain_inside
+    search (linked_inside, chain_inside)
 
 pub loop-preserved : goal.loop-preserved
 loop-preserved c =

@@ -1,4 +1,5 @@
 use mathlib.Core.Path.{refl}
+use Rattle.own_entry.proofs.Renewals.{renewed_in}
 use Rattle.write_store.proofs.Loops.{write_resizable, write_first, resized_along, write_is}
 use Rattle.write_store.proofs.write.Goals as goal
 
@@ -18,4 +19,5 @@ returns c =
     let n = c.blocks_for-new.ensures in
     let r = c.resize in
     let p = c.put_bytes in
-    write_is c.args.s _ _ _ _ _ _ _ _ _ _ _ _ c.requires.fit refl o n r.ensures p.ensures c.renew_at.ensures
+    write_is c.args.s _ _ _ _ _ _ _ _ _ _ _ _ c.requires.fit refl o n r.ensures p.ensures
+    (renewed_in _ _ _ _ _ _ _ _ c.new.ensures.0 c.new.ensures.1 c.renew_at.ensures)

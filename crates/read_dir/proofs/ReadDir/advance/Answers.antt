@@ -14,7 +14,7 @@ returns-then-not-has c = search move_not_had
 pub decode-requires : goal.decode-requires
 decode-requires c =
     let l : c.args.self.block.0 < c.args.v.s.blocks = search has_below in
-    record { block_size = search rules; size_in_bounds = search (linked_inside, fit_inside) }
+    search (linked_inside, fit_inside)
 
 pub hop-requires : goal.hop-requires
 hop-requires c = record { block_lt_blocks = search has_below; left_nonzero = search rules }
