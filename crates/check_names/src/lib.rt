@@ -2,14 +2,15 @@
 // A filter of hashed names answers for most of them at once; only where it does not are the earlier names searched.
 #![tactic(auto)]
 
-ghost use Rattle.std.specs.Prelude.{◌≡◌, not, ◌&&◌, ◌<◌, length, take};
+ghost use Rattle.std.specs.Prelude.{◌≡◌, not, ◌&&◌, ◌<◌, take};
 ghost use Rattle.super_block.specs.Super.{area_in};
 ghost use Rattle.read_dir.specs.Walk.{walk};
 ghost use Rattle.check_names.specs.Names.{one_of, distinct, names_in, ends};
 ghost use Rattle.check_names.specs.Filter.{clear, met_in, distinct_in, noted_in, Covers, CoversPart, Only};
-ghost use Rattle.name_filter.specs.Bits.{hash_of, filter_bytes};
+ghost use Rattle.name_filter.specs.Bits.{hash_of};
 
 use block::Addr;
+use name_filter::BYTES;
 use read_dir::ReadDir;
 use super_block::Volume;
 
@@ -24,6 +25,19 @@ const PART: u32 = 131072;
 
 // What the bytes of a directory are counted to.
 const MANY: u32 = 268435456;
+
+// A filter that is clear between two uses, so that one serves for every directory of a volume.
+#[derive(Drop)]
+pub struct Filter {
+    bits: [u8; BYTES],
+    ghost is_clear: { bits ≡ clear },
+}
+
+impl Filter {
+    pub fn new() -> Self {
+        Filter { bits: [0; BYTES] }
+    }
+}
 
 // Whether a name is one of the first i of the directory that begins at block dir: the search itself.
 fn earlier(v: Volume, dir: Addr, i: u32, name: &[u8]) -> bool
@@ -45,8 +59,7 @@ fn earlier(v: Volume, dir: Addr, i: u32, name: &[u8]) -> bool
 }
 
 // The same with a filter that covers those names: one that has not all its bits need not be searched for.
-fn seen(v: Volume, dir: Addr, filter: &[u8], i: u32, name: &[u8], h: u32) -> bool
-    requires filter_len { length filter.now ≡ filter_bytes }
+fn seen(v: Volume, dir: Addr, filter: &[u8; BYTES], i: u32, name: &[u8], h: u32) -> bool
     requires covers { Covers filter.now (take i (names_in (walk (area_in v.s) v.img.now dir.0))) name.now }
     requires h_value { h ≡ hash_of name.now }
     ensures { result ≡ one_of name.now (take i (names_in (walk (area_in v.entry.s) v.entry.img.now dir.0))) }
@@ -55,9 +68,16 @@ fn seen(v: Volume, dir: Addr, filter: &[u8], i: u32, name: &[u8], h: u32) -> boo
 }
 
 // Whether a name that follows the first i is not of part k of m, or is not one of them. It is noted where it is of that part.
-fn fresh(v: Volume, dir: Addr, filter: &mut [u8], m: u32, k: u32, i: u32, name: &[u8]) -> bool
+fn fresh(
+    v: Volume,
+    dir: Addr,
+    filter: &mut [u8; BYTES],
+    m: u32,
+    k: u32,
+    i: u32,
+    name: &[u8],
+) -> bool
     requires m_nonzero { 0 < m }
-    requires filter_len { length filter.old ≡ filter_bytes }
     requires covers_part { CoversPart filter.old (take i (names_in (walk (area_in v.s) v.img.now dir.0))) m k }
     ensures value { result ≡ not (met_in m k name.now (take i (names_in (walk (area_in v.entry.s) v.entry.img.now dir.0)))) }
     ensures filter_after { filter.new ≡ noted_in filter.old name.now m k }
@@ -72,7 +92,7 @@ fn fresh(v: Volume, dir: Addr, filter: &mut [u8], m: u32, k: u32, i: u32, name: 
 }
 
 // The test of part k of m: each of its names against those before it. It leaves their bits in the filter.
-fn tested(v: Volume, dir: Addr, filter: &mut [u8], m: u32, k: u32) -> bool
+fn tested(v: Volume, dir: Addr, filter: &mut [u8; BYTES], m: u32, k: u32) -> bool
     requires filter_value { filter.old ≡ clear }
     requires m_nonzero { 0 < m }
     ensures value { result ≡ (ends (walk (area_in v.entry.s) v.entry.img.now dir.0)
@@ -97,7 +117,7 @@ fn tested(v: Volume, dir: Addr, filter: &mut [u8], m: u32, k: u32) -> bool
 }
 
 // The undoing, however far the test came: the bytes of a few names become zero again one by one, and those of more all at once.
-fn forget(v: Volume, dir: Addr, filter: &mut [u8])
+fn forget(v: Volume, dir: Addr, filter: &mut [u8; BYTES])
     requires { Only filter.old (names_in (walk (area_in v.s) v.img.now dir.0)) }
     ensures { filter.new ≡ clear }
 {
@@ -116,15 +136,13 @@ fn forget(v: Volume, dir: Addr, filter: &mut [u8])
 }
 
 // Part k of m: its test, and the undoing.
-fn part(v: Volume, dir: Addr, filter: &mut [u8], m: u32, k: u32) -> bool
-    requires filter_value { filter.old ≡ clear }
-    requires m_nonzero { 0 < m }
-    ensures value { result ≡ (ends (walk (area_in v.entry.s) v.entry.img.now dir.0)
+fn part(v: Volume, dir: Addr, filter: &mut Filter, m: u32, k: u32) -> bool
+    requires { 0 < m }
+    ensures { result ≡ (ends (walk (area_in v.entry.s) v.entry.img.now dir.0)
         && distinct_in m k (names_in (walk (area_in v.entry.s) v.entry.img.now dir.0))) }
-    ensures filter_after { filter.new ≡ clear }
 {
-    let r = tested(v, dir, filter, m, k);
-    forget(v, dir, filter);
+    let r = tested(v, dir, &mut filter.bits, m, k);
+    forget(v, dir, &mut filter.bits);
     r
 }
 
@@ -144,11 +162,9 @@ fn extent(v: Volume, dir: Addr) -> u32
 // Whether the directory that begins at block dir is read to its end and its names are distinct. The filter is lent
 // clear and comes back clear, so one serves for every directory of a volume. Any number of parts gives the same answer:
 // there are so many that the names of one leave most of the filter clear, and seldom is one searched for in vain.
-pub fn distinct(v: Volume, dir: Addr, filter: &mut [u8]) -> bool
-    requires { filter.old ≡ clear }
-    ensures value { result ≡ (ends (walk (area_in v.entry.s) v.entry.img.now dir.0)
+pub fn distinct(v: Volume, dir: Addr, filter: &mut Filter) -> bool
+    ensures { result ≡ (ends (walk (area_in v.entry.s) v.entry.img.now dir.0)
         && distinct (names_in (walk (area_in v.entry.s) v.entry.img.now dir.0))) }
-    ensures filter_unchanged { filter.new ≡ filter.old }
 {
     let m = 1 + extent(v, dir) / PART;
     for k in 0..m {

@@ -1,14 +1,10 @@
 use borrow.Author.Rules.{rules}
-use Rattle.check_names.proofs.Marks.{clear_zeros}
 use Rattle.check_chain.proofs.Claims.{beyond_refl}
 use Rattle.check_volume.proofs.Decides.{not_rest, not_tree, not_agreed, answer_count}
 use Rattle.check_volume.proofs.decide.Goals as goal
 
 pub returns-then-not-rest_clear : goal.returns-then-not-rest_clear
 returns-then-not-rest_clear c = record { value = search (not_rest, rules); beyond = beyond_refl _ _ }
-
-pub tree-requires-clause-filter_value : goal.tree-requires-clause-filter_value
-tree-requires-clause-filter_value c = clear_zeros
 
 pub returns-then-not-tree : goal.returns-then-not-tree
 returns-then-not-tree c =
