@@ -26,6 +26,14 @@ const PART: u32 = 131072;
 // What the bytes of a directory are counted to.
 const MANY: u32 = 268435456;
 
+// Part k of m: of the names, those whose hash leaves k.
+#[derive(Clone, Copy)]
+struct Part {
+    k: u32,
+    m: u32,
+    ghost below: { k < m },
+}
+
 // A filter that is clear between two uses, so that one serves for every directory of a volume.
 #[derive(Drop)]
 pub struct Filter {
@@ -67,23 +75,14 @@ fn seen(v: Volume, dir: Addr, filter: &[u8; BYTES], i: u32, name: &[u8], h: u32)
     name_filter::maybe(filter, h) && earlier(v, dir, i, name)
 }
 
-// Whether a name that follows the first i is not of part k of m, or is not one of them. It is noted where it is of that part.
-fn fresh(
-    v: Volume,
-    dir: Addr,
-    filter: &mut [u8; BYTES],
-    m: u32,
-    k: u32,
-    i: u32,
-    name: &[u8],
-) -> bool
-    requires m_nonzero { 0 < m }
-    requires covers_part { CoversPart filter.old (take i (names_in (walk (area_in v.s) v.img.now dir.0))) m k }
-    ensures value { result ≡ not (met_in m k name.now (take i (names_in (walk (area_in v.entry.s) v.entry.img.now dir.0)))) }
-    ensures filter_after { filter.new ≡ noted_in filter.old name.now m k }
+// Whether a name that follows the first i is not of part p, or is not one of them. It is noted where it is of that part.
+fn fresh(v: Volume, dir: Addr, filter: &mut [u8; BYTES], p: Part, i: u32, name: &[u8]) -> bool
+    requires covers_part { CoversPart filter.old (take i (names_in (walk (area_in v.s) v.img.now dir.0))) p.m p.k }
+    ensures value { result ≡ not (met_in p.m p.k name.now (take i (names_in (walk (area_in v.entry.s) v.entry.img.now dir.0)))) }
+    ensures filter_after { filter.new ≡ noted_in filter.old name.now p.m p.k }
 {
     let h = name_filter::hash(name);
-    if h % PRIME % m != k {
+    if h % PRIME % p.m != p.k {
         return true;
     }
     let t = seen(v, dir, filter, i, name, h);
@@ -91,12 +90,11 @@ fn fresh(
     !t
 }
 
-// The test of part k of m: each of its names against those before it. It leaves their bits in the filter.
-fn tested(v: Volume, dir: Addr, filter: &mut [u8; BYTES], m: u32, k: u32) -> bool
+// The test of a part: each of its names against those before it. It leaves their bits in the filter.
+fn tested(v: Volume, dir: Addr, filter: &mut [u8; BYTES], p: Part) -> bool
     requires filter_value { filter.old ≡ clear }
-    requires m_nonzero { 0 < m }
     ensures value { result ≡ (ends (walk (area_in v.entry.s) v.entry.img.now dir.0)
-        && distinct_in m k (names_in (walk (area_in v.entry.s) v.entry.img.now dir.0))) }
+        && distinct_in p.m p.k (names_in (walk (area_in v.entry.s) v.entry.img.now dir.0))) }
     ensures only { Only filter.new (names_in (walk (area_in v.entry.s) v.entry.img.now dir.0)) }
 {
     let mut c = ReadDir::new(v, dir);
@@ -105,7 +103,7 @@ fn tested(v: Volume, dir: Addr, filter: &mut [u8; BYTES], m: u32, k: u32) -> boo
         match c.next(v) {
             Ok(Some(x)) => {
                 let name = x.name(v);
-                if !fresh(v, dir, filter, m, k, i, name) {
+                if !fresh(v, dir, filter, p, i, name) {
                     return false;
                 }
                 i += 1;
@@ -135,13 +133,12 @@ fn forget(v: Volume, dir: Addr, filter: &mut [u8; BYTES])
     filter.fill(0);
 }
 
-// Part k of m: its test, and the undoing.
-fn part(v: Volume, dir: Addr, filter: &mut Filter, m: u32, k: u32) -> bool
-    requires { 0 < m }
+// A part: its test, and the undoing.
+fn distinct_in(v: Volume, dir: Addr, filter: &mut Filter, p: Part) -> bool
     ensures { result ≡ (ends (walk (area_in v.entry.s) v.entry.img.now dir.0)
-        && distinct_in m k (names_in (walk (area_in v.entry.s) v.entry.img.now dir.0))) }
+        && distinct_in p.m p.k (names_in (walk (area_in v.entry.s) v.entry.img.now dir.0))) }
 {
-    let r = tested(v, dir, &mut filter.bits, m, k);
+    let r = tested(v, dir, &mut filter.bits, p);
     forget(v, dir, &mut filter.bits);
     r
 }
@@ -168,7 +165,7 @@ pub fn distinct(v: Volume, dir: Addr, filter: &mut Filter) -> bool
 {
     let m = 1 + extent(v, dir) / PART;
     for k in 0..m {
-        if !part(v, dir, filter, m, k) {
+        if !distinct_in(v, dir, filter, Part { k, m }) {
             return false;
         }
     }
