@@ -6,8 +6,7 @@ pub returns-then-not-rest_clear-clause-value : goal.returns-then-not-rest_clear-
 returns-then-not-rest_clear-clause-value c = search (not_rest, rules)
 
 pub returns-then-not-tree-clause-value : goal.returns-then-not-tree-clause-value
-returns-then-not-tree-clause-value c =
-    not_tree _ _ c.requires.fit _ c.rest_clear.ensures c.if-not-rest_clear.false _ _ _ c.requires.marks c.tree.ensures c.if-not-tree.true
+returns-then-not-tree-clause-value c = search not_tree
 
 pub returns-then-agrees-clause-value : goal.returns-then-agrees-clause-value
 returns-then-agrees-clause-value c =
