@@ -26,7 +26,7 @@ const PART: u32 = 131072;
 // What the bytes of a directory are counted to.
 const MANY: u32 = 268435456;
 
-// Part k of m: of the names, those whose hash leaves k.
+// Part k of m: the names whose hash leaves k (specs/Filter.antt). That there is such a part says that m is not 0.
 #[derive(Clone, Copy)]
 struct Part {
     k: u32,
@@ -92,7 +92,7 @@ fn fresh(v: Volume, dir: Addr, filter: &mut [u8; BYTES], p: Part, i: u32, name: 
 
 // The test of a part: each of its names against those before it. It leaves their bits in the filter.
 fn tested(v: Volume, dir: Addr, filter: &mut [u8; BYTES], p: Part) -> bool
-    requires filter_value { filter.old ≡ clear }
+    requires { filter.old ≡ clear }
     ensures value { result ≡ (ends (walk (area_in v.entry.s) v.entry.img.now dir.0)
         && distinct_in p.m p.k (names_in (walk (area_in v.entry.s) v.entry.img.now dir.0))) }
     ensures only { Only filter.new (names_in (walk (area_in v.entry.s) v.entry.img.now dir.0)) }
@@ -133,7 +133,7 @@ fn forget(v: Volume, dir: Addr, filter: &mut [u8; BYTES])
     filter.fill(0);
 }
 
-// A part: its test, and the undoing.
+// The test of a part, and the undoing: between the two calls the filter is not clear.
 fn distinct_in(v: Volume, dir: Addr, filter: &mut Filter, p: Part) -> bool
     ensures { result ≡ (ends (walk (area_in v.entry.s) v.entry.img.now dir.0)
         && distinct_in p.m p.k (names_in (walk (area_in v.entry.s) v.entry.img.now dir.0))) }
@@ -156,9 +156,8 @@ fn extent(v: Volume, dir: Addr) -> u32
     n
 }
 
-// Whether the directory that begins at block dir is read to its end and its names are distinct. The filter is lent
-// clear and comes back clear, so one serves for every directory of a volume. Any number of parts gives the same answer:
-// there are so many that the names of one leave most of the filter clear, and seldom is one searched for in vain.
+// Whether the directory that begins at block dir is read to its end and its names are distinct. Any number of parts gives the
+// same answer: there are so many that the names of one leave most of the filter clear, and seldom is one searched for in vain.
 pub fn distinct(v: Volume, dir: Addr, filter: &mut Filter) -> bool
     ensures { result ≡ (ends (walk (area_in v.entry.s) v.entry.img.now dir.0)
         && distinct (names_in (walk (area_in v.entry.s) v.entry.img.now dir.0))) }
