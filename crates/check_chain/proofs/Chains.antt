@@ -13,7 +13,7 @@ use Rattle.block.specs.Block.{Area, next}
 use Rattle.model.specs.Tree.{Cell, then}
 use Rattle.model.proofs.Lists.{then_some, then-none}
 use Rattle.thm_survey.specs.Survey.{Claimed, with_found, claim, cells_of, chain_of, seen_of}
-use Rattle.check_chain.specs.Marks.{MarksAnswer, Inside}
+use Rattle.check_chain.specs.Marks.{MarksAnswer}
 use Rattle.check_chain.proofs.Remaining.{Check, checks_as, Goes, goes_refl, goes_from, goes_end, goes_stop, goes_no, goes_yes}
 use Rattle.model.specs.Volume.{file_limit, blocks_for}
 use Rattle.check_chain.proofs.Claims.{beyond_refl}
@@ -49,11 +49,6 @@ module _ (A : Area) (I : List ℕ) where
   unfolding cells_of
   seen_stop k a seen e =
       ap seen_of (then-none (λ t. with_found (λ cs. record { at = a; body = _ } ∷ cs) (cells_of A I k (next A.size I a) t)) (claim-any A I a seen ∙ e)) ∙ seen_none (List Cell)
-
--- ---- what the loop's calls ask: the next address of a block that is claimed may be read
-
-pub claimed_below : (A : Area) (a : ℕ) (r : Bool) → Inside A a r → r ≡ true → a < A.end
-claimed_below A a r q e = (subst (Inside A a) e q).1
 
 -- ---- the loop, whatever check g (of at most so many blocks, from an address on) it computes: after j of k blocks, what is left
 -- to claim from W on is what was to be claimed from W₀ on

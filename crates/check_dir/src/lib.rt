@@ -8,13 +8,13 @@ ghost use Rattle.check_bitmap.specs.Tally.{mark_bytes};
 ghost use Rattle.dir_entry.specs.Entry.{header, place_at, name_at};
 ghost use Rattle.read_dir.specs.Walk.{walk};
 ghost use Rattle.read_dir.specs.Finds.{sum_from};
-ghost use Rattle.check_names.specs.Filter.{clear};
 ghost use Rattle.thm_survey.specs.Survey.{passes, raws_from, later_of, blocks_of, seen_of};
 ghost use Rattle.check_chain.specs.Marks.{MarksAnswer, Inside};
 ghost use Rattle.check_dir.specs.Blocks.{may_stand, block_check};
 ghost use Rattle.thm_survey.specs.Steps.{open_dir, is_total};
 
 use block::Addr;
+use check_names::Filter;
 use dir_entry::DirEntry;
 use read_dir::{Place, Placed};
 use super_block::Volume;
@@ -96,13 +96,11 @@ fn blocks(v: Volume, work: &mut [u8], a: Addr) -> bool
 }
 
 // A directory before its entries are walked: its blocks are claimed, and its names are distinct.
-pub fn open_dir(v: Volume, work: &mut [u8], filter: &mut [u8], a: Addr) -> bool
-    requires s_in_bounds { mark_bytes (area_in v.s) ≤ length work.old }
-    requires filter_value { filter.old ≡ clear }
-    ensures marks_answer { MarksAnswer (area_in v.entry.s)
+pub fn open_dir(v: Volume, work: &mut [u8], filter: &mut Filter, a: Addr) -> bool
+    requires { mark_bytes (area_in v.s) ≤ length work.old }
+    ensures { MarksAnswer (area_in v.entry.s)
         (λ seen. seen_of (open_dir (area_in v.entry.s) v.entry.img.now a.0 seen))
         work.old work.new result }
-    ensures filter_unchanged { filter.new ≡ filter.old }
 {
     blocks(v, work, a) && check_names::distinct(v, a, filter)
 }

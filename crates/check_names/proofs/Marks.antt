@@ -1,7 +1,7 @@
 -- What the filter knows of names: the laws of `Covers` and `Only`.
 use mathlib.Core.Path.{◌≡◌, refl, sym, ap, ◌∙◌, subst}
 use mathlib.Core.Logic.{◌⊎◌, inl, inr}
-use mathlib.Core.Bool.{Bool, true, false, not, ◌&&◌}
+use mathlib.Core.Bool.{true, false}
 use mathlib.Core.List.{List, [], ◌∷◌, ◌++◌}
 use Prim.Native.Nat.{ℕ, ◌%◌, ◌<◌}
 use native.Mathlib.Omega.{arith}
@@ -17,7 +17,7 @@ use Rattle.name_filter.proofs.Bytes.{hash_fits}
 use Rattle.name_filter.proofs.Marks.{length-noted, noted_other, length_wiped, noted-marked, noted_keeps, wiped_off}
 use Rattle.model.specs.Tree.{Name}
 use Rattle.check_names.specs.Names.{one_of}
-use Rattle.check_names.specs.Filter.{clear, part_of, met_in, noted_in, Covers, CoversPart, OffFilter, Only}
+use Rattle.check_names.specs.Filter.{clear, part_of, noted_in, CoversPart, OffFilter, Only}
 use Rattle.check_names.proofs.Among.{none_of_none, one_self, one_cases, one_first, one_second, one_last, one-taken}
 
 -- ---- the clear filter
@@ -95,12 +95,6 @@ module _ (y : Name) (m k h : ℕ) (e : h ≡ hash_of y) where
   other_part : (h % 65521 % m ≡ k → ⊥) → eqb (part_of m y) k ≡ false
   other_part n = ne_eqb (part_of m y) k (λ q. n (ap (λ (z : ℕ). z % 65521 % m) e ∙ q))
 
-  pub fresh_own : (xs : List Name) (t : Bool) → h % 65521 % m ≡ k → t ≡ one_of y xs → not t ≡ not (met_in m k y xs)
-  fresh_own xs t q o = ap not (o ∙ sym (ap (λ (b : Bool). b && one_of y xs) (eq-eqb (part_of m y) k (own_part q))))
-
-  pub fresh_other : (xs : List Name) → (h % 65521 % m ≡ k → ⊥) → true ≡ not (met_in m k y xs)
-  fresh_other xs n = sym (ap (λ (b : Bool). not (b && one_of y xs)) (other_part n))
-
   pub fresh-noted : (F G : List ℕ) → h % 65521 % m ≡ k → G ≡ noted F h → G ≡ noted_in F y m k
   unfolding noted_in
   fresh-noted F G q g = g ∙ ap (noted F) e ∙ sym (pick_true (noted F (hash_of y)) F (eq-eqb (part_of m y) k (own_part q)))
@@ -108,10 +102,6 @@ module _ (y : Name) (m k h : ℕ) (e : h ≡ hash_of y) where
   pub fresh_kept : (F : List ℕ) → (h % 65521 % m ≡ k → ⊥) → F ≡ noted_in F y m k
   unfolding noted_in
   fresh_kept F n = sym (pick_false (noted F (hash_of y)) F (other_part n))
-
-  -- one of the part is covered
-  pub covers_own : (F : List ℕ) (xs : List Name) → CoversPart F xs m k → h % 65521 % m ≡ k → Covers F xs y
-  covers_own F xs c q = c y (own_part q)
 
 -- of all names, where it was of the first
 pub within_all : (F : List ℕ) (i : ℕ) (xs : List Name) → Only F (take i xs) → Only F xs

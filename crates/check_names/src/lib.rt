@@ -2,14 +2,15 @@
 // A filter of hashed names answers for most of them at once; only where it does not are the earlier names searched.
 #![tactic(auto)]
 
-ghost use Rattle.std.specs.Prelude.{◌≡◌, not, ◌&&◌, ◌<◌, length, take};
+ghost use Rattle.std.specs.Prelude.{◌≡◌, not, ◌&&◌, ◌<◌, take};
 ghost use Rattle.super_block.specs.Super.{area_in};
 ghost use Rattle.read_dir.specs.Walk.{walk};
 ghost use Rattle.check_names.specs.Names.{one_of, distinct, names_in, ends};
 ghost use Rattle.check_names.specs.Filter.{clear, met_in, distinct_in, noted_in, Covers, CoversPart, Only};
-ghost use Rattle.name_filter.specs.Bits.{hash_of, filter_bytes};
+ghost use Rattle.name_filter.specs.Bits.{hash_of};
 
 use block::Addr;
+use name_filter::BYTES;
 use read_dir::ReadDir;
 use super_block::Volume;
 
@@ -24,6 +25,27 @@ const PART: u32 = 131072;
 
 // What the bytes of a directory are counted to.
 const MANY: u32 = 268435456;
+
+// Part k of m: the names whose hash leaves k (specs/Filter.antt). That there is such a part says that m is not 0.
+#[derive(Clone, Copy)]
+struct Part {
+    k: u32,
+    m: u32,
+    ghost below: { k < m },
+}
+
+// A filter that is clear between two uses, so that one serves for every directory of a volume.
+#[derive(Drop)]
+pub struct Filter {
+    bits: [u8; BYTES],
+    ghost is_clear: { bits ≡ clear },
+}
+
+impl Filter {
+    pub fn new() -> Self {
+        Filter { bits: [0; BYTES] }
+    }
+}
 
 // Whether a name is one of the first i of the directory that begins at block dir: the search itself.
 fn earlier(v: Volume, dir: Addr, i: u32, name: &[u8]) -> bool
@@ -45,8 +67,7 @@ fn earlier(v: Volume, dir: Addr, i: u32, name: &[u8]) -> bool
 }
 
 // The same with a filter that covers those names: one that has not all its bits need not be searched for.
-fn seen(v: Volume, dir: Addr, filter: &[u8], i: u32, name: &[u8], h: u32) -> bool
-    requires filter_len { length filter.now ≡ filter_bytes }
+fn seen(v: Volume, dir: Addr, filter: &[u8; BYTES], i: u32, name: &[u8], h: u32) -> bool
     requires covers { Covers filter.now (take i (names_in (walk (area_in v.s) v.img.now dir.0))) name.now }
     requires h_value { h ≡ hash_of name.now }
     ensures { result ≡ one_of name.now (take i (names_in (walk (area_in v.entry.s) v.entry.img.now dir.0))) }
@@ -54,16 +75,14 @@ fn seen(v: Volume, dir: Addr, filter: &[u8], i: u32, name: &[u8], h: u32) -> boo
     name_filter::maybe(filter, h) && earlier(v, dir, i, name)
 }
 
-// Whether a name that follows the first i is not of part k of m, or is not one of them. It is noted where it is of that part.
-fn fresh(v: Volume, dir: Addr, filter: &mut [u8], m: u32, k: u32, i: u32, name: &[u8]) -> bool
-    requires m_nonzero { 0 < m }
-    requires filter_len { length filter.old ≡ filter_bytes }
-    requires covers_part { CoversPart filter.old (take i (names_in (walk (area_in v.s) v.img.now dir.0))) m k }
-    ensures value { result ≡ not (met_in m k name.now (take i (names_in (walk (area_in v.entry.s) v.entry.img.now dir.0)))) }
-    ensures filter_after { filter.new ≡ noted_in filter.old name.now m k }
+// Whether a name that follows the first i is not of part p, or is not one of them. It is noted where it is of that part.
+fn fresh(v: Volume, dir: Addr, filter: &mut [u8; BYTES], p: Part, i: u32, name: &[u8]) -> bool
+    requires covers_part { CoversPart filter.old (take i (names_in (walk (area_in v.s) v.img.now dir.0))) p.m p.k }
+    ensures value { result ≡ not (met_in p.m p.k name.now (take i (names_in (walk (area_in v.entry.s) v.entry.img.now dir.0)))) }
+    ensures filter_after { filter.new ≡ noted_in filter.old name.now p.m p.k }
 {
     let h = name_filter::hash(name);
-    if h % PRIME % m != k {
+    if h % PRIME % p.m != p.k {
         return true;
     }
     let t = seen(v, dir, filter, i, name, h);
@@ -71,12 +90,11 @@ fn fresh(v: Volume, dir: Addr, filter: &mut [u8], m: u32, k: u32, i: u32, name: 
     !t
 }
 
-// The test of part k of m: each of its names against those before it. It leaves their bits in the filter.
-fn tested(v: Volume, dir: Addr, filter: &mut [u8], m: u32, k: u32) -> bool
-    requires filter_value { filter.old ≡ clear }
-    requires m_nonzero { 0 < m }
+// The test of a part: each of its names against those before it. It leaves their bits in the filter.
+fn tested(v: Volume, dir: Addr, filter: &mut [u8; BYTES], p: Part) -> bool
+    requires { filter.old ≡ clear }
     ensures value { result ≡ (ends (walk (area_in v.entry.s) v.entry.img.now dir.0)
-        && distinct_in m k (names_in (walk (area_in v.entry.s) v.entry.img.now dir.0))) }
+        && distinct_in p.m p.k (names_in (walk (area_in v.entry.s) v.entry.img.now dir.0))) }
     ensures only { Only filter.new (names_in (walk (area_in v.entry.s) v.entry.img.now dir.0)) }
 {
     let mut c = ReadDir::new(v, dir);
@@ -85,7 +103,7 @@ fn tested(v: Volume, dir: Addr, filter: &mut [u8], m: u32, k: u32) -> bool
         match c.next(v) {
             Ok(Some(x)) => {
                 let name = x.name(v);
-                if !fresh(v, dir, filter, m, k, i, name) {
+                if !fresh(v, dir, filter, p, i, name) {
                     return false;
                 }
                 i += 1;
@@ -97,7 +115,7 @@ fn tested(v: Volume, dir: Addr, filter: &mut [u8], m: u32, k: u32) -> bool
 }
 
 // The undoing, however far the test came: the bytes of a few names become zero again one by one, and those of more all at once.
-fn forget(v: Volume, dir: Addr, filter: &mut [u8])
+fn forget(v: Volume, dir: Addr, filter: &mut [u8; BYTES])
     requires { Only filter.old (names_in (walk (area_in v.s) v.img.now dir.0)) }
     ensures { filter.new ≡ clear }
 {
@@ -115,16 +133,13 @@ fn forget(v: Volume, dir: Addr, filter: &mut [u8])
     filter.fill(0);
 }
 
-// Part k of m: its test, and the undoing.
-fn part(v: Volume, dir: Addr, filter: &mut [u8], m: u32, k: u32) -> bool
-    requires filter_value { filter.old ≡ clear }
-    requires m_nonzero { 0 < m }
-    ensures value { result ≡ (ends (walk (area_in v.entry.s) v.entry.img.now dir.0)
-        && distinct_in m k (names_in (walk (area_in v.entry.s) v.entry.img.now dir.0))) }
-    ensures filter_after { filter.new ≡ clear }
+// The test of a part, and the undoing: between the two calls the filter is not clear.
+fn distinct_in(v: Volume, dir: Addr, filter: &mut Filter, p: Part) -> bool
+    ensures { result ≡ (ends (walk (area_in v.entry.s) v.entry.img.now dir.0)
+        && distinct_in p.m p.k (names_in (walk (area_in v.entry.s) v.entry.img.now dir.0))) }
 {
-    let r = tested(v, dir, filter, m, k);
-    forget(v, dir, filter);
+    let r = tested(v, dir, &mut filter.bits, p);
+    forget(v, dir, &mut filter.bits);
     r
 }
 
@@ -141,18 +156,15 @@ fn extent(v: Volume, dir: Addr) -> u32
     n
 }
 
-// Whether the directory that begins at block dir is read to its end and its names are distinct. The filter is lent
-// clear and comes back clear, so one serves for every directory of a volume. Any number of parts gives the same answer:
-// there are so many that the names of one leave most of the filter clear, and seldom is one searched for in vain.
-pub fn distinct(v: Volume, dir: Addr, filter: &mut [u8]) -> bool
-    requires { filter.old ≡ clear }
-    ensures value { result ≡ (ends (walk (area_in v.entry.s) v.entry.img.now dir.0)
+// Whether the directory that begins at block dir is read to its end and its names are distinct. Any number of parts gives the
+// same answer: there are so many that the names of one leave most of the filter clear, and seldom is one searched for in vain.
+pub fn distinct(v: Volume, dir: Addr, filter: &mut Filter) -> bool
+    ensures { result ≡ (ends (walk (area_in v.entry.s) v.entry.img.now dir.0)
         && distinct (names_in (walk (area_in v.entry.s) v.entry.img.now dir.0))) }
-    ensures filter_unchanged { filter.new ≡ filter.old }
 {
     let m = 1 + extent(v, dir) / PART;
     for k in 0..m {
-        if !part(v, dir, filter, m, k) {
+        if !distinct_in(v, dir, filter, Part { k, m }) {
             return false;
         }
     }

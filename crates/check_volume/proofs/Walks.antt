@@ -33,9 +33,6 @@ use Rattle.check_chain.proofs.Chains.{file_of}
 use Rattle.limits.specs.declared.Damage.{Damage}
 use Rattle.read_dir.specs.declared.Placed.{Placed}
 
-pub kept_filter : (F G H : List ℕ) → F ≡ G → G ≡ H → F ≡ H
-kept_filter F G H e h = e ∙ h
-
 -- ---- a directory's entries
 
 -- what is left to check from the walk w on is what was to be checked from w₀ on

@@ -9,13 +9,13 @@ ghost use Rattle.model.specs.Volume.{max_depth};
 ghost use Rattle.super_block.specs.Super.{area_in, geo_of, Fit};
 ghost use Rattle.check_bitmap.specs.Tally.{mark_bytes};
 ghost use Rattle.read_dir.specs.Walk.{walk};
-ghost use Rattle.check_names.specs.Filter.{clear};
 ghost use Rattle.thm_survey.specs.Survey.{survey, seen_of};
 ghost use Rattle.check_chain.specs.Marks.{Marks, Beyond, MarksAnswer};
 ghost use Rattle.thm_survey.specs.Steps.{through, entry_check};
 ghost use Rattle.thm_survey.specs.Whole.{whole};
 
 use block::Addr;
+use check_names::Filter;
 use dir_entry::{DirEntry, Kind};
 use read_dir::ReadDir;
 use super_block::{SuperBlock, Volume};
@@ -23,12 +23,10 @@ use super_block::{SuperBlock, Volume};
 // Walks an entry of a directory that may have `depth` levels below it: the chain of a file or a device, or a
 // directory in its turn.
 #[cycle(walk_dir_walk_entry)]
-fn walk_entry(v: Volume, work: &mut [u8], filter: &mut [u8], e: DirEntry, depth: u32) -> bool
-    requires s_in_bounds { mark_bytes (area_in v.s) ≤ length work.old }
-    requires filter_value { filter.old ≡ clear }
-    ensures marks_answer { MarksAnswer (area_in v.entry.s) (entry_check (area_in v.entry.s) v.entry.img.now depth e)
+fn walk_entry(v: Volume, work: &mut [u8], filter: &mut Filter, e: DirEntry, depth: u32) -> bool
+    requires { mark_bytes (area_in v.s) ≤ length work.old }
+    ensures { MarksAnswer (area_in v.entry.s) (entry_check (area_in v.entry.s) v.entry.img.now depth e)
         work.old work.new result }
-    ensures filter_unchanged { filter.new ≡ filter.old }
 {
     let a = e.addr;
     match e.kind {
@@ -48,13 +46,11 @@ fn walk_entry(v: Volume, work: &mut [u8], filter: &mut [u8], e: DirEntry, depth:
 
 // Walks the entries of the directory at a, with at most `depth` levels below it.
 #[cycle(walk_dir_walk_entry)]
-fn walk_dir(v: Volume, work: &mut [u8], filter: &mut [u8], a: Addr, depth: u32) -> bool
-    requires s_in_bounds { mark_bytes (area_in v.s) ≤ length work.old }
-    requires filter_value { filter.old ≡ clear }
-    ensures marks_answer { MarksAnswer (area_in v.entry.s)
+fn walk_dir(v: Volume, work: &mut [u8], filter: &mut Filter, a: Addr, depth: u32) -> bool
+    requires { mark_bytes (area_in v.s) ≤ length work.old }
+    ensures { MarksAnswer (area_in v.entry.s)
         (through (entry_check (area_in v.entry.s) v.entry.img.now depth) (walk (area_in v.entry.s) v.entry.img.now a.0))
         work.old work.new result }
-    ensures filter_unchanged { filter.new ≡ filter.old }
 {
     let mut c = ReadDir::new(v, a);
     loop {
@@ -71,9 +67,8 @@ fn walk_dir(v: Volume, work: &mut [u8], filter: &mut [u8], a: Addr, depth: u32) 
 }
 
 // The tree from the root on: W2 to W4.
-fn tree(v: Volume, work: &mut [u8], filter: &mut [u8]) -> bool
-    requires s_in_bounds { mark_bytes (area_in v.s) ≤ length work.old }
-    requires filter_value { filter.old ≡ clear }
+fn tree(v: Volume, work: &mut [u8], filter: &mut Filter) -> bool
+    requires { mark_bytes (area_in v.s) ≤ length work.old }
     ensures { MarksAnswer (area_in v.entry.s)
         (λ seen. seen_of (survey (area_in v.entry.s) v.entry.img.now max_depth v.entry.s.area.0 seen))
         work.old work.new result }
@@ -82,8 +77,9 @@ fn tree(v: Volume, work: &mut [u8], filter: &mut [u8]) -> bool
         && walk_dir(v, work, filter, v.s.area, limits::MAX_DEPTH)
 }
 
-// W1 to W5, where nothing is marked yet. The filter of names stands here once, outside the walk. The image is lent by itself, since
-// what is proved of the bitmap asks that its bytes are bytes, which is known of a slice and not of one within a struct.
+// W1 to W5, where nothing is marked yet. The filter of names stands here once, outside the walk: made anew for each directory
+// its 16,384 bytes would cost more than the test. The image is lent by itself, since what is proved of the bitmap asks that its
+// bytes are bytes, which is known of a slice and not of one within a struct.
 fn decide(img: &[u8], s: SuperBlock, work: &mut [u8]) -> bool
     requires fit { Fit s img.now }
     requires s_in_bounds { mark_bytes (area_in s) ≤ length work.old }
@@ -95,7 +91,7 @@ fn decide(img: &[u8], s: SuperBlock, work: &mut [u8]) -> bool
     if !check_bitmap::rest_clear(v) {
         return false;
     }
-    let mut filter = [0u8; 16384];
+    let mut filter = Filter::new();
     if !tree(v, work, &mut filter) {
         return false;
     }

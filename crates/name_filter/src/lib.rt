@@ -1,8 +1,8 @@
-// A filter of names: four bits for each name, by its hash, in a lent slice. A name of which one bit is clear was never noted.
+// A filter of names: four bits for each name, by its hash, in a lent array. A name of which one bit is clear was never noted.
 #![tactic(auto)]
 
-ghost use Rattle.std.specs.Prelude.{◌≡◌, length};
-ghost use Rattle.name_filter.specs.Bits.{hash_of, filter_bytes, turned, pair_in, with_pair, less_pair, filtered, noted, wiped};
+ghost use Rattle.std.specs.Prelude.{◌≡◌};
+ghost use Rattle.name_filter.specs.Bits.{hash_of, turned, pair_in, with_pair, less_pair, filtered, noted, wiped};
 
 // The odd factor of the hash.
 const SPREAD: u32 = 2654435761;
@@ -35,16 +35,14 @@ fn turn(h: u32) -> u32
 }
 
 // Whether the low and the high bit of a hash are set.
-fn pair(filter: &[u8], h: u32) -> bool
-    requires { length filter.now ≡ filter_bytes }
+fn pair(filter: &[u8; BYTES], h: u32) -> bool
     ensures { result ≡ pair_in filter.now h }
 {
     bits::bit_at(filter, 0, h % LOW) == 1 && bits::bit_at(filter, 0, h / HIGH) == 1
 }
 
 // Sets them.
-fn set_pair(filter: &mut [u8], h: u32)
-    requires { length filter.old ≡ filter_bytes }
+fn set_pair(filter: &mut [u8; BYTES], h: u32)
     ensures { filter.new ≡ with_pair filter.old h }
 {
     bits::set_bit(filter, 0, h % LOW);
@@ -52,8 +50,7 @@ fn set_pair(filter: &mut [u8], h: u32)
 }
 
 // Makes the two bytes zero in which they stand.
-fn wipe_pair(filter: &mut [u8], h: u32)
-    requires { length filter.old ≡ filter_bytes }
+fn wipe_pair(filter: &mut [u8; BYTES], h: u32)
     ensures { filter.new ≡ less_pair filter.old h }
 {
     let low = (h % LOW / 8) as usize;
@@ -63,16 +60,14 @@ fn wipe_pair(filter: &mut [u8], h: u32)
 }
 
 // Whether all four bits of a hash are set.
-pub fn maybe(filter: &[u8], h: u32) -> bool
-    requires { length filter.now ≡ filter_bytes }
+pub fn maybe(filter: &[u8; BYTES], h: u32) -> bool
     ensures { result ≡ filtered filter.now h }
 {
     pair(filter, h) && pair(filter, turn(h))
 }
 
 // Sets all four.
-pub fn note(filter: &mut [u8], h: u32)
-    requires { length filter.old ≡ filter_bytes }
+pub fn note(filter: &mut [u8; BYTES], h: u32)
     ensures { filter.new ≡ noted filter.old h }
 {
     set_pair(filter, h);
@@ -80,8 +75,7 @@ pub fn note(filter: &mut [u8], h: u32)
 }
 
 // Makes the bytes zero in which the four stand.
-pub fn wipe(filter: &mut [u8], h: u32)
-    requires { length filter.old ≡ filter_bytes }
+pub fn wipe(filter: &mut [u8; BYTES], h: u32)
     ensures { filter.new ≡ wiped filter.old h }
 {
     wipe_pair(filter, h);

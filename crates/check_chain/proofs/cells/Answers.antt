@@ -1,6 +1,5 @@
 use borrow.Author.Rules.{rules}
-use Rattle.super_block.specs.Super.{area_in}
-use Rattle.check_chain.proofs.Chains.{left_start, left_step, left_stop, left_answer, file_done, file_over, file_stop, file_next, claimed_below}
+use Rattle.check_chain.proofs.Chains.{left_start, left_step, left_stop, left_answer, file_done, file_over, file_stop, file_next}
 use Rattle.check_chain.proofs.cells.Goals as goal
 
 pub loop-init : goal.loop-init
@@ -9,9 +8,6 @@ loop-init c = (search rules, left_start _ _ _ _ _)
 pub returns-then-not-claim : goal.returns-then-not-claim
 returns-then-not-claim c =
     left_stop _ _ _ _ _ _ _ _ c.loop.invariant.1 _ _ _ c.loop-test.true c.claim.ensures.marks_answer c.if-not-claim.true (file_stop _ _ _)
-
-pub next_addr-b-requires : goal.next_addr-b-requires
-next_addr-b-requires c = claimed_below (area_in c.args.v.s) _ _ c.claim.ensures.inside c.if-not-claim.false
 
 pub loop-preserved : goal.loop-preserved
 loop-preserved c =

@@ -1,6 +1,5 @@
 use borrow.Author.Rules.{rules}
-use Rattle.super_block.specs.Super.{area_in}
-use Rattle.check_chain.proofs.Chains.{left_start, left_step, left_stop, left_over, left_last, device_over, device_stop, device_last, device_next, claimed_below}
+use Rattle.check_chain.proofs.Chains.{left_start, left_step, left_stop, left_over, left_last, device_over, device_stop, device_last, device_next}
 use Rattle.super_block.proofs.Fits.{area_inside}
 use Rattle.check_chain.proofs.chain.Goals as goal
 
@@ -13,9 +12,6 @@ loop-init c = (search rules, left_start _ _ _ _ _)
 pub returns-then-not-claim : goal.returns-then-not-claim
 returns-then-not-claim c =
     left_stop _ _ _ _ _ _ _ _ c.loop.invariant.1 _ _ _ c.loop-test.true c.claim.ensures.marks_answer c.if-not-claim.true (device_stop _ _ _)
-
-pub next_addr-b-requires : goal.next_addr-b-requires
-next_addr-b-requires c = claimed_below (area_in c.args.v.s) _ _ c.claim.ensures.inside c.if-not-claim.false
 
 pub returns-then-b-eq0 : goal.returns-then-b-eq0
 returns-then-b-eq0 c =

@@ -1,11 +1,6 @@
 use mathlib.Core.Path.{refl}
-use Rattle.super_block.specs.Super.{area_in}
-use Rattle.check_chain.proofs.Chains.{claimed_below}
 use Rattle.check_dir.proofs.DirBlocks.{blocks_no, blocks_yes}
 use Rattle.check_dir.proofs.blocks.Goals as goal
-
-pub next_addr-requires : goal.next_addr-requires
-next_addr-requires c = claimed_below (area_in c.args.v.s) _ _ c.block.ensures.inside c.if-block.true
 
 pub returns-then-block : goal.returns-then-block
 returns-then-block c =

@@ -1,7 +1,6 @@
 use borrow.Author.Rules.{rules}
 use mathlib.Core.Path.{refl}
-use Rattle.super_block.specs.Super.{area_in}
-use Rattle.check_chain.proofs.Chains.{left_start, claimed_below}
+use Rattle.check_chain.proofs.Chains.{left_start}
 use Rattle.check_dir.proofs.DirBlocks.{later_no, later_yes, later_done, later_answer}
 use Rattle.check_dir.proofs.later.Goals as goal
 
@@ -14,9 +13,6 @@ returns-then-b-eq0 c = later_done _ _ _ _ _ _ _ _ c.loop.invariant.1 c.if-b-eq0.
 pub returns-then-not-block : goal.returns-then-not-block
 returns-then-not-block c =
     later_no _ _ _ _ _ _ _ _ c.loop.invariant.1 _ _ c.loop-test.true c.block.ensures.marks_answer c.if-b-eq0.false c.if-not-block.true
-
-pub next_addr-b-requires : goal.next_addr-b-requires
-next_addr-b-requires c = claimed_below (area_in c.args.v.s) _ _ c.block.ensures.inside c.if-not-block.false
 
 pub loop-preserved : goal.loop-preserved
 loop-preserved c =

@@ -1,14 +1,12 @@
 use Rattle.check_names.proofs.Marks.{clear_filled}
 use Rattle.check_names.proofs.Along.{forget_start, forget_again, forget_end, forget_bad}
-use borrow.Author.Rules.{rules}
-use mathlib.Core.Path.{refl}
 use Rattle.check_names.proofs.forget.Goals as goal
 
 pub loop-init : goal.loop-init
-loop-init c = (search forget_start, refl)
+loop-init c = search forget_start
 
 pub loop-preserved : goal.loop-preserved
-loop-preserved c = (search (forget_again, c.in-Ok-Some.ensures), search rules)
+loop-preserved c = search (forget_again, c.in-Ok-Some.ensures)
 
 pub returns-in-Ok-None : goal.returns-in-Ok-None
 returns-in-Ok-None c = search (forget_end, c.in-Ok-None.ensures)

@@ -2,12 +2,10 @@ use borrow.Author.Tests.{not-true, not-false}
 use Rattle.check_names.proofs.Along.{met_start, met_within}
 use Rattle.check_names.proofs.Along.{tested_again, tested_hit, tested_within, tested_end, tested_bad}
 use Rattle.read_dir.proofs.Along.{step_less, number_fits}
-use borrow.Author.Rules.{rules}
-use mathlib.Core.Path.{refl}
 use Rattle.check_names.proofs.tested.Goals as goal
 
 pub loop-x-init : goal.loop-x-init
-loop-x-init c = (search met_start, refl, search rules)
+loop-x-init c = search met_start
 
 pub returns-then-not-fresh : goal.returns-then-not-fresh
 returns-then-not-fresh c = record { value = search (tested_hit, not-true, c.in-Ok-Some.ensures); only = search (tested_within, c.in-Ok-Some.ensures) }
@@ -19,7 +17,7 @@ pub loop-x-smaller : goal.loop-x-smaller
 loop-x-smaller c = search step_less
 
 pub loop-x-preserved : goal.loop-x-preserved
-loop-x-preserved c = (search (tested_again, not-false, c.in-Ok-Some.ensures), search rules, search rules)
+loop-x-preserved c = search (tested_again, not-false, c.in-Ok-Some.ensures)
 
 pub returns-in-Ok-None : goal.returns-in-Ok-None
 returns-in-Ok-None c = record { value = search (tested_end, c.in-Ok-None.ensures); only = search met_within }

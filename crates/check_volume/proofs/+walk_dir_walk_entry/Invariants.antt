@@ -14,7 +14,6 @@ decreases-walk_entry l = 2 * l.depth
 abbrev pub invariant-walk_dir-loop-x : goal.invariant-walk_dir-loop-x
 invariant-walk_dir-loop-x l =
     (length l.work ≡ length l.initial.work)
-    × (l.filter ≡ l.initial.filter)
     × Rest (area_in l.v.s) (entry_check (area_in l.v.s) l.v.img.now l.depth) l.initial.work (cursor_walk (area_in l.v.s) l.v.img.now l.initial.c) l.work (cursor_walk (area_in l.v.s) l.v.img.now l.c)
 
 abbrev pub decreases-walk_dir-loop-x : goal.decreases-walk_dir-loop-x
