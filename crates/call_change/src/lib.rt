@@ -14,23 +14,22 @@ use call_read::OpenOut;
 use dir_entry::{Kind, Name};
 use handle::{CountedOut, Handle};
 use limits::Refusal;
-use super_block::SuperBlock;
+use super_block::{Mount, SuperBlock};
 
 // What a change by a path begins with, once the volume is checked: its numbers, and the full path in the first bytes of `full`.
 // Refusals: 1, 2, 3, 16, 17, 4.
 fn begin(
     img: &[u8],
-    k: u32,
-    code: u32,
+    m: Mount,
     cwd: &[u8],
     path: &[u8],
     work: &mut [u8],
     full: &mut [u8; path::PATH_LIMIT],
 ) -> Result<(SuperBlock, usize), Refusal>
-    ensures begin_is { BeginIs (mount k code) img.now work.old cwd.now path.now full.new result }
-    ensures work_after { work.new ≡ work_after (mount k code) img.now work.old }
+    ensures begin_is { BeginIs (mount m.k m.code) img.now work.old cwd.now path.now full.new result }
+    ensures work_after { work.new ≡ work_after (mount m.k m.code) img.now work.old }
 {
-    let s = call_volume::open_checked(img, k, code, work)?;
+    let s = call_volume::open_checked(img, m, work)?;
     let n = path::realpath(full, cwd, path)?;
     Ok((s, n))
 }
@@ -38,21 +37,21 @@ fn begin(
 // Creates an empty entry of that kind at a path: what a handle on it holds.
 fn create_at(
     img: &mut [u8],
-    k: u32,
-    code: u32,
+    m: Mount,
     cwd: &[u8],
     path: &[u8],
     kind: Kind,
     time: u64,
     work: &mut [u8],
 ) -> Result<Handle, Refusal>
-    ensures result_value { says result ≡ and_then (create_reply kind (mount k code) img.old (length work.old) cwd.now path.now)
+    ensures result_value { says result
+        ≡ and_then (create_reply kind (mount m.k m.code) img.old (length work.old) cwd.now path.now)
         (λ f. accepted (fresh_handle (last_name (real_path cwd.now path.now)) f)) }
-    ensures img_after { img.new ≡ create_image kind (mount k code) img.old (length work.old) cwd.now path.now time }
-    ensures work_after { work.new ≡ work_after (mount k code) img.old work.old }
+    ensures img_after { img.new ≡ create_image kind (mount m.k m.code) img.old (length work.old) cwd.now path.now time }
+    ensures work_after { work.new ≡ work_after (mount m.k m.code) img.old work.old }
 {
     let mut full = [0u8; path::PATH_LIMIT];
-    let (s, n) = begin(img, k, code, cwd, path, work, &mut full)?;
+    let (s, n) = begin(img, m, cwd, path, work, &mut full)?;
     let created = create::create(img, s, &full[..n], kind, time)?;
     let bytes = path::parts_of(&full[..n]).name;
     Ok(Handle::new(created.dir, Name { bytes }, created.block, 0))
@@ -61,68 +60,64 @@ fn create_at(
 // Creates a file of 0 bytes at a path, and opens it. Refusals: 1, 2, 3, 16, 17, 4, 8, 5, 6, 7, 9.
 pub fn create_file(
     img: &mut [u8],
-    k: u32,
-    code: u32,
+    m: Mount,
     cwd: &[u8],
     path: &[u8],
     time: u64,
     work: &mut [u8],
 ) -> OpenOut
-    ensures { CreatesFile (mount k code) img.old work.old cwd.now path.now time
+    ensures { CreatesFile (mount m.k m.code) img.old work.old cwd.now path.now time
         result img.new work.new }
 {
-    OpenOut::from(create_at(img, k, code, cwd, path, Kind::File, time, work))
+    OpenOut::from(create_at(img, m, cwd, path, Kind::File, time, work))
 }
 
 // Creates an empty directory at a path. Refusals: 1, 2, 3, 16, 17, 4, 8, 5, 6, 15, 7, 9.
 pub fn create_dir(
     img: &mut [u8],
-    k: u32,
-    code: u32,
+    m: Mount,
     cwd: &[u8],
     path: &[u8],
     time: u64,
     work: &mut [u8],
 ) -> Result<(), Refusal>
-    ensures { CreatesDir (mount k code) img.old work.old cwd.now path.now time
+    ensures { CreatesDir (mount m.k m.code) img.old work.old cwd.now path.now time
         result img.new work.new }
 {
-    create_at(img, k, code, cwd, path, Kind::Dir, time, work)?;
+    create_at(img, m, cwd, path, Kind::Dir, time, work)?;
     Ok(())
 }
 
 // Deletes the file, the device or the empty directory at a path. Refusals: 1, 2, 3, 16, 17, 4, 5, 6, 14.
 pub fn delete(
     img: &mut [u8],
-    k: u32,
-    code: u32,
+    m: Mount,
     cwd: &[u8],
     path: &[u8],
     time: u64,
     work: &mut [u8],
 ) -> Result<(), Refusal>
-    ensures { Deletes (mount k code) img.old work.old cwd.now path.now time result
+    ensures { Deletes (mount m.k m.code) img.old work.old cwd.now path.now time result
         img.new work.new }
 {
     let mut full = [0u8; path::PATH_LIMIT];
-    let (s, n) = begin(img, k, code, cwd, path, work, &mut full)?;
+    let (s, n) = begin(img, m, cwd, path, work, &mut full)?;
     delete::delete(img, s, &full[..n], time)
 }
 
 // Writes on a volume that is checked first: the handle is moved where the write is not refused.
 fn write_on(
     img: &mut [u8],
-    k: u32,
-    code: u32,
+    m: Mount,
     handle: &mut Handle,
     buf: &[u8],
     time: u64,
     work: &mut [u8],
 ) -> Result<usize, Refusal>
-    ensures { Writes (mount k code) img.old work.old handle.old buf.now time
+    ensures { Writes (mount m.k m.code) img.old work.old handle.old buf.now time
         (record { answer = result; handle = handle.new }) img.new work.new }
 {
-    let s = call_volume::open_checked(img, k, code, work)?;
+    let s = call_volume::open_checked(img, m, work)?;
     write::write(handle, img, s, buf, time)
 }
 
@@ -130,16 +125,15 @@ fn write_on(
 // the very handle.
 pub fn write(
     img: &mut [u8],
-    k: u32,
-    code: u32,
+    m: Mount,
     mut handle: Handle,
     buf: &[u8],
     time: u64,
     work: &mut [u8],
 ) -> CountedOut
-    ensures { Writes (mount k code) img.old work.old handle buf.now time result
+    ensures { Writes (mount m.k m.code) img.old work.old handle buf.now time result
         img.new work.new }
 {
-    let answer = write_on(img, k, code, &mut handle, buf, time, work);
+    let answer = write_on(img, m, &mut handle, buf, time, work);
     CountedOut { answer, handle }
 }

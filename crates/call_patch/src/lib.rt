@@ -7,21 +7,21 @@ ghost use Rattle.call_patch.specs.Patches.{Patches};
 
 use handle::{CountedOut, Handle};
 use limits::Refusal;
+use super_block::Mount;
 
 // Patches on a volume that is checked first: the handle is moved where the patch is not refused.
 fn patch_on(
     img: &mut [u8],
-    k: u32,
-    code: u32,
+    m: Mount,
     handle: &mut Handle,
     buf: &[u8],
     time: u64,
     work: &mut [u8],
 ) -> Result<usize, Refusal>
-    ensures { Patches (mount k code) img.old work.old handle.old buf.now time
+    ensures { Patches (mount m.k m.code) img.old work.old handle.old buf.now time
         (record { answer = result; handle = handle.new }) img.new work.new }
 {
-    let s = call_volume::open_checked(img, k, code, work)?;
+    let s = call_volume::open_checked(img, m, work)?;
     patch::patch(handle, img, s, buf, time)
 }
 
@@ -29,17 +29,16 @@ fn patch_on(
 // refused patch hands back the very handle.
 pub fn patch(
     img: &mut [u8],
-    k: u32,
-    code: u32,
+    m: Mount,
     mut handle: Handle,
     buf: &[u8],
     time: u64,
     work: &mut [u8],
 ) -> CountedOut
-    ensures { Patches (mount k code) img.old work.old handle buf.now time result
+    ensures { Patches (mount m.k m.code) img.old work.old handle buf.now time result
         img.new
         work.new }
 {
-    let answer = patch_on(img, k, code, &mut handle, buf, time, work);
+    let answer = patch_on(img, m, &mut handle, buf, time, work);
     CountedOut { answer, handle }
 }

@@ -19,7 +19,7 @@ use dir_entry::{Kind, Name};
 use handle::{CountedOut, Handle, SeekFrom, Sought};
 use limits::Refusal;
 use read_dir::Listed;
-use super_block::{SuperBlock, Volume};
+use super_block::{Mount, SuperBlock, Volume};
 
 // An opened file: the handle stands at position 0. A struct and no Result: by H6 a refused open hands back the empty handle.
 #[derive(Clone, Copy)]
@@ -80,15 +80,14 @@ impl From<Result<Handle, Refusal>> for OpenOut {
 // What a call by a path begins with: the volume's numbers, and the full path in the first bytes of `full`. Refusals: 1, 2, 3, 4.
 fn start(
     img: &[u8],
-    k: u32,
-    code: u32,
+    m: Mount,
     cwd: &[u8],
     path: &[u8],
     full: &mut [u8; path::PATH_LIMIT],
 ) -> Result<(SuperBlock, usize), Refusal>
-    ensures { StartIs (mount k code) img.now cwd.now path.now full.new result }
+    ensures { StartIs (mount m.k m.code) img.now cwd.now path.now full.new result }
 {
-    let s = SuperBlock::read(img, k, code)?;
+    let s = SuperBlock::read(img, m)?;
     let n = path::realpath(full, cwd, path)?;
     Ok((s, n))
 }
@@ -112,19 +111,19 @@ fn open_full(img: &[u8], s: SuperBlock, full: &[u8]) -> Result<Handle, Refusal>
 }
 
 // A handle on the file at a path.
-fn open_at(img: &[u8], k: u32, code: u32, cwd: &[u8], path: &[u8]) -> Result<Handle, Refusal>
-    ensures { says result ≡ open_reply (mount k code) img.now cwd.now path.now }
+fn open_at(img: &[u8], m: Mount, cwd: &[u8], path: &[u8]) -> Result<Handle, Refusal>
+    ensures { says result ≡ open_reply (mount m.k m.code) img.now cwd.now path.now }
 {
     let mut full = [0u8; path::PATH_LIMIT];
-    let (s, n) = start(img, k, code, cwd, path, &mut full)?;
+    let (s, n) = start(img, m, cwd, path, &mut full)?;
     open_full(img, s, &full[..n])
 }
 
 // Opens the file at a path. Refusals: 1, 2, 3, 4, 5, 6, 17, 10.
-pub fn open(img: &[u8], k: u32, code: u32, cwd: &[u8], path: &[u8]) -> OpenOut
-    ensures { Opens (mount k code) img.now cwd.now path.now result }
+pub fn open(img: &[u8], m: Mount, cwd: &[u8], path: &[u8]) -> OpenOut
+    ensures { Opens (mount m.k m.code) img.now cwd.now path.now result }
 {
-    OpenOut::from(open_at(img, k, code, cwd, path))
+    OpenOut::from(open_at(img, m, cwd, path))
 }
 
 // What is known of the root itself: a directory of no name, whose size is its sum.
@@ -158,11 +157,11 @@ fn about_full(img: &[u8], s: SuperBlock, full: &[u8]) -> Result<About, Refusal>
 }
 
 // What is known of what stands at a path; the path `/` itself is the root.
-fn about_at(img: &[u8], k: u32, code: u32, cwd: &[u8], path: &[u8]) -> Result<About, Refusal>
-    ensures { says result ≡ info_reply (mount k code) img.now cwd.now path.now }
+fn about_at(img: &[u8], m: Mount, cwd: &[u8], path: &[u8]) -> Result<About, Refusal>
+    ensures { says result ≡ info_reply (mount m.k m.code) img.now cwd.now path.now }
 {
     let mut full = [0u8; path::PATH_LIMIT];
-    let (s, n) = start(img, k, code, cwd, path, &mut full)?;
+    let (s, n) = start(img, m, cwd, path, &mut full)?;
     if path::is_root(path) {
         return about_root(Volume { img, s });
     }
@@ -170,10 +169,10 @@ fn about_at(img: &[u8], k: u32, code: u32, cwd: &[u8], path: &[u8]) -> Result<Ab
 }
 
 // Kind, size, time and name of what stands at a path. Refusals: 1, 2, 3, 4, 5, 6, 17.
-pub fn info(img: &[u8], k: u32, code: u32, cwd: &[u8], path: &[u8]) -> InfoOut
-    ensures { Informs (mount k code) img.now cwd.now path.now result }
+pub fn info(img: &[u8], m: Mount, cwd: &[u8], path: &[u8]) -> InfoOut
+    ensures { Informs (mount m.k m.code) img.now cwd.now path.now result }
 {
-    match about_at(img, k, code, cwd, path) {
+    match about_at(img, m, cwd, path) {
         Ok(about) => {
             let name = about.name;
             InfoOut {
@@ -211,40 +210,33 @@ fn list_full(v: Volume, full: &[u8], i: u32, buf: &mut [u8]) -> Result<Listed, R
 // after them. Refusals: 1, 2, 3, 4, 5, 6, 17.
 pub fn list(
     img: &[u8],
-    k: u32,
-    code: u32,
+    m: Mount,
     cwd: &[u8],
     path: &[u8],
     i: u32,
     buf: &mut [u8],
 ) -> Result<Listed, Refusal>
-    ensures { Lists (mount k code) img.now cwd.now path.now i buf.old result
+    ensures { Lists (mount m.k m.code) img.now cwd.now path.now i buf.old result
         buf.new }
 {
     let mut full = [0u8; path::PATH_LIMIT];
-    let (s, n) = start(img, k, code, cwd, path, &mut full)?;
+    let (s, n) = start(img, m, cwd, path, &mut full)?;
     list_full(Volume { img, s }, &full[..n], i, buf)
 }
 
 // Reads on an image: the handle is moved where the read is not refused.
-fn read_on(
-    img: &[u8],
-    k: u32,
-    code: u32,
-    handle: &mut Handle,
-    buf: &mut [u8],
-) -> Result<usize, Refusal>
-    ensures { Reads (mount k code) img.now handle.old buf.old buf.new (record { answer = result; handle = handle.new }) }
+fn read_on(img: &[u8], m: Mount, handle: &mut Handle, buf: &mut [u8]) -> Result<usize, Refusal>
+    ensures { Reads (mount m.k m.code) img.now handle.old buf.old buf.new (record { answer = result; handle = handle.new }) }
 {
-    let s = SuperBlock::read(img, k, code)?;
+    let s = SuperBlock::read(img, m)?;
     file_read::read(handle, Volume { img, s }, buf)
 }
 
 // Reads from the handle's position on into buf. Refusals: 1, 2, 3, 11, 17; a refused read hands back the very handle.
-pub fn read(img: &[u8], k: u32, code: u32, mut handle: Handle, buf: &mut [u8]) -> CountedOut
-    ensures { Reads (mount k code) img.now handle buf.old buf.new result }
+pub fn read(img: &[u8], m: Mount, mut handle: Handle, buf: &mut [u8]) -> CountedOut
+    ensures { Reads (mount m.k m.code) img.now handle buf.old buf.new result }
 {
-    let answer = read_on(img, k, code, &mut handle, buf);
+    let answer = read_on(img, m, &mut handle, buf);
     CountedOut { answer, handle }
 }
 

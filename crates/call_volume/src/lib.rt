@@ -12,7 +12,7 @@ ghost use Rattle.call_volume.specs.Format.{formatted, Formats, Uses, overused, s
 
 use block::Index;
 use limits::Refusal;
-use super_block::{SuperBlock, Volume};
+use super_block::{Mount, SuperBlock, Volume};
 
 // Bytes of the volume, bytes of its used blocks, and the rest; wide enough for 4 GiB.
 #[derive(Clone, Copy)]
@@ -35,11 +35,11 @@ fn lay(img: &mut [u8], s: SuperBlock)
 }
 
 // Makes the whole image a volume with an empty root directory. Refusals: 1, 3; as in every call that
-// takes a size code, 2 before them where the code is not known.
-pub fn format(img: &mut [u8], k: u32, code: u32) -> Result<(), Refusal>
-    ensures { Formats (mount k code) img.old result img.new }
+// takes a mount, 2 before them where its size code is not known.
+pub fn format(img: &mut [u8], m: Mount) -> Result<(), Refusal>
+    ensures { Formats (mount m.k m.code) img.old result img.new }
 {
-    let s = SuperBlock::for_image(img.len(), k, code)?;
+    let s = SuperBlock::for_image(img.len(), m)?;
     lay(img, s);
     Ok(())
 }
@@ -64,23 +64,17 @@ fn sizes_of(s: SuperBlock, used: u32) -> Result<Space, Refusal>
 }
 
 // How much of the volume is used. Refusals: 1, 2, 3, 17.
-pub fn usage(img: &[u8], k: u32, code: u32) -> Result<Space, Refusal>
-    ensures { Uses (mount k code) img.now result }
+pub fn usage(img: &[u8], m: Mount) -> Result<Space, Refusal>
+    ensures { Uses (mount m.k m.code) img.now result }
 {
-    let s = SuperBlock::read(img, k, code)?;
+    let s = SuperBlock::read(img, m)?;
     sizes_of(s, s.alloc_count(img))
 }
 
 // The whole check of an opened volume, and its work buffer's length before that.
-fn check_opened(
-    img: &[u8],
-    k: u32,
-    code: u32,
-    s: SuperBlock,
-    work: &mut [u8],
-) -> Result<SuperBlock, Refusal>
-    requires { OpenedIs (mount k code) img.now (Ok s) }
-    ensures { Checked (mount k code) img.now work.old result work.new }
+fn check_opened(img: &[u8], m: Mount, s: SuperBlock, work: &mut [u8]) -> Result<SuperBlock, Refusal>
+    requires { OpenedIs (mount m.k m.code) img.now (Ok s) }
+    ensures { Checked (mount m.k m.code) img.now work.old result work.new }
 {
     if work.len() < check_bitmap::mark_bytes(s) {
         return Err(Refusal::ShortWork);
@@ -93,18 +87,18 @@ fn check_opened(
 }
 
 // Opens a volume and checks it whole: what a changing call does first.
-pub fn open_checked(img: &[u8], k: u32, code: u32, work: &mut [u8]) -> Result<SuperBlock, Refusal>
-    ensures { Checked (mount k code) img.now work.old result work.new }
+pub fn open_checked(img: &[u8], m: Mount, work: &mut [u8]) -> Result<SuperBlock, Refusal>
+    ensures { Checked (mount m.k m.code) img.now work.old result work.new }
 {
-    let s = SuperBlock::read(img, k, code)?;
-    check_opened(img, k, code, s, work)
+    let s = SuperBlock::read(img, m)?;
+    check_opened(img, m, s, work)
 }
 
 // Whether the image is a well-formed volume, W1 to W5. One bit a block is marked in the work buffer, and is zero again
 // afterwards. Refusals: 1, 2, 3, 16, 17.
-pub fn check(img: &[u8], k: u32, code: u32, work: &mut [u8]) -> Result<(), Refusal>
-    ensures { Checks (mount k code) img.now work.old result work.new }
+pub fn check(img: &[u8], m: Mount, work: &mut [u8]) -> Result<(), Refusal>
+    ensures { Checks (mount m.k m.code) img.now work.old result work.new }
 {
-    open_checked(img, k, code, work)?;
+    open_checked(img, m, work)?;
     Ok(())
 }

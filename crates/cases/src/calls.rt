@@ -8,14 +8,7 @@ use dir_entry::Kind;
 use handle::{CountedOut, Handle, SeekFrom};
 use std::io;
 use std::io::Write;
-use super_block::SuperBlock;
-
-// What a call is told of where the volume is: the superblock's block, and the size code.
-#[derive(Clone, Copy)]
-pub struct Mount {
-    pub k: u32,
-    pub code: u32,
-}
+use super_block::{Mount, SuperBlock};
 
 // What a call is lent: the image, and the work buffer.
 #[derive(Drop)]
@@ -89,7 +82,7 @@ fn read<W: Write>(
     if buf.len() < n {
         return told::unread(out);
     }
-    let o = mfs::read(disk.img, disk.m.k, disk.m.code, *h, &mut buf[..n]);
+    let o = mfs::read(disk.img, disk.m, *h, &mut buf[..n]);
     *h = o.handle;
     told_read(out, form, o, &buf)
 }
@@ -118,7 +111,7 @@ fn write<W: Write>(
     time: u64,
 ) -> io::Result<()> {
     let m = disk.m;
-    let o = mfs::write(disk.img, m.k, m.code, *h, bytes, time, disk.work);
+    let o = mfs::write(disk.img, m, *h, bytes, time, disk.work);
     *h = o.handle;
     if let Form::Words = form {
         told::put_count(out, o.answer)?;
@@ -137,14 +130,14 @@ pub fn slot_call<W: Write>(
     h: &mut Handle,
     step: SlotStep,
 ) -> io::Result<()> {
-    let Mount { k, code } = disk.m;
+    let m = disk.m;
     match step {
         SlotStep::Open(Way { cwd, path }) => {
-            let o = mfs::open(disk.img, k, code, cwd, path);
+            let o = mfs::open(disk.img, m, cwd, path);
             opened(out, form, true, o, h)
         }
         SlotStep::Create(Way { cwd, path }, time) => {
-            let o = mfs::create_file(disk.img, k, code, cwd, path, time, disk.work);
+            let o = mfs::create_file(disk.img, m, cwd, path, time, disk.work);
             opened(out, form, false, o, h)
         }
         SlotStep::Read(n) => read(out, form, disk, h, n),
@@ -168,7 +161,7 @@ pub fn slot_call<W: Write>(
 // ---- calls on the image
 
 fn usage<W: Write>(out: &mut W, form: Form, img: &[u8], m: Mount) -> io::Result<()> {
-    match (mfs::usage(img, m.k, m.code), form) {
+    match (mfs::usage(img, m), form) {
         (Ok(s), Form::Recorded) => write!(out, " 1 {} {} {}", s.size, s.used, s.free),
         (Ok(s), Form::Words) => write!(out, " {} {} {}", s.size, s.used, s.free),
         (Err(r), _) => refuse(out, form, r),
@@ -184,7 +177,7 @@ fn letter(kind: Kind) -> char {
 }
 
 fn info<W: Write>(out: &mut W, form: Form, img: &[u8], m: Mount, way: Way) -> io::Result<()> {
-    let o = mfs::info(img, m.k, m.code, way.cwd, way.path);
+    let o = mfs::info(img, m, way.cwd, way.path);
     if let Err(r) = o.answer {
         return refuse(out, form, r);
     }
@@ -213,15 +206,7 @@ fn list<W: Write>(
         return told::unread(out);
     }
     let m = disk.m;
-    let l = mfs::list(
-        disk.img,
-        m.k,
-        m.code,
-        way.cwd,
-        way.path,
-        from,
-        &mut buf[..len],
-    );
+    let l = mfs::list(disk.img, m, way.cwd, way.path, from, &mut buf[..len]);
     let changed = others(&buf, 255);
     match (l, form) {
         (Ok(l), Form::Recorded) => {
@@ -269,11 +254,7 @@ fn check_first<W: Write>(
     n: usize,
 ) -> io::Result<()> {
     if n <= work.len() {
-        told::answer(
-            out,
-            Form::Words,
-            mfs::check(img, m.k, m.code, &mut work[..n]),
-        )?;
+        told::answer(out, Form::Words, mfs::check(img, m, &mut work[..n]))?;
     }
     Ok(())
 }
@@ -306,17 +287,17 @@ fn effect<W: Write>(out: &mut W, img: &[u8], m: Mount, before: u64) -> io::Resul
     let image = if kept { "kept" } else { "changed" };
     write!(out, " image {image} used")?;
     let block_bytes = if m.code == 1 { 1024 } else { 512 };
-    match mfs::usage(img, m.k, m.code) {
+    match mfs::usage(img, m) {
         Ok(s) => write!(out, " {}", s.used / block_bytes)?,
         Err(r) => refuse(out, Form::Words, r)?,
     }
     put(out, b" check")?;
     let mut work = [165u8; 513];
-    told::answer(out, Form::Words, mfs::check(img, m.k, m.code, &mut work))
+    told::answer(out, Form::Words, mfs::check(img, m, &mut work))
 }
 
 fn accept<W: Write>(out: &mut W, len: usize, m: Mount) -> io::Result<()> {
-    match SuperBlock::for_image(len, m.k, m.code) {
+    match SuperBlock::for_image(len, m) {
         Ok(_) => put(out, b" accepted"),
         Err(r) => refuse(out, Form::Words, r),
     }
@@ -353,17 +334,16 @@ fn path_call<W: Write>(
     step: PathStep,
 ) -> io::Result<()> {
     let m = disk.m;
-    let Mount { k, code } = m;
     let Way { cwd, path } = way;
     match step {
         PathStep::Info => info(out, form, disk.img, m, way),
         PathStep::List { from, len } => list(out, form, disk, way, from, len),
         PathStep::Mkdir(time) => {
-            let a = mfs::create_dir(disk.img, k, code, cwd, path, time, disk.work);
+            let a = mfs::create_dir(disk.img, m, cwd, path, time, disk.work);
             told::answer(out, form, a)
         }
         PathStep::Delete(time) => {
-            let a = mfs::delete(disk.img, k, code, cwd, path, time, disk.work);
+            let a = mfs::delete(disk.img, m, cwd, path, time, disk.work);
             told::answer(out, form, a)
         }
     }
@@ -390,7 +370,7 @@ pub fn image_call<W: Write>(
             copy_first(disk.img, base, n);
             Ok(())
         }
-        ImageStep::Format => told::answer(out, form, mfs::format(disk.img, m.k, m.code)),
+        ImageStep::Format => told::answer(out, form, mfs::format(disk.img, m)),
         ImageStep::Usage => usage(out, form, disk.img, m),
         ImageStep::Digest => write!(out, " {}", recorded::digest(disk.img)),
         ImageStep::Nonzero => write!(out, " {}", others(disk.img, 0)),

@@ -47,10 +47,10 @@ mod state;
 mod steps;
 mod told;
 
-use calls::Mount;
 use state::{State, Store};
 use std::io;
 use std::io::{Read, Write};
+use super_block::Mount;
 
 // Reads the script into the buffer and follows it. One that is too long is cut, and what it lacks is missing in what is printed.
 fn run<R: Read, W: Write>(

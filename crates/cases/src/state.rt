@@ -2,7 +2,7 @@
 
 ghost use Rattle.std.specs.Prelude.{◌≤◌, ◌+◌, length, IfSome};
 
-use crate::calls::{Disk, Mount};
+use crate::calls::Disk;
 use crate::line::Fields;
 use crate::steps::Step;
 use crate::told::Form;
@@ -11,6 +11,7 @@ use block::Addr;
 use handle::Handle;
 use std::io;
 use std::io::Write;
+use super_block::Mount;
 
 // The bytes that an image is of, and those that are kept of it.
 #[derive(Drop)]

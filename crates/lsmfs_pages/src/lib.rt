@@ -11,6 +11,7 @@ ghost use Rattle.lsmfs_pages.specs.Says.{Told, Says};
 
 use limits::Refusal;
 use read_dir::Listed;
+use super_block::Mount;
 
 // The size code of the images that are listed: blocks of 512 bytes.
 const CODE: u32 = 0;
@@ -30,7 +31,7 @@ pub fn page(img: &[u8], k: u32, i: u32, out: &mut [u8]) -> Result<Listed, Refusa
     ensures { Pages (mount k 0) img.now i 1024 out.old out.new result }
 {
     let mut records = [0u8; 1024];
-    let l = mfs::list(img, k, CODE, b"/", b"/", i, &mut records)?;
+    let l = mfs::list(img, Mount { k, code: CODE }, b"/", b"/", i, &mut records)?;
     let bytes = lsmfs_lines::text(out, &records[..l.bytes]);
     Ok(Listed {
         bytes,
@@ -57,7 +58,7 @@ pub fn say(img: &[u8], k: u32, more: bool, i: u32, out: &mut [u8]) -> Said
         return refused(out, Refusal::BadImage, i);
     }
     let mut work = [0u8; 16];
-    if let Err(r) = mfs::check(img, k, CODE, &mut work) {
+    if let Err(r) = mfs::check(img, Mount { k, code: CODE }, &mut work) {
         return refused(out, r, i);
     }
     match page(img, k, i, out) {

@@ -15,6 +15,7 @@ use block::Addr;
 use call_read::OpenOut;
 use handle::{CountedOut, Handle, SeekFrom};
 use limits::Refusal;
+use super_block::Mount;
 
 // The version of these exports, for callers that were compiled against another one to find out.
 #[unsafe(no_mangle)]
@@ -99,7 +100,7 @@ fn give_count(out: CountedOut, number: &mut [u32; 4], bytes: &mut usize) -> u32
 pub extern "C" fn mfs_c_format(img: &mut [u8], k: u32, code: u32) -> u32
     ensures { FormatsC (mount k code) img.old result img.new }
 {
-    answer_of(mfs::format(img, k, code))
+    answer_of(mfs::format(img, Mount { k, code }))
 }
 
 // Bytes of the volume, of its used blocks, and the rest. Refusals: 1, 2, 3, 17.
@@ -115,7 +116,7 @@ pub extern "C" fn mfs_c_usage(
     ensures { UsesC (mount k code) img.now size.old used.old free.old result
         size.new used.new free.new }
 {
-    match mfs::usage(img, k, code) {
+    match mfs::usage(img, Mount { k, code }) {
         Err(r) => refusal(r),
         Ok(space) => {
             *size = space.size;
@@ -139,7 +140,7 @@ pub extern "C" fn mfs_c_room(
     ensures { AsksC (mount k code) img.now count enough.old bytes.old result
         enough.new bytes.new }
 {
-    match mfs::room(img, k, code, count) {
+    match mfs::room(img, Mount { k, code }, count) {
         Err(r) => refusal(r),
         Ok(told) => {
             *enough = u32::from(told.enough);
@@ -154,7 +155,7 @@ pub extern "C" fn mfs_c_room(
 pub extern "C" fn mfs_c_check(img: &[u8], k: u32, code: u32, work: &mut [u8]) -> u32
     ensures { ChecksC (mount k code) img.now work.old result work.new }
 {
-    answer_of(mfs::check(img, k, code, work))
+    answer_of(mfs::check(img, Mount { k, code }, work))
 }
 
 // Opens the file at a path. Refusals: 1, 2, 3, 4, 5, 6, 17, 10.
@@ -172,7 +173,12 @@ pub extern "C" fn mfs_c_open(
     ensures { OpensC (mount k code) img.now cwd.now path.now number.old
         name.old len.old result number.new name.new len.new }
 {
-    give_handle(mfs::open(img, k, code, cwd, path), number, name, len)
+    give_handle(
+        mfs::open(img, Mount { k, code }, cwd, path),
+        number,
+        name,
+        len,
+    )
 }
 
 // Kind (0 directory, 1 file, 2 device), size, time and name of what stands at a path. Refusals: 1, 2, 3, 4, 5, 6, 17.
@@ -193,7 +199,7 @@ pub extern "C" fn mfs_c_info(
         size.old time.old name.old len.old result kind.new size.new
         time.new name.new len.new }
 {
-    let out = mfs::info(img, k, code, cwd, path);
+    let out = mfs::info(img, Mount { k, code }, cwd, path);
     match out.answer {
         Err(r) => refusal(r),
         Ok(()) => {
@@ -224,7 +230,7 @@ pub extern "C" fn mfs_c_list(
     ensures { ListsC (mount k code) img.now cwd.now path.now i buf.old
         bytes.old next.old result buf.new bytes.new next.new }
 {
-    match mfs::list(img, k, code, cwd, path, i, buf) {
+    match mfs::list(img, Mount { k, code }, cwd, path, i, buf) {
         Err(r) => refusal(r),
         Ok(listed) => {
             *bytes = listed.bytes;
@@ -250,7 +256,7 @@ pub extern "C" fn mfs_c_read(
         bytes.old result number.new buf.new bytes.new }
 {
     let given = handle_of(number, name, len);
-    let out = mfs::read(img, k, code, given, buf);
+    let out = mfs::read(img, Mount { k, code }, given, buf);
     give_count(out, number, bytes)
 }
 
@@ -327,7 +333,7 @@ pub extern "C" fn mfs_c_create_file(
         work.new number.new name.new len.new }
 {
     give_handle(
-        mfs::create_file(img, k, code, cwd, path, time, work),
+        mfs::create_file(img, Mount { k, code }, cwd, path, time, work),
         number,
         name,
         len,
@@ -348,7 +354,7 @@ pub extern "C" fn mfs_c_create_dir(
     ensures { CreatesDirC (mount k code) img.old work.old cwd.now
         path.now time result img.new work.new }
 {
-    answer_of(mfs::create_dir(img, k, code, cwd, path, time, work))
+    answer_of(mfs::create_dir(img, Mount { k, code }, cwd, path, time, work))
 }
 
 // Deletes the file, the device or the empty directory at a path. Refusals: 1, 2, 3, 16, 17, 4, 5, 6, 14.
@@ -365,7 +371,7 @@ pub extern "C" fn mfs_c_delete(
     ensures { DeletesC (mount k code) img.old work.old cwd.now path.now time result
         img.new work.new }
 {
-    answer_of(mfs::delete(img, k, code, cwd, path, time, work))
+    answer_of(mfs::delete(img, Mount { k, code }, cwd, path, time, work))
 }
 
 // Writes buf at the handle's position; the file ends there. Refusals: 1, 2, 3, 16, 17, 13, 11, 10, 9.
@@ -387,7 +393,7 @@ pub extern "C" fn mfs_c_write(
         bytes.new }
 {
     let given = handle_of(number, name, len);
-    let out = mfs::write(img, k, code, given, buf, time, work);
+    let out = mfs::write(img, Mount { k, code }, given, buf, time, work);
     give_count(out, number, bytes)
 }
 
@@ -410,6 +416,6 @@ pub extern "C" fn mfs_c_patch(
         bytes.new }
 {
     let given = handle_of(number, name, len);
-    let out = mfs::patch(img, k, code, given, buf, time, work);
+    let out = mfs::patch(img, Mount { k, code }, given, buf, time, work);
     give_count(out, number, bytes)
 }

@@ -2,10 +2,11 @@
 // Only this crate computes D and the reach; all others take them from the struct.
 #![tactic(auto)]
 
-ghost use Rattle.std.specs.Prelude.{◌≡◌, ◌+◌, ◌-◌, ◌*◌, ◌/◌, ◌≤◌, eqb, leb, ltb, ◌&&◌, ◌<◌, length};
+ghost use Rattle.std.specs.Prelude.{◌≡◌, ◌+◌, ◌-◌, ◌*◌, ◌/◌, ◌≤◌, eqb, leb, ltb, ◌&&◌, ◌<◌, length, IfOk, IfErr};
 ghost use Rattle.wire.specs.Pick.{pick};
 ghost use Rattle.block.specs.Block.{BlockSize, next};
 ghost use Rattle.model.specs.Geometry.{mount, numbered, code_size, last_code, rest, bad_image, bad_version, bad_mark, bad_count, used_count};
+ghost use Rattle.limits.specs.Refusals.{refusal_number};
 ghost use Rattle.super_block.specs.One.{fit_is_one};
 ghost use Rattle.super_block.specs.Super.{geo_of, super_block, Fair, Fit, OpenedIs, MadeIs, counted, super_written};
 
@@ -25,6 +26,21 @@ const OLD_VERSION: u8 = 1;
 
 // The last size code. (The old version has code 0 alone.)
 const MAX_CODE: u32 = 1;
+
+// Where a caller says that a volume stands in an image: the block of its superblock, in blocks of the size that the code says.
+// Any code may be named.
+#[derive(Clone, Copy)]
+pub struct Mount {
+    pub k: u32,
+    pub code: u32,
+}
+
+// A mount whose size code there is. `Mount::known` makes it, after refusal 2.
+#[derive(Clone, Copy)]
+struct Known {
+    m: Mount,
+    ghost known: { m.code ≤ last_code },
+}
 
 // The numbers of a volume.
 #[derive(Clone, Copy)]
@@ -54,36 +70,6 @@ pub struct Volume<'a> {
     ghost fit: { Fit s img.now } by { fit_is_one s img.now },
 }
 
-// The bytes of a block.
-fn block_size(code: u32) -> u32
-    requires { code ≤ last_code }
-    ensures { (result ≡ code_size code) × BlockSize result }
-{
-    if code == 0 {
-        block::BLOCK_SIZE
-    } else {
-        2 * block::BLOCK_SIZE
-    }
-}
-
-// Refusal 1, by the image's length alone.
-fn bad_image(len: usize, k: u32, code: u32) -> bool
-    requires { code ≤ last_code }
-    ensures { result ≡ bad_image (mount k code) len }
-{
-    if len == 0 {
-        return true;
-    }
-    let size = block_size(code) as usize;
-    if len % size != 0 {
-        return true;
-    }
-    if MAX_IMAGE < len {
-        return true;
-    }
-    len / size <= (k as usize) + 2
-}
-
 // Whether no volume of that size code has this version.
 fn bad_version(v: u8, code: u32) -> bool
     ensures { result ≡ bad_version v code }
@@ -95,44 +81,11 @@ fn bad_version(v: u8, code: u32) -> bool
     }
 }
 
-// Refusal 2.
-fn bad_mark(img: &[u8], k: u32, code: u32) -> bool
-    requires code_le_last_code { code ≤ last_code }
-    requires k_in_bounds { code_size code * k + 10 ≤ length img.now }
-    ensures { result ≡ bad_mark (mount k code) img.now }
-{
-    let at = block::offset(block_size(code), Addr(k));
-    if !wire::same_bytes(img, at, &SIGNATURE) {
-        return true;
-    }
-    u32::from(img[at + 9]) != code || bad_version(img[at + 8], code)
-}
-
 // The blocks from the bitmap on.
 fn after_bitmap(n: u32, k: u32) -> u32
     ensures { result ≡ n - (k + 2) }
 {
     n.saturating_sub(k).saturating_sub(2)
-}
-
-// Refusal 3.
-fn bad_count(n: u32, k: u32, len: usize, v: u8, code: u32) -> bool
-    requires { code ≤ last_code }
-    ensures { result ≡ bad_count (numbered (mount k code) v n) len }
-{
-    let size = block_size(code);
-    if len / (size as usize) < (n as usize) {
-        return true;
-    }
-    let left = after_bitmap(n, k);
-    let unit = 8 * size + 1;
-    if v == OLD_VERSION {
-        return left < unit;
-    }
-    if left < 2 {
-        return true;
-    }
-    left % unit == 1
 }
 
 // The blocks of the bitmap, of so many for it and the data. A bitmap block has so many bits.
@@ -148,14 +101,89 @@ fn map_blocks(left: u32, span: u32, v: u8) -> u32
     }
 }
 
-impl SuperBlock {
-    // The numbers with the superblock at k and n blocks.
-    fn new(k: u32, n: u32, v: u8, code: u32) -> Self
-        requires code_le_last_code { code ≤ last_code }
-        requires fair { Fair (numbered (mount k code) v n) }
-        ensures { result ≡ super_block (numbered (mount k code) v n) }
+impl Mount {
+    // The same, where its size code is known: refusal 2, before all that is said of an image.
+    fn known(self) -> Result<Known, Refusal>
+        ensures ok { IfOk result (λ x. x.m ≡ self) }
+        ensures err { IfErr result (λ r. (last_code < self.code) × (refusal_number r ≡ 2)) }
     {
-        let size = block_size(code);
+        if MAX_CODE < self.code {
+            return Err(Refusal::NotMfs);
+        }
+        Ok(Known { m: self })
+    }
+}
+
+impl Known {
+    // The bytes of a block.
+    fn block_size(self) -> u32
+        ensures { (result ≡ code_size self.m.code) × BlockSize result }
+    {
+        if self.m.code == 0 {
+            block::BLOCK_SIZE
+        } else {
+            2 * block::BLOCK_SIZE
+        }
+    }
+
+    // Refusal 1, by the image's length alone.
+    fn bad_image(self, len: usize) -> bool
+        ensures { result ≡ bad_image (mount self.m.k self.m.code) len }
+    {
+        if len == 0 {
+            return true;
+        }
+        let size = self.block_size() as usize;
+        if len % size != 0 {
+            return true;
+        }
+        if MAX_IMAGE < len {
+            return true;
+        }
+        len / size <= (self.m.k as usize) + 2
+    }
+
+    // Refusal 2, by what stands in block k.
+    fn bad_mark(self, img: &[u8]) -> bool
+        requires { code_size self.m.code * self.m.k + 10 ≤ length img.now }
+        ensures { result ≡ bad_mark (mount self.m.k self.m.code) img.now }
+    {
+        let code = self.m.code;
+        let at = block::offset(self.block_size(), Addr(self.m.k));
+        if !wire::same_bytes(img, at, &SIGNATURE) {
+            return true;
+        }
+        u32::from(img[at + 9]) != code || bad_version(img[at + 8], code)
+    }
+
+    // Refusal 3.
+    fn bad_count(self, n: u32, v: u8, len: usize) -> bool
+        ensures { result ≡ bad_count (numbered (mount self.m.k self.m.code) v n) len }
+    {
+        let size = self.block_size();
+        if len / (size as usize) < (n as usize) {
+            return true;
+        }
+        let left = after_bitmap(n, self.m.k);
+        let unit = 8 * size + 1;
+        if v == OLD_VERSION {
+            return left < unit;
+        }
+        if left < 2 {
+            return true;
+        }
+        left % unit == 1
+    }
+}
+
+impl SuperBlock {
+    // The numbers of n blocks.
+    fn new(known: Known, n: u32, v: u8) -> Self
+        requires { Fair (numbered (mount known.m.k known.m.code) v n) }
+        ensures { result ≡ super_block (numbered (mount known.m.k known.m.code) v n) }
+    {
+        let size = known.block_size();
+        let Mount { k, code } = known.m;
         let span = 8 * size;
         let a = k + 2;
         let b = map_blocks(n - a, span, v);
@@ -176,60 +204,40 @@ impl SuperBlock {
         }
     }
 
-    // The numbers of the image's superblock, at block k of a known size code.
-    fn read_known(img: &[u8], k: u32, code: u32) -> Result<SuperBlock, Refusal>
-        requires { code ≤ last_code }
-        ensures { OpenedIs (mount k code) img.now result }
+    // The numbers of the image's superblock, where it is mounted so.
+    pub fn read(img: &[u8], m: Mount) -> Result<SuperBlock, Refusal>
+        ensures { OpenedIs (mount m.k m.code) img.now result }
     {
+        let known = m.known()?;
         let len = img.len();
-        if bad_image(len, k, code) {
+        if known.bad_image(len) {
             return Err(Refusal::BadImage);
         }
-        if bad_mark(img, k, code) {
+        if known.bad_mark(img) {
             return Err(Refusal::NotMfs);
         }
-        let at = block::offset(block_size(code), Addr(k));
+        let at = block::offset(known.block_size(), Addr(known.m.k));
         let v = img[at + 8];
         let n = wire::get32(img, at + 10);
-        if bad_count(n, k, len, v, code) {
+        if known.bad_count(n, v, len) {
             return Err(Refusal::BadCount);
         }
-        Ok(SuperBlock::new(k, n, v, code))
+        Ok(SuperBlock::new(known, n, v))
     }
 
-    // The numbers of the image's superblock, at block k of that size code.
-    pub fn read(img: &[u8], k: u32, code: u32) -> Result<SuperBlock, Refusal>
-        ensures { OpenedIs (mount k code) img.now result }
+    // The numbers that a volume over a whole image of len bytes would have, to be mounted so.
+    pub fn for_image(len: usize, m: Mount) -> Result<SuperBlock, Refusal>
+        ensures { MadeIs (mount m.k m.code) len result }
     {
-        if MAX_CODE < code {
-            return Err(Refusal::NotMfs);
-        }
-        SuperBlock::read_known(img, k, code)
-    }
-
-    // The numbers that a volume of a known size code over a whole image of len bytes would have.
-    fn known_for(len: usize, k: u32, code: u32) -> Result<SuperBlock, Refusal>
-        requires { code ≤ last_code }
-        ensures { MadeIs (mount k code) len result }
-    {
-        if bad_image(len, k, code) {
+        let known = m.known()?;
+        if known.bad_image(len) {
             return Err(Refusal::BadImage);
         }
-        let n = (len / (block_size(code) as usize)) as u32;
-        if bad_count(n, k, len, VERSION, code) {
+        let n = (len / (known.block_size() as usize)) as u32;
+        if known.bad_count(n, VERSION, len) {
             return Err(Refusal::BadCount);
         }
-        Ok(SuperBlock::new(k, n, VERSION, code))
-    }
-
-    // The numbers that a volume of that size code over a whole image of len bytes would have.
-    pub fn for_image(len: usize, k: u32, code: u32) -> Result<SuperBlock, Refusal>
-        ensures { MadeIs (mount k code) len result }
-    {
-        if MAX_CODE < code {
-            return Err(Refusal::NotMfs);
-        }
-        SuperBlock::known_for(len, k, code)
+        Ok(SuperBlock::new(known, n, VERSION))
     }
 
     // The used count.

@@ -1,6 +1,6 @@
 use Rattle.super_block.proofs.Tests.{mark_letters, mark_code, mark_version}
 use borrow.Author.Rules.{rules}
-use Rattle.super_block.proofs.bad_mark.Goals as goal
+use Rattle.super_block.proofs.Known.bad_mark.Goals as goal
 
 pub returns-then-not-same_bytes : goal.returns-then-not-same_bytes
 returns-then-not-same_bytes c = search (mark_letters, rules)

@@ -1,6 +1,6 @@
 use Rattle.super_block.proofs.Tests.{count_over, count_old, count_few, count_last}
 use borrow.Author.Rules.{rules}
-use Rattle.super_block.proofs.bad_count.Goals as goal
+use Rattle.super_block.proofs.Known.bad_count.Goals as goal
 
 pub returns-then-len-size : goal.returns-then-len-size
 returns-then-len-size c = search (count_over, rules)

@@ -1,6 +1,6 @@
 use Rattle.super_block.proofs.Tests.{image_empty, image_odd, image_over, image_last}
 use borrow.Author.Rules.{rules}
-use Rattle.super_block.proofs.bad_image.Goals as goal
+use Rattle.super_block.proofs.Known.bad_image.Goals as goal
 
 pub returns-then-len-eq0 : goal.returns-then-len-eq0
 returns-then-len-eq0 c = search (image_empty, rules)
