@@ -1,4 +1,5 @@
 // The bitmap: which data blocks are taken. Blocks are taken, given back and counted here, and nowhere else.
+// (Image and numbers are lent apart in what stores: lent as one, each contract would have to say that the numbers stay.)
 #![tactic(auto)]
 
 ghost use Rattle.std.specs.Prelude.{◌≡◌, ◌+◌, ◌*◌, ◌≤◌, ◌<◌, length, get_or};

@@ -1,5 +1,6 @@
 // Blocks of an image: their addresses and indexes, and the linked block with its next address.
 // Stores are functions of specs/ on the list of bytes; what a store leaves is said by `Kept` over (block, offset).
+// (`BlockSize` is asked where a bare size comes in, here alone: SuperBlock has it as a number, and so has every definition.)
 #![tactic(auto)]
 
 ghost use Rattle.std.specs.Prelude.{◌≡◌, ◌+◌, ◌-◌, ◌*◌, ◌≤◌, ◌<◌, ◌^◌, length};

@@ -8,7 +8,8 @@ ghost use Rattle.model.specs.Answers.{accepted, and_then};
 ghost use Rattle.limits.specs.Says.{says};
 ghost use Rattle.path.specs.Path.{real_path, last_name};
 ghost use Rattle.call_volume.specs.Checking.{work_after};
-ghost use Rattle.call_change.specs.Changing.{BeginIs, create_reply, create_image, fresh_handle, CreatesFile, CreatesDir, Deletes, Writes};
+ghost use Rattle.call_change.specs.Changing.{BeginIs, create_reply, create_image, fresh_handle, CreatesFile, CreatesDir};
+ghost use Rattle.call_change.specs.Changing.{Deletes, Writes};
 
 use call_read::OpenOut;
 use dir_entry::{Kind, Name};

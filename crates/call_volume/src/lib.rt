@@ -1,5 +1,6 @@
 // The public calls on a volume as a whole: format, usage and the check; and the check that a changing call runs first.
 // Their answers for a caller are those of `mfs`, which passes them on.
+// (Image and numbers are lent apart, as bitmap_block says.)
 #![tactic(auto)]
 
 ghost use Rattle.std.specs.Prelude.{◌≡◌, Ok};

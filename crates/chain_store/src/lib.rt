@@ -1,4 +1,5 @@
 // Giving blocks back: one block of the data area, and the blocks of a chain. Delete and write share it.
+// (Image and numbers are lent apart, as bitmap_block says.)
 #![tactic(auto)]
 
 ghost use Rattle.std.specs.Prelude.{◌≡◌, ◌≤◌, ◌<◌};

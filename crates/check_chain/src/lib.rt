@@ -1,5 +1,7 @@
 // The blocks of files and devices, claimed for the check of a volume: a bit in the work buffer for each block (specs/Marks.antt).
 // thm_survey/specs/Survey.antt says what is computed.
+// (The work buffer is a slice whose length is a clause: as a struct with its volume each call would have to say that this stays,
+// and behind a loan of it nothing was known of its bytes.)
 #![tactic(auto)]
 
 ghost use Rattle.std.specs.Prelude.{◌-◌, ◌≤◌, ◌<◌, [], leb, length};

@@ -1,5 +1,6 @@
 // Creating a file or a directory: where the new entry goes in its directory, and the stores that put it there.
 // specs/Create.antt says each step; proofs/ shows that on a well-formed volume they are the tree's edit.
+// (Image and numbers are lent apart, as bitmap_block says.)
 #![tactic(auto)]
 
 ghost use Rattle.std.specs.Prelude.{◌≡◌, ◌++◌, ◌+◌, ◌-◌, ◌*◌, ◌≤◌, ◌<◌, length};
@@ -145,7 +146,13 @@ fn enter(img: &mut [u8], s: SuperBlock, p: Place, kind: Kind, name: Name, time: 
         time,
         len: name.len(),
     };
-    store_entry(img, LinkedBlock::new(s.size, p.block), p.offset, e, name.bytes);
+    store_entry(
+        img,
+        LinkedBlock::new(s.size, p.block),
+        p.offset,
+        e,
+        name.bytes,
+    );
     a
 }
 

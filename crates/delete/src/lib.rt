@@ -1,6 +1,7 @@
 // Deleting an entry by its full path, on a volume that is opened and checked: refusals 5, 6, 14 in this order, then the stores
 // of `delete_store`. All that may refuse is read before the first store, and the contracts hold on any opened image; on a volume
 // they are the tree's delete (proofs/OnVolume.antt).
+// (Image and numbers are lent apart, as bitmap_block says.)
 #![tactic(auto)]
 
 ghost use Rattle.std.specs.Prelude.{◌≡◌};

@@ -1,5 +1,6 @@
 // Deleting a directory's entry: its bytes go, a block that they leave empty is unlinked and freed, its chain is freed,
 // and the directory's own entry is renewed (C13). What is refused is looked at before, above this crate.
+// (Image and numbers are lent apart, as bitmap_block says.)
 #![tactic(auto)]
 
 ghost use Rattle.std.specs.Prelude.{◌≡◌, ◌+◌, ◌-◌, ◌*◌, ◌≤◌, ◌<◌, length};

@@ -1,4 +1,5 @@
 // One directory entry: its kind, its fixed part, decoding by the four stop rules, and encoding.
+// (That a block lies in the image is a clause: it ties the block to one image, and stores have another behind them.)
 #![tactic(auto)]
 
 ghost use Rattle.std.specs.Prelude.{◌≡◌, ◌+◌, ◌*◌, ◌≤◌, ◌<◌, length};

@@ -1,4 +1,5 @@
 // A directory's entry by its name, read from any image. Entries of other names are passed over by their lengths alone.
+// (A block in the image is a clause and no type: the closures of `pass` get it from the cursor, whose block is tested before.)
 #![tactic(auto)]
 
 ghost use Rattle.std.specs.Prelude.{◌≡◌, ℕ, true, false, ◌+◌, ◌-◌, ◌*◌, ◌≤◌, ◌<◌, length};

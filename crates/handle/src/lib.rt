@@ -19,7 +19,8 @@ use limits::{Damage, Refusal};
 use read_dir::{Placed, ReadDir};
 use super_block::Volume;
 
-// What an open file is known by. The name stands in the first len bytes.
+// What an open file is known by. The name stands in the first len bytes: an array and a length, as C keeps them, so that a wrong
+// length can be told (H2), and a clause where it must be right.
 #[derive(Clone, Copy)]
 pub struct Handle {
     pub dir: Addr,

@@ -1,5 +1,6 @@
 // What the listing program writes, made in a lent buffer: a page of the root's lines at a time, or why an image is refused. The
 // program itself reads the image and writes these bytes, which no contract can say.
+// (`out` is a slice with a least length and no array: a caller may lend a longer one.)
 #![tactic(auto)]
 
 ghost use Rattle.std.specs.Prelude.{◌≤◌, length};

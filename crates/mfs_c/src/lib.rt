@@ -9,7 +9,9 @@ ghost use Rattle.limits.specs.Refusals.{refusal_number};
 ghost use Rattle.handle.specs.declared.SeekFrom.TheVariants as from;
 ghost use Rattle.limits.specs.Says.{says};
 ghost use Rattle.call_read.specs.Reading.{open_says};
-ghost use Rattle.mfs_c.specs.Exports.{abi_version, told, handle_of, numbers_of, FormatsC, UsesC, ChecksC, HandleOut, OpensC, InformsC, ListsC, CountOut, ReadsC, SeeksC, CreatesFileC, CreatesDirC, DeletesC, WritesC, PatchesC, AsksC};
+ghost use Rattle.mfs_c.specs.Exports.{abi_version, told, handle_of, numbers_of, FormatsC, UsesC, ChecksC, HandleOut, OpensC};
+ghost use Rattle.mfs_c.specs.Exports.{InformsC, ListsC, CountOut, ReadsC, SeeksC, CreatesFileC, CreatesDirC, DeletesC};
+ghost use Rattle.mfs_c.specs.Exports.{WritesC, PatchesC, AsksC};
 
 use block::Addr;
 use call_read::OpenOut;

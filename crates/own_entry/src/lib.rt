@@ -1,5 +1,6 @@
 // A directory's own entry, which stands in the directory above it: its size and time are stored here, and nowhere else.
 // It is given by its place, and the root, which has none, by None.
+// (Image and numbers are lent apart, as bitmap_block says.)
 #![tactic(auto)]
 
 ghost use Rattle.std.specs.Prelude.{◌≡◌, ◌+◌, ◌-◌, ◌*◌, ◌≤◌, length};

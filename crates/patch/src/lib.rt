@@ -1,5 +1,6 @@
 // Patching by a handle, on a checked volume: the refusals in order, then the stores of `patch_store`.
 // A refusal leaves the handle as it was.
+// (Image and numbers are lent apart, as bitmap_block says.)
 #![tactic(auto)]
 
 ghost use Rattle.std.specs.Prelude.{◌≡◌};

@@ -1,5 +1,6 @@
 // The stores of a patch: the buffer over bytes that a file has, and the time into its entry. No block is added or given back, and
 // of the chain no block behind the buffer's last byte is looked at.
+// (Image and numbers are lent apart, as bitmap_block says.)
 #![tactic(auto)]
 
 ghost use Rattle.std.specs.Prelude.{◌≡◌, length};

@@ -5,7 +5,8 @@
 ghost use Rattle.std.specs.Prelude.{◌≡◌, ◌+◌, ◌-◌, ◌*◌, ◌/◌, ◌≤◌, eqb, leb, ltb, ◌&&◌, ◌<◌, length, IfOk, IfErr};
 ghost use Rattle.wire.specs.Pick.{pick};
 ghost use Rattle.block.specs.Block.{BlockSize, next};
-ghost use Rattle.model.specs.Geometry.{mount, numbered, code_size, last_code, rest, bad_image, bad_version, bad_mark, bad_count, used_count};
+ghost use Rattle.model.specs.Geometry.{mount, numbered, code_size, last_code, rest, bad_image, bad_version, bad_mark};
+ghost use Rattle.model.specs.Geometry.{bad_count, used_count};
 ghost use Rattle.limits.specs.Refusals.{refusal_number};
 ghost use Rattle.super_block.specs.One.{fit_is_one};
 ghost use Rattle.super_block.specs.Super.{geo_of, super_block, Fair, Fit, OpenedIs, MadeIs, counted, super_written};

@@ -1,5 +1,6 @@
 // Bytes of a lent slice: big-endian numbers at a place, and runs of bytes filled, copied and moved.
 // Every store is a `splice` of the list of bytes, and every number read is a `be`; their laws are in proofs/Numbers.antt.
+// (A place is given beside the slice, not by a part of it: what is promised is a `splice` of the whole list at that place.)
 #![tactic(auto)]
 
 ghost use Rattle.std.specs.Prelude.{◌≡◌, ◌+◌, ◌≤◌, ◌<◌, ◌^◌, length, take, drop, replicate};
@@ -85,8 +86,8 @@ pub fn same_bytes(s: &[u8], at: usize, t: &[u8]) -> bool
     &s[at..at + t.len()] == t
 }
 
-// Whether n bytes from `at` on are zero. The loop has no way out but its end, and only such a loop does the compiler turn into one
-// over many bytes at a time.
+// Whether n bytes from `at` on are zero. The loop has no way out but its end: only such a loop does the compiler turn into
+// one over many bytes at a time.
 pub fn zero_bytes(s: &[u8], at: usize, n: usize) -> bool
     requires { at + n ≤ length s.now }
     ensures { result ≡ zero_from s.now at n }

@@ -1,6 +1,7 @@
 // The stores of a write, the writing half of file.rs: blocks added or freed,
 // the buffer along the chain, size and time into the entry.
 // Every store is a function of specs/ on the list of bytes; that they are the edit of `model` is proved in proofs/Writes.antt.
+// (Image and numbers are lent apart, as bitmap_block says.)
 #![tactic(auto)]
 
 ghost use Rattle.std.specs.Prelude.{◌≡◌, ◌+◌, ◌-◌, ◌*◌, ◌/◌, ◌≤◌, ◌<◌, length, take, drop};
