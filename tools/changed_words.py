@@ -2,10 +2,11 @@
 """Lists what the design pass changed, old and new one after the other: public signatures with their clauses, types with their fields, definitions of specs/,
 and theorems that a page names.
 
-usage: tools/changed_words.py [--lemmas]     at the top of the repository
+usage: tools/changed_words.py [--lemmas | --callers]     at the top of the repository
 
 Old is the commit that docs/DESIGN-PASS.md begins with. What it prints is the last part of that page. With --lemmas it lists instead the names of functions,
-definitions and public lemmas that are gone, file by file.
+definitions and public lemmas that are gone, file by file. With --callers it lists where each value is built whose type has an invariant, and for each public
+function that takes one which functions call it.
 """
 import glob
 import os
@@ -102,6 +103,49 @@ def show(title, old, new, only=None):
                 print("  - %s: `%s`" % (word, t.replace("`", "'")))
 
 
+# The types whose ghost field is a fact that was a clause, and how a value of each is built.
+BEARERS = {"Volume": r"Volume \{", "LinkedBlock": r"LinkedBlock(::new\(|(?: |Self) \{ size)|\.block\(", "Name": r"(?<!\w)Name \{", "Filter": r"Filter::new\(",
+           "Known": r"Known \{", "Part": r"(?<!\w)Part \{"}
+
+
+def bodies(now):
+    """Each function of src/: crate, type of its impl or none, name, whether it is public, signature, body."""
+    for path, text in now.items():
+        if "/src/" not in path or not path.endswith(".rt"):
+            continue
+        impl = ""
+        for m in re.finditer(r"^(?:impl(?:<[^>]*>)? ([^\n{]*)\{|( *)((?:pub(?:\([a-z]+\))? )?)(?:extern \"C\" )?fn (\w+)(.*?)(?:^\2\{| \{$)(.*?)^\2\})",
+                             re.sub(r"//[^\n]*", "", text), re.S | re.M):
+            if m.group(1) is not None:
+                impl = re.split(r"[< ]", m.group(1).split(" for ")[-1].strip())[0]
+            else:
+                yield path.split("/")[1], impl if m.group(2) else "", m.group(4), m.group(3) == "pub ", " ".join(m.group(5).split()), m.group(6)
+
+
+def calls(crate, kind, name):
+    """How a function of a crate is called: by its crate's name, in the crate itself by its own, and a method by a value or its type."""
+    if kind:
+        return re.compile(r"%s::%s\(|\.%s\(" % (kind, name, name)), None
+    return re.compile(r"(?<!\w)%s::%s\(" % (crate, name)), re.compile(r"(?<![\w.:])%s\(" % name)
+
+
+def callers(now):
+    found = list(bodies(now))
+    said = lambda c, k, f: "`%s::%s`" % (c, "%s::%s" % (k, f) if k else f)
+    print("| type | built in |\n|---|---|")
+    for name, built in BEARERS.items():
+        print("| `%s` | %s |" % (name, ", ".join(sorted({said(c, k, f) for c, k, f, _, _, body in found if re.search(built, body)}))))
+    print("\n| function | takes | called by |\n|---|---|---|")
+    for crate, kind, name, public, signature, _ in sorted(found):
+        ground = re.split(r" requires | ensures |->", signature)[0]
+        takes = [b for b in BEARERS if re.search(r"[:( ](&mut |&)?%s\b" % b, ground) or (kind == b and "self" in ground)]
+        if public and takes:
+            far, near = calls(crate, kind, name)
+            who = {said(c, k, f) for c, k, f, _, _, body in found
+                   if (c, k, f) != (crate, kind, name) and (far.search(body) or (near and c == crate and near.search(body)))}
+            print("| %s | %s | %s |" % (said(crate, kind, name), ", ".join("`%s`" % x for x in takes), ", ".join(sorted(who)) or "itself alone"))
+
+
 def main():
     then, now = files_then(), files_now()
     source = lambda p: "/src/" in p
@@ -111,6 +155,8 @@ def main():
     for page in glob.glob("docs/*.md") + ["README.md"]:
         if not page.endswith(("PORT.md", "DESIGN-PASS.md")):
             named |= set(re.findall(r"`([^`\s]+)`", open(page, encoding="utf-8").read()))
+    if "--callers" in sys.argv:
+        return callers(now)
     if "--lemmas" in sys.argv:
         for word, of, keep in (("function", functions, source), ("definition", definitions, specs), ("lemma", lemmas, proofs)):
             old, new = pairs(then, now, of, keep)
