@@ -84,7 +84,7 @@ module _ (B : ℕ) (large : 4 ≤ B) (I J L : List ℕ) (each : (b : ℕ) → Bl
       let lm : length (bytes 4 y ++ m) ≡ B = length-append (bytes 4 y) m ∙ omega (arith, length_bytes 4 y) in
       let behind : (z : ℕ) (n : List ℕ) → get_or (bytes 4 z ++ n) (4 + i) 0 ≡ get_or n i 0
       = λ z n. ap (λ (j : ℕ). get_or (bytes 4 z ++ n) (j + i) 0) (sym (length_bytes 4 z)) ∙ get_or-append-add (bytes 4 z) n i 0 in
-      sym (behind x l) ∙ sym (s (4 + i) (omega arith)) ∙ q (4 + i) k ∙ r (4 + i) (omega arith) ∙ behind y m)
+      sym (behind x l) ∙ sym (s (4 + i) (omega arith)) ∙ q (4 + i) (omega (arith, k)) ∙ r (4 + i) (omega arith) ∙ behind y m)
 
   pub mixed : (cs ds : List Cell) → places ds ≡ places cs → All (GoodCell B) cs → All (GoodCell B) ds → ShowsAll B I (cell_pieces cs) → ShowsAll B J (cell_pieces ds)
       → Mixed B I J L cs ds
@@ -117,8 +117,8 @@ module _ (B : ℕ) (large : 4 ≤ B) (I J L : List ℕ) (each : (b : ℕ) → Bl
             shown = (x, m.shown);
             mixture = (
               (
-                body_one I c.at (cells_at m.cells) (cells_at cs) l c.body k g.0.whole x s.0,
-                body_one J c.at (cells_at m.cells) (cells_at ds) l d.body k h.0.whole x J-shows,
+                λ q. search (body_one I c.at (cells_at m.cells) (cells_at cs) l c.body k g.0.whole x s.0 q),
+                λ q. search (body_one J c.at (cells_at m.cells) (cells_at ds) l d.body k h.0.whole x J-shows q),
               ),
               m.mixture,
             );
