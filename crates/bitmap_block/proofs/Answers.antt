@@ -15,8 +15,8 @@ use Rattle.model.proofs.Free.{LowestClear, lowest_clear, clear_lowest}
 use Rattle.super_block.specs.declared.SuperBlock.{SuperBlock}
 use Rattle.super_block.specs.Super.{geo_of, Fit, counted}
 use Rattle.super_block.proofs.Fits.{placed, from_is}
-use Rattle.bitmap_block.specs.Bitmap.{mark, marked, clears, more, fewer}
-use Rattle.bitmap_block.proofs.Stores.{used_half, clears_first, first_in}
+use Rattle.bitmap_block.specs.Bitmap.{mark, marked, clears, more, fewer, freed}
+use Rattle.bitmap_block.proofs.Stores.{used_half, used_some, clears_first, first_in}
 
 -- the reach is small
 pub reach_few : {s : SuperBlock} {I : List ℕ} → Fit s I → s.reach ≤ 16777216
@@ -97,8 +97,16 @@ module _ {s : SuperBlock} {I : List ℕ} (x : ℕ) (f : Fit s I) (h : s.area.0 +
   pub set_used : {a : ℕ} {J L : List ℕ} → a ≡ s.area.0 + x → J ≡ zeroed s.size I a 1 → L ≡ marked (geo_of s) J x 1 → used_count (geo_of s) I < s.blocks → used_count (geo_of s) L < s.blocks
   set_used p q r u = omega (arith, half_used 1 p q r)
 
-  pub clear_used : {a : ℕ} {J L : List ℕ} → a ≡ s.area.0 + x → J ≡ zeroed s.size I a 1 → L ≡ marked (geo_of s) J x 0 → 0 < used_count (geo_of s) I → 0 < used_count (geo_of s) L
-  clear_used p q r u = omega (arith, half_used 0 p q r)
+  pub clear_used : {a k : ℕ} {J L : List ℕ} → a ≡ s.area.0 + x → J ≡ zeroed s.size I a k → L ≡ marked (geo_of s) J x 0 → k ≤ 1 → 0 < used_count (geo_of s) I → 0 < used_count (geo_of s) L
+  clear_used {a} {k} {J} {L} p q r few u =
+      let half : L ≡ marked (geo_of s) (zeroed (block_size (geo_of s)) I (data_at (geo_of s) + x) k) x 0
+      = r ∙ ap (λ (z : List ℕ). marked (geo_of s) z x 0) (q ∙ (λ i. zeroed (f.size i) I ((p ∙ ap (λ (z : ℕ). z + x) f.area) i) k)) in
+      omega (arith, ap (used_count (geo_of s)) half, used_some (geo_of s) I f.sound x in_data k few 0)
+
+  -- and with the count stored too, the block is given back
+  pub given_back : {a : ℕ} {J K L : List ℕ} → a ≡ s.area.0 + x → J ≡ zeroed s.size I a 1 → K ≡ marked (geo_of s) J x 0 → L ≡ fewer (geo_of s) K → L ≡ freed (geo_of s) I x
+  unfolding freed
+  given_back p q r l = l ∙ ap (fewer (geo_of s)) (half_is 0 p q r)
 
 -- what was found is in the data, and has a bit
 pub found_in : {s : SuperBlock} {I : List ℕ} (x : ℕ) → Fit s I → 1 ≤ length (clears (geo_of s) I) → data_at (geo_of s) + x ≡ get_or (clears (geo_of s) I) 0 0 → s.area.0 + x < bit_end (geo_of s)

@@ -71,7 +71,8 @@ pub fn free(img: &mut [u8], s: SuperBlock, x: Index)
     requires img_nonzero { 0 < used_count (geo_of s) img.old }
     ensures { img.new ≡ freed (geo_of s) img.old x.0 }
 {
-    block::clear(img, s.size, x.addr(s.area), 1);
+    let at = x.addr(s.area);
+    block::clear(img, s.size, at, 1);
     clear_mark(img, s, x);
     dec_alloc_count(img, s);
 }

@@ -79,6 +79,10 @@ module _ (g : Geo) (I : List ℕ) (t : Tree max_depth) (p : List Name) (n : Name
 
   -- ---- the image
 
+  -- An entry is renewed alike with the same size over the same bytes.
+  renewed_as : (now : ℕ) (X Y : List ℕ) (y z : ℕ) → X ≡ Y → y ≡ z → own_renewed (block_size g) X (option.Some at) y now ≡ own_renewed (block_size g) Y (option.Some at) z now
+  renewed_as now X Y y z a b = λ i. own_renewed (block_size g) (a i) (option.Some at) (b i) now
+
   -- The stores of a patch are those of a write of the buffer and of the file's own bytes behind it.
   pub patched-wrote : (now : ℕ) → patched g I e at c buf now ≡ wrote g I e at c (buf ++ tail_from z cs (c + length buf)) now
   unfolding patched wrote
@@ -91,7 +95,7 @@ module _ (g : Geo) (I : List ℕ) (t : Tree max_depth) (p : List Name) (n : Name
       = ap (λ (a : ℕ). spread B I a c buf (blocks_for B (c + length buf))) head_addr
       ∙ sym (tail-spread g I v.laid.sound z cs good held c buf some_bytes inside)
       ∙ ap (λ (a : ℕ). spread B I a c vs m) (sym head_addr) in
-      (λ i. own_renewed B (bytes i) (option.Some at) ((head_size ∙ sym whole_end) i) now)
+      renewed_as now _ _ _ _ bytes (omega (arith, head_size, whole_end))
       ∙ ap (λ (J : List ℕ). own_renewed B (spread B J e.addr.0 c vs m) (option.Some at) (c + length vs) now) old
 
   -- C19: for every well-formed volume and every file in it, the image that `patch` leaves (its contract) is that of `TreePatches`.

@@ -96,8 +96,8 @@ module _ (M : Mount) (I W : List ℕ) (b : Bytes I) (w : WellFormed M I) (long :
   create_is : create_reply k M I (length W) cwd p ≡ create_answer (geo_at M I) k cwd p w.tree
   unfolding create_reply create_answer
   create_is =
-      ap (λ (j : ℕ). given j (created_on (geo_at M I) I k (real_path cwd p))) (change_is M I W b w long cwd p)
-      ∙ go (either (bad_path cwd p)) (way_to max_depth (way_of cwd p) w.tree) refl
+      search (ap (λ (j : ℕ). given j (created_on (geo_at M I) I k (real_path cwd p))) (change_is M I W b w long cwd p)
+      ∙ go (either (bad_path cwd p)) (way_to max_depth (way_of cwd p) w.tree) refl)
     where
       go : (bad_path cwd p ≡ true) ⊎ (bad_path cwd p ≡ false) → (r : Reply Some) → way_to max_depth (way_of cwd p) w.tree ≡ r
           → given (path_refusal cwd p) (created_on (geo_at M I) I k (real_path cwd p)) ≡ given (path_refusal cwd p)

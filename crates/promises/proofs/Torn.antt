@@ -237,13 +237,13 @@ module _ (M : Mount) (I W : List ℕ) (h : Handle) (buf : List ℕ) (now : ℕ) 
       torn =
           record {
             well = well;
-            used = used_torn;
+            used = omega (arith, used_torn);
             others = λ q m x. patch_others M I W h T.buffer T.time o L Z as_patch k said T.clock w well q m x;
             file = on_file;
             time = T.time;
             old_or_new = T.old_or_new;
             cells = overlaid (block_size (geo_at M I)) h.position T.buffer able.on_file.file.cells;
-            is = file_torn;
+            is = search file_torn;
             same_blocks = spots_torn;
             mixture = subst (λ (X : List ℕ). Mixture (block_size (geo_at M I)) I X L able.on_file.file.cells
                 (overlaid (block_size (geo_at M I)) h.position buf able.on_file.file.cells)
@@ -258,8 +258,10 @@ module _ (M : Mount) (I W : List ℕ) (h : Handle) (buf : List ℕ) (now : ℕ) 
 pub patch_stays : PatchStays
 patch_stays =
     record {
-      handles = λ M I W h buf now o J Z c k said clock w v j on. handle_stays M I W h buf now o J Z c k said w clock v j on;
-      bytes = λ M I W h buf now o J Z c k said w. bytes_stay M I W h buf now o J Z c k said w;
+      handles = λ M I W h buf now o J Z c k said clock w v j on. handle_stays M I W h buf now o J Z c k said w clock v j (search on);
+      bytes = λ M I W h buf now o J Z c k said w.
+          let r = bytes_stay M I W h buf now o J Z c k said w in
+          (r.0, record { size = r.1.size; at = λ b i m l. r.1.at b i (search m.0, m.1) l });
     }
 
 pub torn_patch : TornPatch

@@ -19,8 +19,13 @@ work_is_done =
     record {
       write_then_read = λ M I W h buf now o J Z c k e clock name w. write_then_read M I W h buf now o J Z c k e clock w name;
       write_leaves = write_leaves;
-      patch_then_read = λ M I W h buf now o J Z c k e clock name w. patch_then_read M I W h buf now o J Z c k e w clock name;
-      patch_leaves = λ M I W h buf now o J Z c k e clock w v. patch_leaves M I W h buf now o J Z c k e w clock v;
+      patch_then_read = λ M I W h buf now o J Z c k e clock name w.
+          let r = patch_then_read M I W h buf now o J Z c k e w clock name in (
+            r.0,
+            λ i low s a rbuf out q b. let x = r.1 i low s a rbuf out q b in (x.0, search x.1, search x.2),
+          );
+      patch_leaves = λ M I W h buf now o J Z c k e clock w v.
+          let r = patch_leaves M I W h buf now o J Z c k e w clock v in (r.0, r.1, search r.2, r.3, search r.4);
       open_then_read = open_then_read;
       create_file_leaves = λ M I W cwd p now o J Z c h e clock w v.
           let r = create_file_leaves M I W cwd p now o J Z c (value_said o.answer o.handle h e) clock w v in (

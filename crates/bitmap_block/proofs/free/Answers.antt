@@ -1,10 +1,9 @@
-use Rattle.bitmap_block.proofs.Answers.{clear_used}
-use Rattle.bitmap_block.specs.Bitmap.{freed}
+use native.Mathlib.Omega.{arith}
+use Rattle.bitmap_block.proofs.Answers.{clear_used, given_back}
 use Rattle.bitmap_block.proofs.free.Goals as goal
 
 pub dec_alloc_count-requires-clause-img_nonzero : goal.dec_alloc_count-requires-clause-img_nonzero
-dec_alloc_count-requires-clause-img_nonzero c = search clear_used
+dec_alloc_count-requires-clause-img_nonzero c = search (clear_used, arith)
 
 pub returns : goal.returns
-unfolding freed
-returns c = cc
+returns c = search given_back
