@@ -26,7 +26,7 @@ pub struct Disk<'a> {
 }
 
 // The digest of the first n bytes, where there are so many.
-pub fn digest_first(s: &[u8], n: usize) -> u64 {
+pub(crate) fn digest_first(s: &[u8], n: usize) -> u64 {
     match s.get(..n) {
         Some(first) => recorded::digest(first),
         None => 0,
@@ -130,7 +130,7 @@ fn write<W: Write>(
     }
 }
 
-pub fn slot_call<W: Write>(
+pub(crate) fn slot_call<W: Write>(
     out: &mut W,
     form: Form,
     disk: &mut Disk,
@@ -369,7 +369,7 @@ fn path_call<W: Write>(
     }
 }
 
-pub fn image_call<W: Write>(
+pub(crate) fn image_call<W: Write>(
     out: &mut W,
     form: Form,
     disk: &mut Disk,
