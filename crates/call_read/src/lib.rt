@@ -27,7 +27,8 @@ pub struct OpenOut {
     pub handle: Handle,
 }
 
-// What is known of an entry; the name stands in the first len bytes. A struct and no Result: by H6 all is empty where it is refused.
+// What is known of an entry; the name stands in the first len bytes. A struct and no Result: by H6 all is empty where it is
+// refused.
 #[derive(Clone, Copy)]
 pub struct InfoOut {
     pub answer: Result<(), Refusal>,
@@ -91,8 +92,8 @@ fn start(
     Ok((s, n))
 }
 
-// A handle on the file at a full path, which must be within the limit. The image is lent by itself here and in about_full, since that
-// a name has at most 255 bytes asks that its length byte is a byte, which is known of a slice and not of one within a struct.
+// A handle on the file at a full path, which must be within the limit. The image is lent by itself here and in about_full: that a
+// name has at most 255 bytes asks that its length byte is a byte, which is known of a slice and not of one within a struct.
 fn open_full(img: &[u8], s: SuperBlock, full: &[u8]) -> Result<Handle, Refusal>
     requires fit { Fit s img.now }
     requires full_bound { length full.now ≤ path_limit }
@@ -205,8 +206,8 @@ fn list_full(v: Volume, full: &[u8], i: u32, buf: &mut [u8]) -> Result<Listed, R
     Ok(listed)
 }
 
-// Lists the directory at a path from entry number i on, into buf: the bytes of the records in it, and the number of the entry after
-// them. Refusals: 1, 2, 3, 4, 5, 6, 17.
+// Lists the directory at a path from entry number i on, into buf: the bytes of the records in it, and the number of the entry
+// after them. Refusals: 1, 2, 3, 4, 5, 6, 17.
 pub fn list(
     img: &[u8],
     k: u32,

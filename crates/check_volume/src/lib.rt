@@ -82,8 +82,8 @@ fn tree(v: Volume, work: &mut [u8], filter: &mut [u8]) -> bool
         && walk_dir(v, work, filter, v.s.area, limits::MAX_DEPTH)
 }
 
-// W1 to W5, where nothing is marked yet. The filter of names stands here once, outside the walk. The image is lent by itself, since
-// what is proved of the bitmap asks that its bytes are bytes, which is known of a slice and not of one within a struct.
+// W1 to W5, where nothing is marked yet. The filter of names stands here once, outside the walk. The image is lent by itself,
+// since what is proved of the bitmap asks that its bytes are bytes, which is known of a slice and not of one within a struct.
 fn decide(img: &[u8], s: SuperBlock, work: &mut [u8]) -> bool
     requires fit { Fit s img.now }
     requires s_in_bounds { mark_bytes (area_in s) ≤ length work.old }
