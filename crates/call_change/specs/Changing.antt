@@ -25,8 +25,8 @@ use Rattle.call_volume.specs.Checking.{work_after, check_refusal}
 unfoldable pub change_call : Mount → List ℕ → ℕ → List ℕ → List ℕ → ℕ
 change_call M I len cwd p = first_of (check_refusal M I len ∷ (path_refusal cwd p ∷ []))
 
--- What a change by a path begins with: none of these refuses it, s has the numbers of the image's volume, which is well formed, and the full
--- path stands in the first n bytes of l.
+-- What a change by a path begins with: none of these refuses it, s has the numbers of the image's volume, which is well formed,
+-- and the full path stands in the first n bytes of l.
 pub record Begins (M : Mount) (I W cwd p l : List ℕ) (s : SuperBlock) (n : ℕ) : Type 0 where
   pub good : change_call M I (length W) cwd p ≡ 0
   pub ready : Ready s I

@@ -44,8 +44,8 @@ size M I = block_size (geo_at M I)
 abbrev pub area_at : Mount → List ℕ → Area
 area_at M I = area_of (geo_at M I)
 
--- What a call by a path begins with: none of these refuses it, s has the numbers of the image's volume, and the full path stands in the
--- first n bytes of l.
+-- What a call by a path begins with: none of these refuses it, s has the numbers of the image's volume, and the full path
+-- stands in the first n bytes of l.
 pub record Starts (M : Mount) (I cwd p l : List ℕ) (s : SuperBlock) (n : ℕ) : Type 0 where
   pub good : path_call M I cwd p ≡ 0
   pub fit : Fit s I
@@ -160,7 +160,8 @@ pub record InfoIs (r : Reply About) (o : InfoOut) : Type 0 where
 abbrev pub Informs : Mount → List ℕ → List ℕ → List ℕ → InfoOut → Type 0
 Informs M I cwd p o = InfoIs (info_reply M I cwd p) o
 
--- List, C6, D1: the answer q, and the buffer from buf to out, where rs are the records' bytes. A refusal leaves all of the buffer.
+-- List, C6, D1: the answer q, and the buffer from buf to out, where rs are the records' bytes. A refusal leaves all of the
+-- buffer.
 pub record ListIs (r : Reply Listed) (rs buf out : List ℕ) (q : Result Listed Refusal) : Type 0 where
   pub answer : says q ≡ r
   pub buffer : out ≡ on_reply r (splice buf 0 rs) buf

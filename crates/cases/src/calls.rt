@@ -19,7 +19,7 @@ pub struct Disk<'a> {
 }
 
 // The digest of the first n bytes, where there are so many.
-pub fn digest_first(s: &[u8], n: usize) -> u64 {
+pub(crate) fn digest_first(s: &[u8], n: usize) -> u64 {
     match s.get(..n) {
         Some(first) => recorded::digest(first),
         None => 0,
@@ -123,7 +123,7 @@ fn write<W: Write>(
     }
 }
 
-pub fn slot_call<W: Write>(
+pub(crate) fn slot_call<W: Write>(
     out: &mut W,
     form: Form,
     disk: &mut Disk,
@@ -349,7 +349,7 @@ fn path_call<W: Write>(
     }
 }
 
-pub fn image_call<W: Write>(
+pub(crate) fn image_call<W: Write>(
     out: &mut W,
     form: Form,
     disk: &mut Disk,

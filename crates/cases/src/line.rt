@@ -42,7 +42,7 @@ impl Fields<'_> {
     }
 
     // The letter of the word that stands next.
-    pub fn word(&mut self) -> Option<u8> {
+    pub(crate) fn word(&mut self) -> Option<u8> {
         let letter = *self.rest.first()?;
         let end = self.rest.iter().position(|b| ends(*b))?;
         self.rest = &self.rest[end + 1..];
@@ -83,22 +83,22 @@ impl Fields<'_> {
     }
 
     // A number; a minus before it says nothing.
-    pub fn number(&mut self) -> Option<u64> {
+    pub(crate) fn number(&mut self) -> Option<u64> {
         self.minus();
         self.decimal()
     }
 
-    pub fn size(&mut self) -> Option<usize> {
+    pub(crate) fn size(&mut self) -> Option<usize> {
         Some(self.number()? as usize)
     }
 
     // The last 32 bits of a number.
-    pub fn cut(&mut self) -> Option<u32> {
+    pub(crate) fn cut(&mut self) -> Option<u32> {
         Some((self.number()? % 4_294_967_296) as u32)
     }
 
     // A number of 32 bits, below 0 where a minus stands before it; one beyond them is taken as the last.
-    pub fn signed(&mut self) -> Option<i32> {
+    pub(crate) fn signed(&mut self) -> Option<i32> {
         let minus = self.minus();
         let n = i32::try_from(self.decimal()?);
         Some(match n {
@@ -134,7 +134,7 @@ impl Fields<'_> {
     }
 
     // The string that stands next, in a buffer that has room for it.
-    pub fn text<'b>(&mut self, room: &'b mut [u8]) -> Option<&'b [u8]> {
+    pub(crate) fn text<'b>(&mut self, room: &'b mut [u8]) -> Option<&'b [u8]> {
         let mut len: usize = 0;
         let mut quoted = false;
         let mut last: u8 = 0;

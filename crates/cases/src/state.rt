@@ -41,7 +41,7 @@ fn title_end(line: &[u8]) -> Option<usize>
 
 impl State {
     // The state of an image of that many bytes.
-    pub fn new(len: usize, m: Mount) -> State {
+    pub(crate) fn new(len: usize, m: Mount) -> State {
         let none = Handle {
             dir: Addr(0),
             name: [0u8; 255],
@@ -147,7 +147,7 @@ impl State {
     }
 
     // A line: a text of its own, or a step, with a title before it or with none.
-    pub fn follow<W: Write>(
+    pub(crate) fn follow<W: Write>(
         &mut self,
         out: &mut W,
         store: &mut Store,

@@ -168,7 +168,7 @@ fn image_step<'a>(
 
 impl<'a> Step<'a> {
     // The step of a letter, whose fields stand next; its strings are read into the two buffers.
-    pub fn read(
+    pub(crate) fn read(
         letter: u8,
         f: &mut Fields,
         cwd: &'a mut [u8],

@@ -17,7 +17,7 @@ pub enum Form {
 
 impl Form {
     // A step with a small letter is a line of the recorded list.
-    pub fn of_letter(letter: u8) -> Form {
+    pub(crate) fn of_letter(letter: u8) -> Form {
         if letter < b'a' {
             Form::Words
         } else {
@@ -32,18 +32,18 @@ pub fn put<W: Write>(out: &mut W, text: &[u8]) -> io::Result<()>
     out.write_all(text)
 }
 
-pub fn unread<W: Write>(out: &mut W) -> io::Result<()> {
+pub(crate) fn unread<W: Write>(out: &mut W) -> io::Result<()> {
     put(out, b" unread")
 }
 
-pub fn put_quoted<W: Write>(out: &mut W, text: &[u8]) -> io::Result<()> {
+pub(crate) fn put_quoted<W: Write>(out: &mut W, text: &[u8]) -> io::Result<()> {
     put(out, b" \"")?;
     put(out, text)?;
     put(out, b"\"")
 }
 
 // A long name is told by its length.
-pub fn put_name<W: Write>(out: &mut W, name: &[u8; 255], len: usize) -> io::Result<()> {
+pub(crate) fn put_name<W: Write>(out: &mut W, name: &[u8; 255], len: usize) -> io::Result<()> {
     if len <= 16 {
         put_quoted(out, &name[..len])
     } else {
@@ -52,7 +52,7 @@ pub fn put_name<W: Write>(out: &mut W, name: &[u8; 255], len: usize) -> io::Resu
 }
 
 // A name in hexadecimal; a dot for none.
-pub fn put_hex<W: Write>(out: &mut W, name: &[u8; 255], len: usize) -> io::Result<()> {
+pub(crate) fn put_hex<W: Write>(out: &mut W, name: &[u8; 255], len: usize) -> io::Result<()> {
     put(out, b" ")?;
     if len == 0 {
         put(out, b".")?;
@@ -63,7 +63,7 @@ pub fn put_hex<W: Write>(out: &mut W, name: &[u8; 255], len: usize) -> io::Resul
     Ok(())
 }
 
-pub fn put_handle<W: Write>(out: &mut W, h: &Handle) -> io::Result<()> {
+pub(crate) fn put_handle<W: Write>(out: &mut W, h: &Handle) -> io::Result<()> {
     write!(out, " dir {} name", h.dir.0)?;
     put_name(out, &h.name, h.len)?;
     write!(
@@ -73,14 +73,14 @@ pub fn put_handle<W: Write>(out: &mut W, h: &Handle) -> io::Result<()> {
     )
 }
 
-pub fn refuse<W: Write>(out: &mut W, form: Form, r: Refusal) -> io::Result<()> {
+pub(crate) fn refuse<W: Write>(out: &mut W, form: Form, r: Refusal) -> io::Result<()> {
     match form {
         Form::Recorded => put(out, b" 0"),
         Form::Words => write!(out, " refused {}", r.number()),
     }
 }
 
-pub fn answer<W: Write>(out: &mut W, form: Form, a: Result<(), Refusal>) -> io::Result<()> {
+pub(crate) fn answer<W: Write>(out: &mut W, form: Form, a: Result<(), Refusal>) -> io::Result<()> {
     match (a, form) {
         (Ok(()), Form::Recorded) => put(out, b" 1"),
         (Ok(()), Form::Words) => put(out, b" success"),
@@ -89,7 +89,7 @@ pub fn answer<W: Write>(out: &mut W, form: Form, a: Result<(), Refusal>) -> io::
 }
 
 // How many bytes were read or written, in words.
-pub fn put_count<W: Write>(out: &mut W, a: Result<usize, Refusal>) -> io::Result<()> {
+pub(crate) fn put_count<W: Write>(out: &mut W, a: Result<usize, Refusal>) -> io::Result<()> {
     match a {
         Ok(n) => write!(out, " {n}"),
         Err(r) => refuse(out, Form::Words, r),

@@ -36,7 +36,7 @@ use Rattle.delete.proofs.OnVolume.{bare_accepted, full_refused}
 use Rattle.call_change.specs.Changing.{change_call, Deletes}
 use Rattle.thm_calls.specs.Named.{way_of, last_of}
 use Rattle.thm_calls.proofs.Changing.{volume_at}
-use Rattle.promises.specs.Refusals.{Spot, entry_at, has_entry, delete_answer}
+use Rattle.promises.specs.Refusals.{Spot, spot_at, has_entry, delete_answer}
 use Rattle.promises.proofs.Checks.{long_passes}
 use Rattle.promises.proofs.Spots.{way_found, hold_stops, name_five, at_stops, at_missing, at_entry}
 use Rattle.std.specs.Prelude.{Result, Option, None, Ok}
@@ -91,7 +91,7 @@ module _ (M : Mount) (I W : List ℕ) (b : Bytes I) (w : WellFormed M I) (long :
   on_spot x = reply (when 14 (has_entry x.0.0 x.1.node)) tt
 
   abbrev Said : Type 0
-  Said = deleted_on (geo_at M I) I (real_path cwd p) ≡ and_then (entry_at (way_of cwd p) (last_of cwd p) w.tree) on_spot
+  Said = deleted_on (geo_at M I) I (real_path cwd p) ≡ and_then (spot_at (way_of cwd p) (last_of cwd p) w.tree) on_spot
 
   -- a way that stops
   way_stops : (k : ℕ) → way_to max_depth (way_of cwd p) w.tree ≡ refused k → Said
@@ -103,7 +103,7 @@ module _ (M : Mount) (I W : List ℕ) (b : Bytes I) (w : WellFormed M I) (long :
       (hold_stops (geo_at M I) I w.tree _ (volume_at M I w).laid (way_of cwd p) k e)))
       (at_stops (geo_at M I) I w.tree _ (volume_at M I w).laid (real_path cwd p) k e)
     where
-      go : (n : Name) → doomed ≡ on_name n (refused k) → entry_at (way_of cwd p) (last_of cwd p) w.tree ≡ on_name n (refused k)
+      go : (n : Name) → doomed ≡ on_name n (refused k) → spot_at (way_of cwd p) (last_of cwd p) w.tree ≡ on_name n (refused k)
           → Said
       go [] a c = and_then_no 5 (λ x. accepted tt) a ∙ sym (and_then_no 5 on_spot c)
       go (x ∷ n) a c = and_then_no k (λ x. accepted tt) a ∙ sym (and_then_no k on_spot c)
@@ -149,7 +149,7 @@ module _ (M : Mount) (I W : List ℕ) (b : Bytes I) (w : WellFormed M I) (long :
       o : Occupied max_depth (way_of cwd p) (last_of cwd p) w.tree
       o = record { dir = s; there = way_found max_depth (way_of cwd p) w.tree s m; entry = e; held = k }
 
-      spot : and_then (entry_at (way_of cwd p) (last_of cwd p) w.tree) on_spot ≡ on_spot (s, e)
+      spot : and_then (spot_at (way_of cwd p) (last_of cwd p) w.tree) on_spot ≡ on_spot (s, e)
       spot = and_then_ok (s, e) on_spot (at_entry (geo_at M I) I w.tree _ (volume_at M I w).laid (real_path cwd p) s m e k)
 
       go : (has_entry s.0 e.node ≡ true) ⊎ (has_entry s.0 e.node ≡ false) → Said

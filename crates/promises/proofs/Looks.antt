@@ -37,7 +37,7 @@ use Rattle.call_read.specs.Reading.{Lists}
 use Rattle.thm_calls.specs.Named.{way_of, last_of, all_of}
 use Rattle.thm_calls.proofs.Calls.{list_counts, list_records}
 use Rattle.thm_calls.proofs.Changing.{volume_at}
-use Rattle.promises.specs.Refusals.{Spot, entry_at, open_node, open_answer, about_spot, info_answer, dir_answer, list_answer}
+use Rattle.promises.specs.Refusals.{Spot, spot_at, open_node, open_answer, about_spot, info_answer, dir_answer, list_answer}
 use Rattle.promises.specs.Refusals.{records_in}
 use Rattle.promises.proofs.Spots.{way_found, entry_then}
 use Rattle.std.specs.Prelude.{Result}
@@ -116,7 +116,7 @@ module _ (M : Mount) (I : List ℕ) (w : WellFormed M I) (cwd p : List ℕ) wher
   pub informs : (o : InfoOut) → Informs M I cwd p o → info_says o ≡ info_answer (block_size (geo_at M I)) cwd p w.tree
   unfolding info_reply info_on info_answer
   informs o c =
-      let entry = and_then (entry_at (way_of cwd p) (last_of cwd p) w.tree) (about_spot (size M I)) in
+      let entry = and_then (spot_at (way_of cwd p) (last_of cwd p) w.tree) (about_spot (size M I)) in
       c.answer
       ∙ ap (λ (k : ℕ). given k (info_on (area_at M I) I (real_path cwd p) p)) call_is
       ∙ ap (λ (r : Reply About). given (path_refusal cwd p)

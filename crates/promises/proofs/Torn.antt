@@ -34,7 +34,7 @@ use Rattle.patch.proofs.Targets.{whole_of, write_end}
 use Rattle.call_patch.specs.Patches.{patch_reply, Patches}
 use Rattle.thm_calls.proofs.Changing.{volume_at, tree_after, write_tree}
 use Rattle.thm_calls.proofs.Patching.{patch_passed, patch_on, patch_tree, patch_writes}
-use Rattle.promises.specs.Torn.{entry_of, PatchStays, Torn, TornPatch}
+use Rattle.promises.specs.Torn.{entry_byte, PatchStays, Torn, TornPatch}
 use Rattle.promises.specs.Work.{FileOf}
 use Rattle.limits.proofs.Said.{said_ok}
 use Rattle.promises.proofs.Done.{file_of_lem}
@@ -96,7 +96,7 @@ module _ (M : Mount) (I W : List ℕ) (h : Handle) (buf : List ℕ) (now : ℕ) 
     left = c.image ∙ settle-none _ I (patch_passed M I W h buf now o J Z c k counts).0
 
     bytes_stay : (f : FileOf h w.tree) × Kept (block_size (geo_at M I)) (λ b i. ((count b (places f.cells) ≡ 0) ⊎ (i < 4))
-        × (entry_of M I w h f + 9 ≤ block_size (geo_at M I) * b + i → block_size (geo_at M I) * b + i < entry_of M I w h f + 17 → ⊥)) I J
+        × (entry_byte M I w h f + 9 ≤ block_size (geo_at M I) * b + i → block_size (geo_at M I) * b + i < entry_byte M I w h f + 17 → ⊥)) I J
     bytes_stay = (
       on_file,
       subst (Kept (block_size (geo_at M I)) (λ b i. ((count b (places able.on_file.file.cells) ≡ 0) ⊎ (i < 4))

@@ -27,11 +27,13 @@ pub record CallsAreExact : Type 0 where
       → Bytes I → now < 2 ^ 64 → (h : Handle) → open_says o ≡ accepted h
       → (w : WellFormed M I) × TreeCreatesFile (geo_at M I) max_depth (way_of cwd p) (last_of cwd p) now w.tree I J
   -- C10
-  pub create_dir : (M : Mount) (I W cwd p : List ℕ) (now : ℕ) (r : Result (Unit {0}) Refusal) (J Z : List ℕ) → CreatesDir M I W cwd p now r J Z
+  pub create_dir : (M : Mount) (I W cwd p : List ℕ) (now : ℕ) (r : Result (Unit {0}) Refusal) (J Z : List ℕ)
+      → CreatesDir M I W cwd p now r J Z
       → Bytes I → now < 2 ^ 64 → says r ≡ accepted tt
       → (w : WellFormed M I) × TreeCreatesDir (geo_at M I) max_depth (way_of cwd p) (last_of cwd p) now w.tree I J
   -- C11
-  pub delete : (M : Mount) (I W cwd p : List ℕ) (now : ℕ) (r : Result (Unit {0}) Refusal) (J Z : List ℕ) → Deletes M I W cwd p now r J Z
+  pub delete : (M : Mount) (I W cwd p : List ℕ) (now : ℕ) (r : Result (Unit {0}) Refusal) (J Z : List ℕ)
+      → Deletes M I W cwd p now r J Z
       → Bytes I → now < 2 ^ 64 → says r ≡ accepted tt
       → (w : WellFormed M I) × TreeDeletes (geo_at M I) max_depth (way_of cwd p) (last_of cwd p) now w.tree I J
   -- C12, H4: the handle's directory is the one that the path q leads to, and the file in it is the one that the handle names.

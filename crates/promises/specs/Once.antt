@@ -25,10 +25,12 @@ use Rattle.bitmap_room.specs.declared.Told.{Told}
 -- D1: any two outcomes that a call's contract allows are equal, in answer, image, handle, work buffer and read buffer, refused
 -- ones too.
 pub record OneOutcome : Type 0 where
-  pub formats : (M : Mount) (I : List ℕ) (r q : Result (Unit {0}) Refusal) (J L : List ℕ) → Formats M I r J → Formats M I q L → (r ≡ q) × (J ≡ L)
+  pub formats : (M : Mount) (I : List ℕ) (r q : Result (Unit {0}) Refusal) (J L : List ℕ)
+      → Formats M I r J → Formats M I q L → (r ≡ q) × (J ≡ L)
   pub uses : (M : Mount) (I : List ℕ) (r q : Result Space Refusal) → Uses M I r → Uses M I q → r ≡ q
   pub asks : (M : Mount) (I : List ℕ) (k : ℕ) (r q : Result Told Refusal) → Asks M I k r → Asks M I k q → r ≡ q
-  pub checks : (M : Mount) (I W Z Y : List ℕ) (r q : Result (Unit {0}) Refusal) → Checks M I W r Z → Checks M I W q Y → (r ≡ q) × (Z ≡ Y)
+  pub checks : (M : Mount) (I W Z Y : List ℕ) (r q : Result (Unit {0}) Refusal)
+      → Checks M I W r Z → Checks M I W q Y → (r ≡ q) × (Z ≡ Y)
   pub opens : (M : Mount) (I cwd p : List ℕ) (r q : OpenOut) → Opens M I cwd p r → Opens M I cwd p q → r ≡ q
   pub informs : (M : Mount) (I cwd p : List ℕ) (r q : InfoOut) → Informs M I cwd p r → Informs M I cwd p q → r ≡ q
   pub lists : (M : Mount) (I cwd p : List ℕ) (n : ℕ) (buf : List ℕ) (r q : Result Listed Refusal) (out end : List ℕ)
@@ -52,12 +54,14 @@ pub record OneOutcome : Type 0 where
 -- check cannot write the image. By H6 a refused open or create_file answers the empty handle, and info the empty entry.)
 pub record RefusalKeeps : Type 0 where
   pub formats : (M : Mount) (I J : List ℕ) (r : Result (Unit {0}) Refusal) (j : ℕ) → Formats M I r J → says r ≡ refused j → J ≡ I
-  pub checks : (M : Mount) (I W Z : List ℕ) (r : Result (Unit {0}) Refusal) (j : ℕ) → Checks M I W r Z → says r ≡ refused j → Z ≡ work_after M I W
+  pub checks : (M : Mount) (I W Z : List ℕ) (r : Result (Unit {0}) Refusal) (j : ℕ)
+      → Checks M I W r Z → says r ≡ refused j → Z ≡ work_after M I W
   pub opens : (M : Mount) (I cwd p : List ℕ) (o : OpenOut) (j : ℕ) → Opens M I cwd p o → open_says o ≡ refused j
       → o.handle ≡ no_handle
   pub informs : (M : Mount) (I cwd p : List ℕ) (o : InfoOut) (j : ℕ) → Informs M I cwd p o → info_says o ≡ refused j
       → about_of o ≡ no_about
-  pub lists : (M : Mount) (I cwd p : List ℕ) (n : ℕ) (buf out : List ℕ) (q : Result Listed Refusal) (j : ℕ) → Lists M I cwd p n buf q out
+  pub lists : (M : Mount) (I cwd p : List ℕ) (n : ℕ) (buf out : List ℕ) (q : Result Listed Refusal) (j : ℕ)
+      → Lists M I cwd p n buf q out
       → says q ≡ refused j → out ≡ buf
   pub reads : (M : Mount) (I : List ℕ) (h : Handle) (buf out : List ℕ) (o : CountedOut) (j : ℕ) → Reads M I h buf out o
       → says o.answer ≡ refused j → (o.handle ≡ h) × (out ≡ buf)

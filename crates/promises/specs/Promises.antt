@@ -34,9 +34,11 @@ pub record StaysWell : Type 0 where
       → (w : WellFormed M J) × (w.tree ≡ blank max_depth (data_at (geo_at M J)))
   pub create_file : (M : Mount) (I W : List ℕ) (now : ℕ) (J Z : List ℕ) → Bytes I → now < 2 ^ 64 → (cwd p : List ℕ) (o : OpenOut)
       → CreatesFile M I W cwd p now o J Z → (a : Handle) → open_says o ≡ accepted a → WellFormed M J
-  pub create_dir : (M : Mount) (I W : List ℕ) (now : ℕ) (J Z : List ℕ) → Bytes I → now < 2 ^ 64 → (cwd p : List ℕ) (r : Result (Unit {0}) Refusal)
+  pub create_dir : (M : Mount) (I W : List ℕ) (now : ℕ) (J Z : List ℕ) → Bytes I → now < 2 ^ 64
+      → (cwd p : List ℕ) (r : Result (Unit {0}) Refusal)
       → CreatesDir M I W cwd p now r J Z → says r ≡ accepted tt → WellFormed M J
-  pub delete : (M : Mount) (I W : List ℕ) (now : ℕ) (J Z : List ℕ) → Bytes I → now < 2 ^ 64 → (cwd p : List ℕ) (r : Result (Unit {0}) Refusal)
+  pub delete : (M : Mount) (I W : List ℕ) (now : ℕ) (J Z : List ℕ) → Bytes I → now < 2 ^ 64
+      → (cwd p : List ℕ) (r : Result (Unit {0}) Refusal)
       → Deletes M I W cwd p now r J Z → says r ≡ accepted tt → WellFormed M J
   pub write : (M : Mount) (I W : List ℕ) (now : ℕ) (J Z : List ℕ) → Bytes I → now < 2 ^ 64
       → (h : Handle) (buf : List ℕ) (o : CountedOut)
@@ -44,7 +46,8 @@ pub record StaysWell : Type 0 where
   pub patch : (M : Mount) (I W : List ℕ) (now : ℕ) (J Z : List ℕ) → Bytes I → now < 2 ^ 64
       → (h : Handle) (buf : List ℕ) (o : CountedOut)
       → (k : ℕ) → Patches M I W h buf now o J Z → says o.answer ≡ accepted k → WellFormed M J
-  pub check : (M : Mount) (I W Z : List ℕ) (r : Result (Unit {0}) Refusal) → Checks M I W r Z → WellFormed M I → mark_long (geo_at M I) ≤ length W
+  pub check : (M : Mount) (I W Z : List ℕ) (r : Result (Unit {0}) Refusal)
+      → Checks M I W r Z → WellFormed M I → mark_long (geo_at M I) ≤ length W
       → says r ≡ accepted tt
 
 -- S2: the used count is D and the number of set bits,
@@ -53,12 +56,15 @@ UsedTrue M J = used_count (geo_at M J) J ≡ data_at (geo_at M J) + set_bits J (
 
 -- after every accepted call.
 pub record UsedIsTrue : Type 0 where
-  pub format : (M : Mount) (I : List ℕ) (r : Result (Unit {0}) Refusal) (J : List ℕ) → Formats M I r J → says r ≡ accepted tt → UsedTrue M J
+  pub format : (M : Mount) (I : List ℕ) (r : Result (Unit {0}) Refusal) (J : List ℕ)
+      → Formats M I r J → says r ≡ accepted tt → UsedTrue M J
   pub create_file : (M : Mount) (I W : List ℕ) (now : ℕ) (J Z : List ℕ) → Bytes I → now < 2 ^ 64 → (cwd p : List ℕ) (o : OpenOut)
       → CreatesFile M I W cwd p now o J Z → (a : Handle) → open_says o ≡ accepted a → UsedTrue M J
-  pub create_dir : (M : Mount) (I W : List ℕ) (now : ℕ) (J Z : List ℕ) → Bytes I → now < 2 ^ 64 → (cwd p : List ℕ) (r : Result (Unit {0}) Refusal)
+  pub create_dir : (M : Mount) (I W : List ℕ) (now : ℕ) (J Z : List ℕ) → Bytes I → now < 2 ^ 64
+      → (cwd p : List ℕ) (r : Result (Unit {0}) Refusal)
       → CreatesDir M I W cwd p now r J Z → says r ≡ accepted tt → UsedTrue M J
-  pub delete : (M : Mount) (I W : List ℕ) (now : ℕ) (J Z : List ℕ) → Bytes I → now < 2 ^ 64 → (cwd p : List ℕ) (r : Result (Unit {0}) Refusal)
+  pub delete : (M : Mount) (I W : List ℕ) (now : ℕ) (J Z : List ℕ) → Bytes I → now < 2 ^ 64
+      → (cwd p : List ℕ) (r : Result (Unit {0}) Refusal)
       → Deletes M I W cwd p now r J Z → says r ≡ accepted tt → UsedTrue M J
   pub write : (M : Mount) (I W : List ℕ) (now : ℕ) (J Z : List ℕ) → Bytes I → now < 2 ^ 64
       → (h : Handle) (buf : List ℕ) (o : CountedOut)
@@ -98,10 +104,12 @@ pub record OthersKept : Type 0 where
       → (a : Handle) → open_says o ≡ accepted a → now < 2 ^ 64
       → (w : WellFormed M I) (v : WellFormed M J) (q : List Name) (m : Name)
       → (Leads q m cwd p → ⊥) → Untouched (block_size (geo_at M I)) max_depth w.tree v.tree I J q m
-  pub create_dir : (M : Mount) (I W cwd p : List ℕ) (now : ℕ) (r : Result (Unit {0}) Refusal) (J Z : List ℕ) → CreatesDir M I W cwd p now r J Z
+  pub create_dir : (M : Mount) (I W cwd p : List ℕ) (now : ℕ) (r : Result (Unit {0}) Refusal) (J Z : List ℕ)
+      → CreatesDir M I W cwd p now r J Z
       → says r ≡ accepted tt → now < 2 ^ 64 → (w : WellFormed M I) (v : WellFormed M J) (q : List Name) (m : Name)
       → (Leads q m cwd p → ⊥) → Untouched (block_size (geo_at M I)) max_depth w.tree v.tree I J q m
-  pub delete : (M : Mount) (I W cwd p : List ℕ) (now : ℕ) (r : Result (Unit {0}) Refusal) (J Z : List ℕ) → Deletes M I W cwd p now r J Z
+  pub delete : (M : Mount) (I W cwd p : List ℕ) (now : ℕ) (r : Result (Unit {0}) Refusal) (J Z : List ℕ)
+      → Deletes M I W cwd p now r J Z
       → says r ≡ accepted tt → now < 2 ^ 64 → (w : WellFormed M I) (v : WellFormed M J) (q : List Name) (m : Name)
       → (Leads q m cwd p → ⊥) → Untouched (block_size (geo_at M I)) max_depth w.tree v.tree I J q m
 

@@ -53,8 +53,8 @@ entry_in s (some e) = accepted (s, e)
 
 -- What the names p and the last name n lead to (P3, P4): an empty last name is 5 whatever the way is (R5); on the way each name
 -- in its turn gives 5 where it is not there, and 6 where it is and is no directory's (`way_to`); then the last name is looked up.
-unfoldable pub entry_at : List Name → Name → Tree max_depth → Reply Spot
-entry_at p n t = on_name n (and_then (way_to max_depth p t) (λ s. entry_in s (lookup n s.1)))
+unfoldable pub spot_at : List Name → Name → Tree max_depth → Reply Spot
+spot_at p n t = on_name n (and_then (way_to max_depth p t) (λ s. entry_in s (lookup n s.1)))
 
 -- ---- open (O5: 4, 5 and 6, 10)
 
@@ -80,7 +80,7 @@ open_node a n (sub x) = refused 6
 unfoldable pub open_answer : List ℕ → List ℕ → Tree max_depth → Reply Handle
 open_answer cwd p t =
     given (path_refusal cwd p)
-    (and_then (entry_at (way_of cwd p) (last_of cwd p) t) (λ x. open_node (blocks_at x.0.1) (last_of cwd p) x.1.node))
+    (and_then (spot_at (way_of cwd p) (last_of cwd p) t) (λ x. open_node (blocks_at x.0.1) (last_of cwd p) x.1.node))
 
 -- ---- info (O5: 4, 5 and 6)
 
@@ -94,7 +94,7 @@ info_answer B cwd p t =
     given (path_refusal cwd p)
     (pick (same p (slash ∷ []))
     (accepted (about Dir (sum t) 0 []))
-    (and_then (entry_at (way_of cwd p) (last_of cwd p) t) (about_spot B)))
+    (and_then (spot_at (way_of cwd p) (last_of cwd p) t) (about_spot B)))
 
 -- ---- list (O5: 4, 5 and 6)
 
@@ -127,7 +127,8 @@ create_answer g k cwd p t =
     given (path_refusal cwd p)
     (given (when 8 (bad_name (last_of cwd p)))
     (and_then (way_to max_depth (way_of cwd p) t) (λ s.
-    reply (tree_refusal g (free_blocks g max_depth t) k (last_of cwd p) s) (fresh_in g (last_of cwd p) (free_blocks g max_depth t) s))))
+    reply (tree_refusal g (free_blocks g max_depth t) k (last_of cwd p) s)
+    (fresh_in g (last_of cwd p) (free_blocks g max_depth t) s))))
 
 -- ---- delete (O10: 4, 5 and 6, 14)
 
@@ -141,7 +142,7 @@ has_entry (suc d) (sub x) = ltb 0 (length (entries_of x))
 unfoldable pub delete_answer : List ℕ → List ℕ → Tree max_depth → Reply (Unit {0})
 delete_answer cwd p t =
     given (path_refusal cwd p)
-    (and_then (entry_at (way_of cwd p) (last_of cwd p) t) (λ x. reply (when 14 (has_entry x.0.0 x.1.node)) tt))
+    (and_then (spot_at (way_of cwd p) (last_of cwd p) t) (λ x. reply (when 14 (has_entry x.0.0 x.1.node)) tt))
 
 -- ---- handles
 
@@ -188,8 +189,8 @@ pub record RefusalIsExact : Type 0 where
   pub informs : (M : Mount) (I : List ℕ) (w : WellFormed M I) (cwd p : List ℕ) (o : InfoOut) → Informs M I cwd p o
       → info_says o ≡ info_answer (block_size (geo_at M I)) cwd p w.tree
   -- the buffer is buf before and out after
-  pub lists : (M : Mount) (I : List ℕ) (w : WellFormed M I) (cwd p : List ℕ) (i : ℕ) (buf out : List ℕ) (q : Result Listed Refusal)
-      → Lists M I cwd p i buf q out
+  pub lists : (M : Mount) (I : List ℕ) (w : WellFormed M I) (cwd p : List ℕ) (i : ℕ) (buf out : List ℕ)
+      → (q : Result Listed Refusal) → Lists M I cwd p i buf q out
       → (says q ≡ list_answer cwd p i (length buf) w.tree)
       × (out ≡ splice buf 0 (records_in (block_size (geo_at M I)) i (length buf) (dir_answer cwd p w.tree)))
   pub creates_file : (M : Mount) (I W : List ℕ) → Bytes I → (w : WellFormed M I) → mark_long (geo_at M I) ≤ length W
@@ -225,5 +226,6 @@ pub record RoomIsExact : Type 0 where
       → (cwd p : List ℕ) → bad_path cwd p ≡ false → (now : ℕ) (o : OpenOut) (J Z : List ℕ) → CreatesFile M I W cwd p now o J Z
       → (open_says o ≡ refused 9) ↔ CreateFull (geo_at M I) File max_depth (way_of cwd p) (last_of cwd p) w.tree
   pub create_dir_full : (M : Mount) (I W : List ℕ) → Bytes I → (w : WellFormed M I) → mark_long (geo_at M I) ≤ length W
-      → (cwd p : List ℕ) → bad_path cwd p ≡ false → (now : ℕ) (r : Result (Unit {0}) Refusal) (J Z : List ℕ) → CreatesDir M I W cwd p now r J Z
+      → (cwd p : List ℕ) → bad_path cwd p ≡ false → (now : ℕ) (r : Result (Unit {0}) Refusal) (J Z : List ℕ)
+      → CreatesDir M I W cwd p now r J Z
       → (says r ≡ refused 9) ↔ CreateFull (geo_at M I) Dir max_depth (way_of cwd p) (last_of cwd p) w.tree

@@ -19,9 +19,9 @@ use Rattle.promises.specs.Counter.{Untouched, Another}
 use Rattle.promises.specs.Work.{FileOf}
 use Rattle.limits.specs.Says.{says}
 
--- S15: the file at the handle's place, and the byte where its entry begins.
-abbrev pub entry_of : (M : Mount) (I : List ℕ) (w : WellFormed M I) (h : Handle) → FileOf h w.tree → ℕ
-entry_of M I w h f = place_of (block_size (geo_at M I)) (name_of h) f.there.dir.1
+-- S15: of the file that a handle is on, the byte where its entry begins
+abbrev pub entry_byte : (M : Mount) (I : List ℕ) (w : WellFormed M I) (h : Handle) → FileOf h w.tree → ℕ
+entry_byte M I w h f = place_of (block_size (geo_at M I)) (name_of h) f.there.dir.1
 
 -- What an accepted patch leaves alone:
 pub record PatchStays : Type 0 where
@@ -35,7 +35,8 @@ pub record PatchStays : Type 0 where
       → Patches M I W h buf now o J Z → (k : ℕ) → says o.answer ≡ accepted k
       → (w : WellFormed M I)
       → (f : FileOf h w.tree) × Kept (block_size (geo_at M I)) (λ b i. ((count b (places f.cells) ≡ 0) ⊎ (i < 4))
-      × (entry_of M I w h f + 9 ≤ block_size (geo_at M I) * b + i → block_size (geo_at M I) * b + i < entry_of M I w h f + 17 → ⊥)) I J
+      × (entry_byte M I w h f + 9 ≤ block_size (geo_at M I) * b + i
+      → block_size (geo_at M I) * b + i < entry_byte M I w h f + 17 → ⊥)) I J
 
 -- S14: what L is, whose blocks are those of I or of J, whichever:
 pub record Torn (M : Mount) (I W : List ℕ) (h : Handle) (buf : List ℕ) (now : ℕ) (o : CountedOut) (J Z : List ℕ)

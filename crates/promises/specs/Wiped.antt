@@ -21,13 +21,15 @@ use Rattle.limits.specs.declared.Refusal.{Refusal}
 -- M is the mount, I the image at a call's entry and J after it, W the work buffer before and Z after.
 pub record FreedIsWiped : Type 0 where
   -- After an accepted delete every block that the file or the device at the path had is zero from its first byte to its last;
-  pub delete : (M : Mount) (I W cwd p : List ℕ) (now : ℕ) (r : Result (Unit {0}) Refusal) (J Z : List ℕ) → Deletes M I W cwd p now r J Z
+  pub delete : (M : Mount) (I W cwd p : List ℕ) (now : ℕ) (r : Result (Unit {0}) Refusal) (J Z : List ℕ)
+      → Deletes M I W cwd p now r J Z
       → says r ≡ accepted tt → now < 2 ^ 64 → (w : WellFormed M I) (z k : ℕ) (cs : List Cell)
       → (file_at max_depth (way_of cwd p) (last_of cwd p) w.tree ≡ some (z, k, cs))
       ⊎ (device_at max_depth (way_of cwd p) (last_of cwd p) w.tree ≡ some (z, k, cs))
       → (b : ℕ) → 1 ≤ count b (places cs) → Wiped (code_size M.code) J b
   -- and so is every other block that was reached before it and is not after: a directory's, and one that it emptied.
-  pub delete_all : (M : Mount) (I W cwd p : List ℕ) (now : ℕ) (r : Result (Unit {0}) Refusal) (J Z : List ℕ) → Deletes M I W cwd p now r J Z
+  pub delete_all : (M : Mount) (I W cwd p : List ℕ) (now : ℕ) (r : Result (Unit {0}) Refusal) (J Z : List ℕ)
+      → Deletes M I W cwd p now r J Z
       → says r ≡ accepted tt → now < 2 ^ 64 → (w : WellFormed M I) (v : WellFormed M J)
       → (b : ℕ) → 1 ≤ count b (blocks (code_size M.code) max_depth w.tree)
       → count b (blocks (code_size M.code) max_depth v.tree) ≡ 0 → Wiped (code_size M.code) J b

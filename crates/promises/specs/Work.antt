@@ -84,7 +84,8 @@ pub record WorkIsDone : Type 0 where
   pub create_file_leaves : (M : Mount) (I W cwd p : List ℕ) (now : ℕ) (o : OpenOut) (J Z : List ℕ)
       → CreatesFile M I W cwd p now o J Z
       → (h : Handle) → open_says o ≡ accepted h → now < 2 ^ 64 → WellFormed M I → (v : WellFormed M J)
-      → (x : ℕ) × (a : ℕ) × (file_at max_depth (way_of cwd p) (last_of cwd p) v.tree ≡ some (0, now, empty_cell (geo_at M I) x ∷ []))
+      → (x : ℕ) × (a : ℕ)
+      × (file_at max_depth (way_of cwd p) (last_of cwd p) v.tree ≡ some (0, now, empty_cell (geo_at M I) x ∷ []))
       × DirAt max_depth a (way_of cwd p) v.tree × HandleOf a (last_of cwd p) 0 (empty_cell (geo_at M I) x ∷ []) h
   -- C10: a directory with no entry is there, and its own entry has the call's time.
   pub create_dir_leaves : (M : Mount) (I W cwd p : List ℕ) (now : ℕ) (r : Result (Unit {0}) Refusal) (J Z : List ℕ)
@@ -95,6 +96,7 @@ pub record WorkIsDone : Type 0 where
   pub create_changes : (M : Mount) (I W cwd p : List ℕ) (now : ℕ) (o : OpenOut) (J Z : List ℕ) → CreatesFile M I W cwd p now o J Z
       → (h : Handle) → open_says o ≡ accepted h → now < 2 ^ 64 → WellFormed M I → J ≡ I → ⊥
   -- C11: nothing is there any more.
-  pub delete_leaves : (M : Mount) (I W cwd p : List ℕ) (now : ℕ) (r : Result (Unit {0}) Refusal) (J Z : List ℕ) → Deletes M I W cwd p now r J Z
+  pub delete_leaves : (M : Mount) (I W cwd p : List ℕ) (now : ℕ) (r : Result (Unit {0}) Refusal) (J Z : List ℕ)
+      → Deletes M I W cwd p now r J Z
       → says r ≡ accepted tt → now < 2 ^ 64 → WellFormed M I → (v : WellFormed M J)
       → Vacant max_depth (way_of cwd p) (last_of cwd p) v.tree
