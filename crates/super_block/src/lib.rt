@@ -36,7 +36,7 @@ pub struct Mount {
     pub code: u32,
 }
 
-// A mount whose size code there is. `Mount::known` makes it, after refusal 2.
+// A mount whose size code is known. `Mount::known` alone makes one; any other code is refused by 2.
 #[derive(Clone, Copy)]
 struct Known {
     m: Mount,
