@@ -69,7 +69,9 @@ sizes_over g u h = sym (reply-refused (sizes_of g u) Damaged (when_true 17 (lt-l
 pub sizes_in : (s : SuperBlock) (u a t : ℕ) → s.size ≡ block_size (geo_of s) → u ≤ s.blocks → a ≡ s.blocks * s.size → t ≡ u * s.size
     → accepted (record { size = a; used = t; free = a - t }) ≡ reply (overused (geo_of s) u) (sizes_of (geo_of s) u)
 unfolding overused sizes_of
-sizes_in s u a t e h p q = rw (p, q, e) (sym (reply-none _ (when_false 17 (le-ltb s.blocks u h))))
+sizes_in s u a t e h p q =
+    let told : reply (overused (geo_of s) u) (sizes_of (geo_of s) u) ≡ accepted (sizes_of (geo_of s) u) = reply-none _ (when_false 17 (le-ltb s.blocks u h)) in
+    rw (p, q, e) (search (sym told))
 
 -- ---- format
 
@@ -146,4 +148,4 @@ module _ (s : SuperBlock) (I : List ℕ) (f : Fit s I) where
         let x : J ≡ super_written (geo_of s) I (data_at (geo_of s)) = p ∙ ap (super_written (geo_of s) I) f.area in
         let y : L ≡ zeroed (block_size (geo_of s)) (super_written (geo_of s) I (data_at (geo_of s))) (map_at (geo_of s)) (data_at (geo_of s) - map_at (geo_of s))
         = q ∙ ap (λ (x : List ℕ). zeroed s.size x s.bitmap.0 (s.area.0 - s.bitmap.0)) x ∙ rw (f.size, f.area, f.bitmap) in
-        e ∙ ap (λ (x : List ℕ). taken (geo_of s) x 0) y
+        search (e ∙ ap (λ (x : List ℕ). taken (geo_of s) x 0) y)

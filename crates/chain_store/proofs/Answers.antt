@@ -8,7 +8,7 @@ use lib.ListN.{length}
 use borrow.Author.Tests.{eq-eqb, ne_eqb, le-leb, lt-leb}
 use Rattle.wire.proofs.Picks.{pick_true, pick_false}
 use Rattle.block.specs.Block.{Area, next}
-use Rattle.model.specs.Geometry.{Geo, area_of, bit_end, used_count}
+use Rattle.model.specs.Geometry.{Geo, area_of, block_size, bit_end, used_count}
 use Rattle.super_block.specs.declared.SuperBlock.{SuperBlock}
 use Rattle.super_block.specs.Super.{area_in, geo_of, Fit}
 use Rattle.super_block.proofs.Fits.{fit_long, area_is}
@@ -78,5 +78,6 @@ module _ (s : SuperBlock) (I J R : List ℕ) (k i b : ℕ) (f : Fit s I) (v : ch
           → chain_freed (geo_of s) L (k - (i + 1)) to ≡ R
       unfolding chain_freed
       chain_more q L to x z =
-          (λ j. chain_freed (geo_of s) (z j) (k - (i + 1)) ((x ∙ ap (λ (B : ℕ). next B J b) f.size) j))
-          ∙ sym (step ∙ pick_true _ _ (inside ∙ q)) ∙ v
+          let more : List ℕ = chain_freed (geo_of s) (released (geo_of s) J b) (k - (i + 1)) (next (block_size (geo_of s)) J b) in
+          let first : chain_freed (geo_of s) J (suc (k - (i + 1))) b ≡ more = search (pick_true more J (inside ∙ q)) in
+          (λ j. chain_freed (geo_of s) (z j) (k - (i + 1)) ((x ∙ ap (λ (B : ℕ). next B J b) f.size) j)) ∙ sym (step ∙ first) ∙ v

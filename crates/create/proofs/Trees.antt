@@ -63,6 +63,9 @@ no_level (suc e) d h = lt-leb max_depth d (omega arith) ∙ sym (ne_eqb (suc e) 
 abbrev first_test : Bool → Bool → Bool → ℕ
 first_test a b c = first_of (when 15 a ∷ (when 7 b ∷ (when 9 c ∷ [])))
 
+tests_given : {A : Type 0} (a b c : Bool) (r : Reply A) → given (first_test a b c) r ≡ given (when 15 a) (given (when 7 b) (given (when 9 c) r))
+tests_given a b c r = given_first (when 15 a) _ r ∙ ap (given (when 15 a)) (given_first (when 7 b) _ r ∙ ap (given (when 7 b)) (given_last (when 9 c) r))
+
 tests_none : (a b c : Bool) → first_test a b c ≡ 0 → (a ≡ false) × (b ≡ false) × (c ≡ false)
 unfolding first_of when pick
 tests_none true b c e = absurd (omega (arith, e))
@@ -96,6 +99,12 @@ module _ (g : Geo) (free : List ℕ) (k : Kind) (n : Name) (s : Some) where
   abbrev full_test : Bool
   full_test = ltb (length free) (to_create (entry_room g) n s.1)
 
+  -- what the code's tests come to, one after the other
+  tree_given : {A : Type 0} (r : Reply A)
+      → given (tree_refusal g free k n s) r ≡ given (when 15 (is_dir k && eqb s.0 0)) (given (when 7 (any (holds n) s.1)) (given (when 9 full_test) r))
+  unfolding tree_refusal
+  tree_given r = search (tests_given (is_dir k && eqb s.0 0) (any (holds n) s.1) full_test r)
+
   tree_none : tree_refusal g free k n s ≡ 0 → ((is_dir k && eqb s.0 0) ≡ false) × Absent n s.1 × (to_create (entry_room g) n s.1 ≤ length free)
   unfolding tree_refusal
   tree_none e =
@@ -113,14 +122,6 @@ module _ (g : Geo) (free : List ℕ) (k : Kind) (n : Name) (s : Some) where
     λ e. let q = tests_last (is_dir k && eqb s.0 0) (any (holds n) s.1) full_test e in (q.0, q.1, ltb-true _ _ q.2),
     λ q. last_tests q.0 q.1 (lt-ltb _ _ q.2),
   )
-
-  -- what the code's tests come to
-  tree_given : {A : Type 0} (r : Reply A)
-      → given (tree_refusal g free k n s) r ≡ given (when 15 (is_dir k && eqb s.0 0)) (given (when 7 (any (holds n) s.1)) (given (when 9 full_test) r))
-  unfolding tree_refusal
-  tree_given r =
-      given_first (when 15 (is_dir k && eqb s.0 0)) _ r
-      ∙ ap (given (when 15 (is_dir k && eqb s.0 0))) (given_first (when 7 (any (holds n) s.1)) _ r ∙ ap (given (when 7 (any (holds n) s.1))) (given_last (when 9 full_test) r))
 
 -- ---- a create in a directory of the tree
 

@@ -33,7 +33,7 @@ use Rattle.dir.specs.Resolve.{on_placed, on_name, Held, held, lookup_in, open_di
 -- ---- a name
 
 pub name_empty : {A : Type 0} (x : List ℕ) (r : Reply A) → length x ≡ 0 → refused 5 ≡ on_name x r
-name_empty [] r e = refl
+name_empty [] r e = search
 name_empty (c ∷ x) r e = absurd (omega arith)
 
 pub name_some : {A : Type 0} (x : List ℕ) (r : Reply A) → (length x ≡ 0 → ⊥) → on_name x r ≡ r

@@ -36,7 +36,7 @@ module _ (g : Geo) (I : List ℕ) (h : Handle) (len : ℕ) where
   module _ (z : len ≡ 0 → ⊥) where
     pub aim_then : patch_target g I h len ≡ and_then (held_at g I h) (ends_at h len)
     unfolding patch_target
-    aim_then = given_no 13 _ (ne_eqb len 0 z) ∙ held_then g I h (ends_at h len)
+    aim_then = search (given_no 13 _ (ne_eqb len 0 z) ∙ held_then g I h (ends_at h len))
 
     -- the entry that was found, and what is refused of it
     pub aim_held : (x : Target) (r : Reply Target) → accepted x ≡ held_at g I h → r ≡ ends_at h len x → r ≡ patch_target g I h len

@@ -50,7 +50,7 @@ module _ (A : Area) (I : List ℕ) (target a : ℕ) (b : Bool) (e : b ≡ eqb ta
 
 kind_leads : (k : Kind) (y : Bool) → is_dir k ≡ false → if_dir k y ≡ false
 kind_leads Dir y z = absurd (not_both refl z)
-kind_leads File y z = refl
+kind_leads File y z = search
 kind_leads Device y z = refl
 
 file_leads : (I : List ℕ) (at : ℕ) (f : ℕ → Bool) (e : DirEntry) → e ≡ entry_at I at → is_dir (kind_at (get_or I at 0)) ≡ false

@@ -59,7 +59,7 @@ step_slash (r ∷ rs) c h = pick_case NoSlash (inside r c) rs never (λ e. h.1) 
 -- nothing is text where a byte is due that there is not
 pub never_text : (l : List ℕ) → text_from never l ≡ false
 unfolding text_from step inside
-never_text [] = refl
+never_text [] = search
 never_text (c ∷ l) = ap (λ (rs : List Range). text_from rs l) (pick_false _ _ (none c)) ∙ never_text l
   where
     none : (c : ℕ) → inside (from_to 1 0) c ≡ false
