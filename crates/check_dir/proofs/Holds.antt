@@ -18,7 +18,7 @@ use Rattle.dir_entry.specs.declared.DirEntry.{DirEntry}
 use Rattle.dir_entry.specs.Entry.{place_at, name_at, slot_at}
 use Rattle.dir_entry.proofs.Slots.{place_is, slot_stands}
 use Rattle.text.specs.Text.{is_name}
-use Rattle.thm_survey.specs.Survey.{Raw, has_some, passes, on_slot, raws_from}
+use Rattle.thm_survey.specs.Survey.{Raw, has_some, passes, by_slot, raws_from}
 use Rattle.check_dir.specs.Blocks.{may_stand}
 use Rattle.thm_survey.specs.Steps.{is_total}
 use Rattle.thm_survey.proofs.RawSteps.{reads, stops, raws_step}
@@ -76,17 +76,17 @@ module _ (B : ℕ) (I : List ℕ) (late : Bool) (a b o z : ℕ) (known : BlockSi
   d : s ≡ slot_at B I a o
   d = read ∙ (λ i. slot_at (large i) I (same i) o)
 
-  stepped : raws_from B I B a o ≡ on_slot s (reads B I a B o) (stops B I a o)
+  stepped : raws_from B I B a o ≡ by_slot s (reads B I a B o) (stops B I a o)
   stepped =
       raws_step B I a o l (omega (arith, known.least))
-      ∙ ap (λ (z : prelude.Option DirEntry). on_slot z (reads B I a B o) (stops B I a o)) (sym d)
+      ∙ ap (λ (z : prelude.Option DirEntry). by_slot z (reads B I a B o) (stops B I a o)) (sym d)
 
   -- the entries stop here
   module _ (e : s ≡ None) where
     stopped : may_stand late (raws_from B I B a 0) ≡ (not (late && eqb o 0) && zero_from I (place_at B a o) (B - 4 - o))
-    unfolding on_slot
+    unfolding by_slot
     stopped =
-        v ∙ ap (may_stand (late && eqb o 0)) (stepped ∙ ap (λ (z : prelude.Option DirEntry). on_slot z (reads B I a B o) (stops B I a o)) e)
+        v ∙ ap (may_stand (late && eqb o 0)) (stepped ∙ ap (λ (z : prelude.Option DirEntry). by_slot z (reads B I a B o) (stops B I a o)) e)
         ∙ none_stands (late && eqb o 0) (zero_from I (place_at B a o) (B - 4 - o))
 
     pub looks_empty : late ≡ true → o ≡ 0 → false ≡ may_stand late (raws_from B I B a 0)
@@ -115,8 +115,8 @@ module _ (B : ℕ) (I : List ℕ) (late : Bool) (a b o z : ℕ) (known : BlockSi
     entry_over = omega (arith, entry_fits)
 
     entry_read : raws_from B I B a o ≡ reads B I a B o e
-    unfolding on_slot
-    entry_read = stepped ∙ ap (λ (z : prelude.Option DirEntry). on_slot z (reads B I a B o) (stops B I a o)) g
+    unfolding by_slot
+    entry_read = stepped ∙ ap (λ (z : prelude.Option DirEntry). by_slot z (reads B I a B o) (stops B I a o)) g
 
     module _ (t : Bool) (h : t ≡ passes e (name_at I (place_at B a o) e.len)) where
       pub looks_bad : t ≡ false → false ≡ may_stand late (raws_from B I B a 0)

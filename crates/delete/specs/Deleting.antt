@@ -28,7 +28,8 @@ has_entries e = is_dir e.kind && not (eqb e.size 0)
 
 -- The entry x of the directory h: 14, or the entry.
 unfoldable pub doomed_at : Hold → Placed → Reply Doomed
-doomed_at h x = given (when 14 (has_entries x.entry)) (accepted (record { dir = h.dir; entry = x.entry; place = x.place; own = h.own }))
+doomed_at h x =
+    given (when 14 (has_entries x.entry)) (accepted (record { dir = h.dir; entry = x.entry; place = x.place; own = h.own }))
 
 module _ (g : Geo) (I : List ℕ) where
   -- In the directory h, by the name x: 5, then these.

@@ -23,7 +23,8 @@ root_hold D = record { dir = D; own = None; depth = 0 }
 
 -- The directory that the entry x stands for, in a directory at depth k: its own entry is x. 6 where x is no directory's.
 abbrev pub hold_at : ℕ → Placed → Reply Hold
-hold_at k x = pick (is_dir x.entry.kind) (accepted (record { dir = x.entry.addr.0; own = Some x.place; depth = k + 1 })) (refused 6)
+hold_at k x =
+    pick (is_dir x.entry.kind) (accepted (record { dir = x.entry.addr.0; own = Some x.place; depth = k + 1 })) (refused 6)
 
 module _ (A : Area) (I : List ℕ) where
   -- The directory of the name x in the directory h.

@@ -47,4 +47,5 @@ module _ (A : Area) (I : List ℕ) where
 
   -- P3, R5: the entry at the full path l; an empty last name is refused before any walk.
   unfoldable pub entry_of : List ℕ → Reply Held
-  entry_of l = on_name (last_name l) (and_then (open_dir (dir_part l)) (λ a. lookup_in a (last_name l) (λ e. accepted (held a e))))
+  entry_of l =
+      on_name (last_name l) (and_then (open_dir (dir_part l)) (λ a. lookup_in a (last_name l) (λ e. accepted (held a e))))

@@ -49,7 +49,8 @@ list_from cap b i damaged = Err damage
 
 -- The bytes of those records.
 unfoldable pub records_from : ℕ → ℕ → Walk → List ℕ
-records_from cap b (item e a o x w) = pick (ltb (b + (14 + e.len)) cap) (record_of e x ++ records_from cap (b + (14 + e.len)) w) []
+records_from cap b (item e a o x w) =
+    pick (ltb (b + (14 + e.len)) cap) (record_of e x ++ records_from cap (b + (14 + e.len)) w) []
 records_from cap b finished = []
 records_from cap b damaged = []
 

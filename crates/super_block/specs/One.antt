@@ -13,7 +13,8 @@ known_is_one : (g : Geo) → IsProp (Known g)
 known_is_one g (inl a) (inl b) = let p : IsProp ((g.version ≡ 1) × (g.code ≡ 0)) = hlevel (numbers_set, le_prop) in ap inl (p a b)
 known_is_one g (inl a) (inr b) = absurd (omega (arith, a.0, b.0))
 known_is_one g (inr a) (inl b) = absurd (omega (arith, a.0, b.0))
-known_is_one g (inr a) (inr b) = let p : IsProp ((g.version ≡ 2) × (g.code ≤ last_code)) = hlevel (numbers_set, le_prop) in ap inr (p a b)
+known_is_one g (inr a) (inr b) =
+    let p : IsProp ((g.version ≡ 2) × (g.code ≤ last_code)) = hlevel (numbers_set, le_prop) in ap inr (p a b)
 
 pub fit_is_one : (s : SuperBlock) (I : List ℕ) → IsProp (Fit s I)
 fit_is_one s I = hlevel (known_is_one, numbers_set, le_prop)

@@ -28,7 +28,7 @@ use Rattle.dir_entry.specs.Entry.{header, entry_at, head_bytes, place_at, name_a
 use Rattle.dir_entry.proofs.Heads.{head_shown, length_head}
 use Rattle.dir_entry.proofs.Slots.{Stands, slot_stands}
 use Rattle.text.specs.Text.{is_name}
-use Rattle.thm_survey.specs.Survey.{Raw, passes, RawBlock, has_some, Claimed, on_slot, claim, raws_from, later_of, blocks_of}
+use Rattle.thm_survey.specs.Survey.{Raw, passes, RawBlock, has_some, Claimed, by_slot, claim, raws_from, later_of, blocks_of}
 use Rattle.thm_survey.proofs.SoundLaws.{Each, each_none, each_some, each_then, each_pick, each_test, each_with, Claims, claims_none, claims_both, Claim, each_claim}
 use Rattle.thm_survey.proofs.SoundCells.{part_shown, part_long}
 
@@ -71,8 +71,8 @@ pub record RawsFound (B : ℕ) (I : List ℕ) (a o : ℕ) (rs : List Raw) : Type
   pub ends : o + raws_used rs ≤ B - 5
 
 each_slot : {X : Type 0} (P : X → Type 0) (s : prelude.Option DirEntry) (f : DirEntry → Option X) (o : Option X)
-    → ((e : DirEntry) → s ≡ Some e → Each P (f e)) → Each P o → Each P (on_slot s f o)
-unfolding on_slot
+    → ((e : DirEntry) → s ≡ Some e → Each P (f e)) → Each P o → Each P (by_slot s f o)
+unfolding by_slot
 each_slot P (Some e) f o h k = h e refl
 each_slot P None f o h k = k
 

@@ -24,7 +24,7 @@ use Rattle.read_dir.specs.Walk.{Walk, item, finished, in_area, shown, entries_fr
 use Rattle.read_dir.specs.Walk as walks
 use Rattle.text.specs.Text.{is_name}
 use Rattle.check_names.specs.Names.{distinct, names_in, ends}
-use Rattle.thm_survey.specs.Survey.{Raw, RawBlock, names_of, all_names, has_some, Claimed, on_slot, passes, claim, raws_from, later_of, blocks_of}
+use Rattle.thm_survey.specs.Survey.{Raw, RawBlock, names_of, all_names, has_some, Claimed, by_slot, passes, claim, raws_from, later_of, blocks_of}
 use Rattle.thm_survey.proofs.SoundLaws.{Each, each_none, each_some, each_then, each_pick, each_test, each_with, Claim, each_claim}
 use Rattle.thm_survey.proofs.SoundCells.{part_long}
 
@@ -71,8 +71,8 @@ LongNames [] = Unit {0}
 LongNames (b ∷ bs) = All LongName b.raws × LongNames bs
 
 each_at : {X : Type 0} (P : X → Type 0) (s : prelude.Option DirEntry) (f : DirEntry → Option X) (o : Option X)
-    → ((e : DirEntry) → s ≡ Some e → Each P (f e)) → (s ≡ None → Each P o) → Each P (on_slot s f o)
-unfolding on_slot
+    → ((e : DirEntry) → s ≡ Some e → Each P (f e)) → (s ≡ None → Each P o) → Each P (by_slot s f o)
+unfolding by_slot
 each_at P (Some e) f o h k = h e refl
 each_at P None f o h k = k refl
 

@@ -53,9 +53,9 @@ unfoldable pub seen_of : {X : Type 0} → Option (Claimed X) → Option (List �
 seen_of o = then o (λ c. some c.seen)
 
 -- what follows where there is an entry, and where the entries stop
-unfoldable pub on_slot : {X : Type 0} → prelude.Option DirEntry → (DirEntry → X) → X → X
-on_slot (Some e) f x = f e
-on_slot None f x = x
+unfoldable pub by_slot : {X : Type 0} → prelude.Option DirEntry → (DirEntry → X) → X → X
+by_slot (Some e) f x = f e
+by_slot None f x = x
 
 -- W3: the address is not 0 (that it lies in the area says the claim of its block), and the name's bytes are good
 unfoldable pub passes : DirEntry → Name → Bool
@@ -65,7 +65,7 @@ passes e x = not (eqb e.addr.0 0) && is_name x
 unfoldable pub raws_from : ℕ → List ℕ → ℕ → ℕ → ℕ → Option (List Raw)
 raws_from B I zero a o = none
 raws_from B I (suc f) a o =
-    on_slot (slot_at B I a o)
+    by_slot (slot_at B I a o)
     (λ e. pick (passes e (name_at I (place_at B a o) e.len))
     (then (raws_from B I f a (o + header + e.len))
     (λ rs. some (record { head = e; name = name_at I (place_at B a o) e.len } ∷ rs))) none)
