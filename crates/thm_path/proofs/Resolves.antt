@@ -51,7 +51,7 @@ pub data Agree (r : Reply Some) (o : Option Some) : Type 0 where
 module _ {X : Type 0} (f : X → Reply Some) (h : X → Option Some) (below : (x : X) → Agree (f x) (h x)) where
   agree_node : (x : Node X) → Agree (on_node f x) (inside h x)
   unfolding on_node inside
-  agree_node (file z cs) = stops 6 search refl (inr refl)
+  agree_node (file z cs) = stops 6 (search) refl (inr refl)
   agree_node (device z cs) = stops 6 refl refl (inr refl)
   agree_node (sub x) = below x
 
