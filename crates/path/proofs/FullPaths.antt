@@ -13,7 +13,7 @@ use Rattle.wire.specs.Be.{splice}
 use Rattle.wire.specs.Pick.{pick, same}
 use Rattle.wire.proofs.Picks.{either, pick_true, pick_false, and_both}
 use Rattle.model.specs.Render.{count}
-use Rattle.text.specs.Text.{Range, inside, begun, step, text_from, is_text, has_byte, is_name}
+use Rattle.text.specs.Text.{Range, in_range, begun, step, text_from, is_text, has_byte, is_name}
 use Rattle.text.proofs.Laws.{NoSlash, step_slash, from_slash}
 use Rattle.model.specs.Volume.{All}
 use Rattle.model.proofs.Counts.{count_same, count_other, count_none}
@@ -56,7 +56,7 @@ module _ (cwd p : List ℕ) (h : bad_path cwd p ≡ false) where
 
 -- `/` is a good path in any working directory
 pub root_good : (cwd : List ℕ) → bad_path cwd (slash ∷ []) ≡ false
-unfolding bad_path starts_slash real_path text_from step begun inside pick
+unfolding bad_path starts_slash real_path text_from step begun in_range pick
 root_good cwd = refl
 
 -- what a buffer then holds

@@ -85,8 +85,8 @@ pub fn same_bytes(s: &[u8], at: usize, t: &[u8]) -> bool
     &s[at..at + t.len()] == t
 }
 
-// Whether n bytes from `at` on are zero. The loop has no way out but its end, and only such a loop does the compiler turn into one
-// over many bytes at a time.
+// Whether n bytes from `at` on are zero. The loop has no way out but its end, and only such a loop does the compiler turn into
+// one over many bytes at a time.
 pub fn zero_bytes(s: &[u8], at: usize, n: usize) -> bool
     requires { at + n ≤ length s.now }
     ensures { result ≡ zero_from s.now at n }
