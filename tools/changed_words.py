@@ -124,6 +124,10 @@ def bodies(now):
 
 def calls(crate, kind, name):
     """How a function of a crate is called: by its crate's name, in the crate itself by its own, and a method by a value or its type."""
+    if (kind, name) == ("Name", "len"):
+        return re.compile(r"\bname\.len\(\)"), None
+    if kind in ("LinkedBlock", "Volume") and name == "next_addr":
+        return re.compile(r"(LinkedBlock::new\([^)]*\)|\bblock(\([^)]*\))?)\.next_addr\(" if kind == "LinkedBlock" else r"(\bv|\}|self)\.next_addr\("), None
     if kind:
         return re.compile(r"%s::%s\(|\.%s\(" % (kind, name, name)), None
     return re.compile(r"(?<!\w)%s::%s\(" % (crate, name)), re.compile(r"(?<![\w.:])%s\(" % name)
