@@ -1,5 +1,6 @@
 #!/usr/bin/env python3
-"""Compares today's definitions, theorems and contracts with those of the commit that docs/PORT.md begins with, up to spelling.
+"""Compares the definitions, theorems and contracts at the end of the port, which is the commit that docs/DESIGN-PASS.md begins with, with those of the
+commit that docs/PORT.md begins with, up to spelling.
 
 usage: tools/same_words.py     at the top of the repository
 
@@ -10,6 +11,7 @@ import difflib, os, re, subprocess, sys
 
 os.chdir(os.path.join(os.path.dirname(os.path.abspath(__file__)), '..'))
 BEGAN = open('docs/PORT.md', encoding='utf-8').readline().strip()
+ENDED = open('docs/DESIGN-PASS.md', encoding='utf-8').readline().strip()
 NAMES = {}
 with open('docs/port-names.tsv', encoding='utf-8') as table:
     for row in table:
@@ -26,11 +28,10 @@ def git(*words):
     return subprocess.run(['git', *words], capture_output=True, text=True, check=True).stdout
 
 
-def today(path):
+def ported(path):
     try:
-        with open(path, encoding='utf-8') as f:
-            return f.read()
-    except FileNotFoundError:
+        return git('show', ENDED + ':' + path)
+    except subprocess.CalledProcessError:
         return ''
 
 
@@ -99,14 +100,14 @@ def main():
     for path in git('ls-tree', '-r', '--name-only', BEGAN, 'crates').split('\n'):
         parts = path.split('/')
         if path.endswith('.antt') and parts[2] == 'specs':
-            before, since = code(git('show', BEGAN + ':' + path)), code(today(path))
+            before, since = code(git('show', BEGAN + ':' + path)), code(ported(path))
             counts['definitions'] += len(statements(before))
             a, b = words(before, True), words(since, False)
             differ += a != b
             show(path, a, b)
         elif path.endswith('.antt') and len(parts) == 4:
             since = {}
-            for n, t in statements(today(path)):
+            for n, t in statements(ported(path)):
                 since.setdefault(n, []).append(t)
             for n, t in statements(git('show', BEGAN + ':' + path)):
                 counts['statements'] += 1
@@ -119,7 +120,7 @@ def main():
                     else:
                         print('%s: %s is gone' % (path, n))
         elif path.endswith('.rt'):
-            before, since = list(contracts(git('show', BEGAN + ':' + path))), {n: (l, c) for n, l, c in contracts(today(path))}
+            before, since = list(contracts(git('show', BEGAN + ':' + path))), {n: (l, c) for n, l, c in contracts(ported(path))}
             for n, lent, old in before:
                 counts['contracts'] += 1
                 if n not in since:

@@ -7,18 +7,16 @@ use native.Mathlib.Omega.{arith}
 use lib.ListN.{length, get_or, drop}
 use Rattle.bits.specs.Bit.{bit, AllSet}
 use Rattle.bits.specs.Find.{Lowest}
-use Rattle.bits.specs.declared.Found.{Found}
-use Rattle.bits.specs.declared.Found.TheVariants.{At, Nothing}
+use Rattle.std.specs.Prelude.{Option, Some, None, IsSome}
 use Rattle.block.specs.Block.{zeroed}
-use Rattle.block.proofs.Blocks.{zeroed_kept}
 use Rattle.model.specs.Geometry.{Geo, block_size, map_at, data_at, reach, bit_end, used_count}
 use Rattle.model.specs.Calls.{clear_from}
 use Rattle.model.proofs.Free.{LowestClear, lowest_clear, clear_lowest}
 use Rattle.super_block.specs.declared.SuperBlock.{SuperBlock}
 use Rattle.super_block.specs.Super.{geo_of, Fit, counted}
-use Rattle.super_block.proofs.Fits.{placed, from_is, fit_long, fit_inside}
-use Rattle.bitmap_block.specs.Bitmap.{mark, marked, clears, more, fewer}
-use Rattle.bitmap_block.proofs.Stores.{length_half, used_half, clears_first, first_in}
+use Rattle.super_block.proofs.Fits.{placed, from_is}
+use Rattle.bitmap_block.specs.Bitmap.{mark, marked, clears, more, fewer, freed}
+use Rattle.bitmap_block.proofs.Stores.{used_half, used_some, clears_first, first_in}
 
 -- the reach is small
 pub reach_few : {s : SuperBlock} {I : List ℕ} → Fit s I → s.reach ≤ 16777216
@@ -34,7 +32,7 @@ module _ {s : SuperBlock} {I : List ℕ} {at : ℕ} (f : Fit s I) (e : at ≡ s.
   reach_place = let p = placed f in omega arith
 
   -- the hint, said of the place that code computes
-  pub hint : {y : ℕ} → AllSet I (block_size (geo_of s) * map_at (geo_of s)) 0 y → AllSet I at 0 y
+  hint : {y : ℕ} → AllSet I (block_size (geo_of s) * map_at (geo_of s)) 0 y → AllSet I at 0 y
   hint {y} a = subst (λ (z : ℕ). AllSet I z 0 y) (sym (from_is f e)) a
 
   bit_is : (x : ℕ) → mark (geo_of s) I x ≡ bit I at x
@@ -42,10 +40,10 @@ module _ {s : SuperBlock} {I : List ℕ} {at : ℕ} (f : Fit s I) (e : at ≡ s.
   bit_is x = ap (λ (z : ℕ). bit I z x) (sym (from_is f e))
 
   -- what a search finds is the first of the clear ones
-  pub first_at_lem : {x : ℕ} {r : Found} → Lowest I at s.reach r → r ≡ At x → data_at (geo_of s) + x ≡ get_or (clears (geo_of s) I) 0 0
+  pub first_at_lem : {x : ℕ} {r : Option ℕ} → Lowest I at s.reach r → r ≡ Some x → data_at (geo_of s) + x ≡ get_or (clears (geo_of s) I) 0 0
   unfolding clears
   first_at_lem {x} {r} l q =
-      let m : Lowest I at s.reach (At x) = subst (Lowest I at s.reach) q l in
+      let m : Lowest I at s.reach (Some x) = subst (Lowest I at s.reach) q l in
       let d : ℕ = data_at (geo_of s) in
       let w : (y : ℕ) → d + y - d ≡ y = λ y. omega arith in
       let b : LowestClear (λ b. mark (geo_of s) I (b - d)) d (reach (geo_of s)) (d + x) (clear_from (λ b. mark (geo_of s) I (b - d)) (suc (d + x)) (d + reach (geo_of s) - suc (d + x)))
@@ -70,10 +68,9 @@ module _ {s : SuperBlock} {I : List ℕ} {at : ℕ} (f : Fit s I) (e : at ≡ s.
           k (a - data_at (geo_of s)) (omega (arith, o.from, o.below, f.reach)) (sym (bit_is (a - data_at (geo_of s))) ∙ o.clear)
 
   -- so it is found,
-  pub first_none : (x : ℕ) {r : Found} → 1 ≤ length (clears (geo_of s) I) → Lowest I at s.reach r → r ≡ Nothing → data_at (geo_of s) + x ≡ get_or (clears (geo_of s) I) 0 0
-  first_none x {r} h l q =
-      let all : (y : ℕ) → y < s.reach → bit I at y ≡ 1 = subst (Lowest I at s.reach) q l in
-      some_clear h (data_at (geo_of s) + x ≡ get_or (clears (geo_of s) I) 0 0) (λ y p z. absurd (omega (arith, all y p)))
+  pub found_one : (r : Option ℕ) → 1 ≤ length (clears (geo_of s) I) → Lowest I at s.reach r → IsSome r
+  found_one (Some x) h l = refl
+  found_one None h l = absurd (some_clear h ⊥ (λ y p z. omega (arith, l y p)))
 
   -- and a hint that holds is in reach
   pub hint_reach : (y : ℕ) → 1 ≤ length (clears (geo_of s) I) → AllSet I (block_size (geo_of s) * map_at (geo_of s)) 0 y → y ≤ s.reach
@@ -93,32 +90,23 @@ module _ {s : SuperBlock} {I : List ℕ} (x : ℕ) (f : Fit s I) (h : s.area.0 +
   half_is : (v : ℕ) {a : ℕ} {J L : List ℕ} → a ≡ s.area.0 + x → J ≡ zeroed s.size I a 1 → L ≡ marked (geo_of s) J x v → L ≡ marked (geo_of s) (zeroed (block_size (geo_of s)) I (data_at (geo_of s) + x) 1) x v
   half_is v p q r = r ∙ ap (λ (z : List ℕ). marked (geo_of s) z x v) (q ∙ ap (λ (z : ℕ). zeroed s.size I z 1) (p ∙ ap (λ (z : ℕ). z + x) f.area) ∙ ap (λ (z : ℕ). zeroed z I (data_at (geo_of s) + x) 1) f.size)
 
-  half_fit : (v : ℕ) {a : ℕ} {J L : List ℕ} → a ≡ s.area.0 + x → J ≡ zeroed s.size I a 1 → L ≡ marked (geo_of s) J x v → Fit s L
-  half_fit v p q r = fit_long (ap length (half_is v p q r) ∙ length_half (geo_of s) I f.sound x in_data v) f
-
   half_used : (v : ℕ) {a : ℕ} {J L : List ℕ} → a ≡ s.area.0 + x → J ≡ zeroed s.size I a 1 → L ≡ marked (geo_of s) J x v → used_count (geo_of s) L ≡ used_count (geo_of s) I
   half_used v p q r = ap (used_count (geo_of s)) (half_is v p q r) ∙ used_half (geo_of s) I f.sound x in_data v
 
-  -- set,
-  pub set_fit : {a : ℕ} {J L : List ℕ} → a ≡ s.area.0 + x → J ≡ zeroed s.size I a 1 → L ≡ marked (geo_of s) J x 1 → Fit s L
-  set_fit p q r = half_fit 1 p q r
-
+  -- set, or clear
   pub set_used : {a : ℕ} {J L : List ℕ} → a ≡ s.area.0 + x → J ≡ zeroed s.size I a 1 → L ≡ marked (geo_of s) J x 1 → used_count (geo_of s) I < s.blocks → used_count (geo_of s) L < s.blocks
   set_used p q r u = omega (arith, half_used 1 p q r)
 
-  -- or clear
-  pub clear_fit : {a : ℕ} {J L : List ℕ} → a ≡ s.area.0 + x → J ≡ zeroed s.size I a 1 → L ≡ marked (geo_of s) J x 0 → Fit s L
-  clear_fit p q r = half_fit 0 p q r
+  pub clear_used : {a k : ℕ} {J L : List ℕ} → a ≡ s.area.0 + x → J ≡ zeroed s.size I a k → L ≡ marked (geo_of s) J x 0 → k ≤ 1 → 0 < used_count (geo_of s) I → 0 < used_count (geo_of s) L
+  clear_used {a} {k} {J} {L} p q r few u =
+      let half : L ≡ marked (geo_of s) (zeroed (block_size (geo_of s)) I (data_at (geo_of s) + x) k) x 0
+      = r ∙ ap (λ (z : List ℕ). marked (geo_of s) z x 0) (q ∙ (λ i. zeroed (f.size i) I ((p ∙ ap (λ (z : ℕ). z + x) f.area) i) k)) in
+      omega (arith, ap (used_count (geo_of s)) half, used_some (geo_of s) I f.sound x in_data k few 0)
 
-  pub clear_used : {a : ℕ} {J L : List ℕ} → a ≡ s.area.0 + x → J ≡ zeroed s.size I a 1 → L ≡ marked (geo_of s) J x 0 → 0 < used_count (geo_of s) I → 0 < used_count (geo_of s) L
-  clear_used p q r u = omega (arith, half_used 0 p q r)
-
-  -- before that, only zeroed
-  pub zero_inside : {a : ℕ} → a ≡ s.area.0 + x → s.size * a + s.size * 1 ≤ length I
-  zero_inside p = omega (arith, fit_inside s I I _ (s.area.0 + x) f refl p (omega arith))
-
-  pub zero_fit : {a : ℕ} {J : List ℕ} → a ≡ s.area.0 + x → J ≡ zeroed s.size I a 1 → Fit s J
-  zero_fit p q = fit_long (ap length q ∙ (zeroed_kept s.size I _ 1 (zero_inside p)).size) f
+  -- and with the count stored too, the block is given back
+  pub given_back : {a : ℕ} {J K L : List ℕ} → a ≡ s.area.0 + x → J ≡ zeroed s.size I a 1 → K ≡ marked (geo_of s) J x 0 → L ≡ fewer (geo_of s) K → L ≡ freed (geo_of s) I x
+  unfolding freed
+  given_back p q r l = l ∙ ap (fewer (geo_of s)) (half_is 0 p q r)
 
 -- what was found is in the data, and has a bit
 pub found_in : {s : SuperBlock} {I : List ℕ} (x : ℕ) → Fit s I → 1 ≤ length (clears (geo_of s) I) → data_at (geo_of s) + x ≡ get_or (clears (geo_of s) I) 0 0 → s.area.0 + x < bit_end (geo_of s)

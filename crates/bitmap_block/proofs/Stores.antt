@@ -243,11 +243,6 @@ module _ (g : Geo) (I : List ℕ) (s : Sound g (length I)) (x : ℕ) (h : data_a
     unfolding set_of
     set_used = used_marked g zero_of zero_sound x h v ∙ used_kept g I s _ zero_of zero_kept (λ o _ _. inl (omega (arith, (area g (length I) s).maps)))
 
-    -- (the same on the way, in the definition's own words)
-    pub length_half : length (marked g (zeroed (block_size g) I (data_at g + x) 1) x v) ≡ length I
-    unfolding set_of zero_of
-    length_half = set_kept.size ∙ zero_kept.size
-
     pub used_half : used_count g (marked g (zeroed (block_size g) I (data_at g + x) 1) x v) ≡ used_count g I
     unfolding set_of zero_of
     used_half = set_used
@@ -300,6 +295,15 @@ module _ (g : Geo) (I : List ℕ) (s : Sound g (length I)) (x : ℕ) (h : data_a
       put_cell o q =
           last_kept.at (data_at g + x) o (aside_data g (length I) s (data_at g + x) o (omega arith)).not_count q ∙ set_kept.at (data_at g + x) o (inr (omega arith)) q
           ∙ cell-zeroed (block_size g) I (data_at g + x) 1 (rw mul-one (data_in g (length I) s x h)) (data_at g + x) o (omega arith) (omega arith) q
+
+  -- with no block zeroed, or with this one, the used count that is stored is what it was
+  pub used_some : (k : ℕ) → k ≤ 1 → (v : ℕ) → used_count g (marked g (zeroed (block_size g) I (data_at g + x) k) x v) ≡ used_count g I
+  used_some k few v =
+      let Z : List ℕ = zeroed (block_size g) I (data_at g + x) k in
+      let kept : Kept (block_size g) (λ b o. (b < data_at g + x) ⊎ (data_at g + x + k ≤ b)) I Z
+      = zeroed_kept (block_size g) I (data_at g + x) k (omega (arith, data_in g (length I) s x h, mul-le-mul_left (block_size g) few)) in
+      let sound : Sound g (length Z) = sound_kept g I s _ Z kept in
+      used_marked g Z sound x h v ∙ used_kept g I s _ Z kept (λ o _ _. inl (omega (arith, (area g (length I) s).maps)))
 
 -- ---- a block taken
 

@@ -1,4 +1,5 @@
 // The bitmap: which data blocks are taken. Blocks are taken, given back and counted here, and nowhere else.
+// (Image and numbers are lent apart in what stores: lent as one, each contract would have to say that the numbers stay.)
 #![tactic(auto)]
 
 ghost use Rattle.std.specs.Prelude.{◌≡◌, ◌+◌, ◌*◌, ◌≤◌, ◌<◌, length, get_or};
@@ -7,7 +8,6 @@ ghost use Rattle.model.specs.Geometry.{block_size, map_at, data_at, bit_end, use
 ghost use Rattle.super_block.specs.Super.{geo_of, Fit};
 ghost use Rattle.bitmap_block.specs.Bitmap.{marked, clears, more, fewer, taken, freed, Room};
 
-use bits::Found;
 use block::Index;
 use super_block::SuperBlock;
 
@@ -17,8 +17,7 @@ fn set_mark(img: &mut [u8], s: SuperBlock, x: Index)
     requires x_bound { s.area.0 + x.0 < bit_end (geo_of s) }
     ensures { img.new ≡ marked (geo_of s) img.old x.0 1 }
 {
-    let a = s.bitmap;
-    let from = block::offset(s.size, a);
+    let from = block::offset(s.size, s.bitmap);
     bits::set_bit(img, from, x.0);
 }
 
@@ -28,8 +27,7 @@ fn clear_mark(img: &mut [u8], s: SuperBlock, x: Index)
     requires x_bound { s.area.0 + x.0 < bit_end (geo_of s) }
     ensures { img.new ≡ marked (geo_of s) img.old x.0 0 }
 {
-    let a = s.bitmap;
-    let from = block::offset(s.size, a);
+    let from = block::offset(s.size, s.bitmap);
     bits::clear_bit(img, from, x.0);
 }
 
@@ -60,9 +58,7 @@ pub fn take(img: &mut [u8], s: SuperBlock, x: Index)
     requires img_bound { used_count (geo_of s) img.old < s.blocks }
     ensures { img.new ≡ taken (geo_of s) img.old x.0 }
 {
-    let d = s.area;
-    let a = x.addr(d);
-    block::clear(img, s.size, a, 1);
+    block::clear(img, s.size, x.addr(s.area), 1);
     set_mark(img, s, x);
     inc_alloc_count(img, s);
 }
@@ -75,9 +71,8 @@ pub fn free(img: &mut [u8], s: SuperBlock, x: Index)
     requires img_nonzero { 0 < used_count (geo_of s) img.old }
     ensures { img.new ≡ freed (geo_of s) img.old x.0 }
 {
-    let d = s.area;
-    let a = x.addr(d);
-    block::clear(img, s.size, a, 1);
+    let at = x.addr(s.area);
+    block::clear(img, s.size, at, 1);
     clear_mark(img, s, x);
     dec_alloc_count(img, s);
 }
@@ -89,13 +84,9 @@ pub fn next_free(img: &[u8], s: SuperBlock, from: Index) -> Index
     requires all_set { AllSet img.now (block_size (geo_of s) * map_at (geo_of s)) 0 from.0 }
     ensures { data_at (geo_of s) + result.0 ≡ get_or (clears (geo_of s) img.now) 0 0 }
 {
-    let a = s.bitmap;
-    let at = block::offset(s.size, a);
+    let at = block::offset(s.size, s.bitmap);
     let found = bits::lowest_clear(img, at, from.0, s.reach);
-    match found {
-        Found::At(x) => Index(x),
-        Found::Nothing => Index(0),
-    }
+    Index(found.unwrap())
 }
 
 // Takes the lowest clear index in reach, and answers it.

@@ -4,14 +4,18 @@ use mathlib.Core.Bool.{Bool, true, false, not}
 use mathlib.Core.List.{List}
 use Prim.Native.Nat.{ℕ, zero, suc, ◌+◌, ◌-◌, ◌*◌, ◌≤◌, ◌<◌, min}
 use native.Mathlib.Decide.{dec_lt}
+use native.Mathlib.Numerals.{add-one}
 use native.Mathlib.Omega.{arith}
 use lib.Count as word
 use lib.Dec.{leb, ltb}
 use lib.ListN.{length, get_or}
 use borrow.Author.Tests.{lt-ltb, le-ltb, le-leb, lt-leb}
-use Rattle.wire.proofs.Picks.{pick_true, pick_false}
+use Rattle.std.specs.Bool.{MatchBool}
+use Rattle.std.specs.List.{AllWithin, between}
+use Rattle.std.proofs.lemmas.List.Edits.{length-between, get_or-between}
+use Rattle.wire.proofs.Picks.{not_both, pick_true, pick_false}
 use Rattle.bits.specs.Bit.{ones}
-use Rattle.bits.proofs.Bits.{ones-le, ones-more, bit-lt}
+use Rattle.bits.proofs.Bits.{ones_none, ones-le, ones-more, bit-lt}
 use Rattle.bits.proofs.Words.{byte_ones, ones_byte, ones_cut}
 use Rattle.model.specs.Geometry.{Geo, block_size, map_at, data_at, reach}
 use Rattle.model.proofs.Free.{clear_count}
@@ -25,19 +29,28 @@ use Rattle.bitmap_room.specs.declared.Told.{Told}
 -- ---- full bytes
 
 -- one more
-pub full_more : (l : List ℕ) → ((i : ℕ) → get_or l i 0 < 256) → (at i : ℕ) → ones l at (8 * i) ≡ 8 * i → get_or l (at + i) 0 ≡ 255
+full_more : (l : List ℕ) → ((i : ℕ) → get_or l i 0 < 256) → (at i : ℕ) → ones l at (8 * i) ≡ 8 * i → get_or l (at + i) 0 ≡ 255
     → ones l at (8 * (i + 1)) ≡ 8 * (i + 1)
 unfolding word.ones
 full_more l bytes at i h e =
     let c : word.ones 255 ≡ 8 = refl in
     omega (arith, h, byte_ones l bytes (at + i), ap word.ones e, ones_byte l at i)
 
-pub full_all : (l : List ℕ) (at i : ℕ) → ones l at (8 * i) ≡ 8 * i → i ≤ 8 → 8 ≤ i → ones l at 64 ≡ 64
-full_all l at i h p q = let e : 8 * i ≡ 64 = omega arith in omega (arith, h, ap (ones l at) e)
+-- eight, tested one by one
+module _ (l : List ℕ) (at : ℕ) (bytes : (i : ℕ) → get_or l i 0 < 256) where
+  full_to : AllWithin (λ b. b ≡ 255) (between at (at + 8) l) 0 8 → (i : ℕ) → i ≤ 8 → ones l at (8 * i) ≡ 8 * i
+  full_to full zero h = ones_none l at
+  full_to full (suc i) h =
+      let e : get_or l (at + i) 0 ≡ 255 = sym (get_or-between l at (at + 8) i 0 (omega arith)) ∙ full i 0 (omega arith) (omega arith) in
+      rw (← add-one i) (full_more l bytes at i (full_to full i (omega arith)) e)
 
--- an answer of no says nothing
-pub not_full : {P : Type 0} → false ≡ true → P
-not_full e = let z : ◌≡◌ {A = ℕ} 0 1 = cc in absurd (omega arith)
+  -- an answer of no says nothing
+  pub full_all : (r : Bool) (Other : Type 0) → at + 8 ≤ length l
+      → MatchBool r (AllWithin (λ b. b ≡ 255) (between at (at + 8) l) 0 (length (between at (at + 8) l))) Other → r ≡ true → ones l at 64 ≡ 64
+  full_all true Other h full e =
+      let k : length (between at (at + 8) l) ≡ 8 = length-between l at (at + 8) h ∙ omega arith in
+      full_to (rw k at full) 8 (omega arith)
+  full_all false Other h full e = absurd (not_both e refl)
 
 -- ---- the clear bits of the first n
 
@@ -91,9 +104,6 @@ module _ (l : List ℕ) (from : ℕ) where
 
     -- what is looked at together
     module _ (i left : ℕ) (h : 8 * i < limit) where
-      pub one_byte : (c : ℕ) → clear_in l from limit i + c ≡ clear_in l from limit (i + 1) → Together l from limit i left 1 c
-      one_byte c q = (omega arith, omega arith, q, λ _. refl)
-
       module _ (p : 64 ≤ limit - 8 * i) where
         pub eight_bytes : (c : ℕ) → 64 < left → c ≡ ones l (from + i) 64 → Together l from limit i left 8 (64 - c)
         eight_bytes c o q =

@@ -6,13 +6,13 @@
 
 ghost use Rattle.std.specs.Prelude.{◌≡◌, true, ◌+◌, ◌*◌, ◌≤◌, ◌<◌, ltb, length};
 ghost use Rattle.bits.specs.Bit.{ones, BitsFit};
-ghost use Rattle.super_block.specs.Super.{geo_of, Fit};
+ghost use Rattle.super_block.specs.Super.{geo_of};
 ghost use Rattle.bitmap_block.specs.Bitmap.{clears};
 ghost use Rattle.bitmap_room.specs.Search.{clear_in, Together, told_of, room_in};
 
-use super_block::SuperBlock;
+use super_block::Volume;
 
-// Whether there are enough clear bits, and how many bytes were read to tell.
+// Whether there are enough clear bits, and how many bytes were read to tell. (No Option of the bytes: on a no they count too.)
 #[derive(Clone, Copy)]
 pub struct Told {
     pub enough: bool,
@@ -31,14 +31,7 @@ fn full_eight(s: &[u8], at: usize) -> bool
     requires { at + 8 ≤ length s.now }
     ensures { result ≡ true → ones s.now at 64 ≡ 64 }
 {
-    let mut i: usize = 0;
-    while i < 8 {
-        if s[at + i] != 255 {
-            return false;
-        }
-        i += 1;
-    }
-    true
+    s[at..at + 8].iter().all(|b| *b == 255)
 }
 
 // The clear bits of byte i that are below the limit.
@@ -52,7 +45,7 @@ fn clear_in_byte(s: &[u8], from: usize, limit: u32, i: u32) -> u32
     if rest < 8 {
         return rest - bits::count(s, at, rest);
     }
-    8 - bits::byte_ones(s, at)
+    8 - bits::ones_in(s, at, 1)
 }
 
 // The next piece, where so many clear bits are still to find.
@@ -65,7 +58,7 @@ fn next_piece(s: &[u8], from: usize, limit: u32, i: u32, left: u32) -> Piece
     let at = from + (i as usize);
     if 64 <= limit - 8 * i {
         if 64 < left {
-            let c = 64 - bits::word_ones(s, at);
+            let c = 64 - bits::ones_in(s, at, 8);
             return Piece { bytes: 8, clear: c };
         }
         if full_eight(s, at) {
@@ -76,7 +69,7 @@ fn next_piece(s: &[u8], from: usize, limit: u32, i: u32, left: u32) -> Piece
     Piece { bytes: 1, clear: c }
 }
 
-// The search among the first `limit` bits from byte `from` on.
+// The search among the first `limit` bits from byte `from` on. (Not a `for`: a turn passes one byte or eight.)
 fn search(s: &[u8], from: usize, limit: u32, count: u32) -> Told
     requires bits_fit { BitsFit s.now from limit }
     requires limit_bound { limit ≤ 16777216 }
@@ -109,20 +102,16 @@ fn search(s: &[u8], from: usize, limit: u32, count: u32) -> Told
 }
 
 // Whether so many indexes in reach are clear, and the bytes of the bitmap that were read to tell.
-pub fn room_in(img: &[u8], s: SuperBlock, count: u32) -> Told
-    requires { Fit s img.now }
-    ensures { result ≡ room_in (geo_of s) img.now count }
+pub fn room_in(v: Volume, count: u32) -> Told
+    ensures { result ≡ room_in (geo_of v.entry.s) v.entry.img.now count }
 {
-    let a = s.bitmap;
-    let from = block::offset(s.size, a);
-    search(img, from, s.reach, count)
+    let from = block::offset(v.s.size, v.s.bitmap);
+    search(v.img, from, v.s.reach, count)
 }
 
 // Whether fewer than so many are clear, by the same search.
-pub fn lacks(img: &[u8], s: SuperBlock, need: u32) -> bool
-    requires { Fit s img.now }
-    ensures { result ≡ ltb (length (clears (geo_of s) img.now)) need }
+pub fn lacks(v: Volume, need: u32) -> bool
+    ensures { result ≡ ltb (length (clears (geo_of v.entry.s) v.entry.img.now)) need }
 {
-    let t = room_in(img, s, need);
-    !t.enough
+    !room_in(v, need).enough
 }

@@ -4,13 +4,13 @@ use mathlib.Core.Logic.{◌≢◌}
 use mathlib.Core.List.{List}
 use Prim.Native.Nat.{ℕ, zero, suc, ◌+◌, ◌-◌, ◌*◌, ◌/◌, ◌%◌, ◌^◌, ◌≤◌, ◌<◌}
 use native.Mathlib.Numerals.{add-one}
-use native.Mathlib.Decide.{ℕ_discrete, dec_lt}
+use native.Mathlib.Decide.{ℕ_discrete}
 use native.Mathlib.Omega.{arith}
 use lib.Bits.{bit_and, bit_or}
 use lib.ListN.{length, get_or, set, length-set}
 use lib.Seq.{get_or-set_same, get_or-set_other}
-use Rattle.bits.specs.Bit.{bit, with_bit, ones, AllSet}
-use Rattle.bits.proofs.Digits.{mask, or_bit, and_not_bit, digit_lt, digit_with_same, digit_with_other, digit_of_zero, ones_of_255}
+use Rattle.bits.specs.Bit.{bit, with_bit, ones}
+use Rattle.bits.proofs.Digits.{mask, or_bit, and_not_bit, digit_lt, digit_with_same, digit_with_other, digit_of_zero}
 
 -- ---- bit
 
@@ -74,44 +74,3 @@ pub ones-le : (l : List ℕ) (from n : ℕ) → ones l from n ≤ n
 unfolding ones
 ones-le l from zero = omega arith
 ones-le l from (suc n) = omega (arith, ones-le l from n, bit-lt l from n)
-
--- it speaks of its own bits alone
-ones_ext : (l m : List ℕ) (from to n : ℕ) → ((x : ℕ) → x < n → bit l from x ≡ bit m to x) → ones l from n ≡ ones m to n
-unfolding ones
-ones_ext l m from to zero h = refl
-ones_ext l m from to (suc n) h = omega (arith, ones_ext l m from to n (λ x p. h x (omega arith)), h n (omega arith))
-
--- a bit put in past the first n changes no count, and one among them changes it by the difference
-module _ (l : List ℕ) (from x v : ℕ) (h : from + x / 8 < length l) (p : v < 2) where
-  ones_with_out : (n : ℕ) → n ≤ x → ones (with_bit l from x v) from n ≡ ones l from n
-  ones_with_out n q = ones_ext (with_bit l from x v) l from from n (λ y r. bit_with_other l from x v y h p (omega arith))
-
--- a byte of eight ones
-pub full_byte : (l : List ℕ) (from x : ℕ) → x % 8 ≡ 0 → get_or l (from + x / 8) 0 ≡ 255 → AllSet l from x (x + 8)
-unfolding bit
-full_byte l from x z e k g h =
-    let d : k / 8 ≡ x / 8 = omega arith in
-    let m : k % 8 ≡ k - x = omega arith in
-    rw (d, m, e) (ones_of_255 (k - x) (omega arith))
-
--- one bit alone
-pub one_set : (l : List ℕ) (from x : ℕ) → bit l from x ≡ 1 → AllSet l from x (x + 1)
-one_set l from x e k g h = let d : k ≡ x = omega arith in rw d e
-
--- two runs side by side
-pub all_set-more : (l : List ℕ) (from x y z : ℕ) → AllSet l from x y → AllSet l from y z → AllSet l from x z
-all_set-more l from x y z a b k g h = go (dec_lt k y)
-  where
-    go : Dec (k < y) → bit l from k ≡ 1
-    go (yes p) = a k g p
-    go (no p) = b k (omega arith) h
-
--- ---- the lowest clear bit is one
-
-module _ (l : List ℕ) (from n : ℕ) where
-  lowest_le : (i j : ℕ) → bit l from i ≡ 0 → ((k : ℕ) → k < j → bit l from k ≡ 1) → j ≤ i
-  lowest_le i j z o = go (dec_lt i j)
-    where
-      go : Dec (i < j) → j ≤ i
-      go (yes q) = absurd (omega (arith, o i q))
-      go (no q) = omega arith

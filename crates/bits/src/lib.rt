@@ -1,9 +1,10 @@
 // Bits of a lent slice, numbered from byte `from` on: bit x is in byte x / 8, at x % 8 counted from the lowest.
 // The bitmap of a volume and the work buffer of the check are both read and written here, by shifts and masks.
+// (Slice, `from` and `limit` are no struct: that its bytes are below 256 is known of a slice that is a parameter alone.)
 #![tactic(auto)]
 
 ghost use Rattle.std.specs.Prelude.{◌≡◌, ◌+◌, ◌*◌, ◌/◌, ◌<◌, ◌≤◌, length};
-ghost use Rattle.bits.specs.Bit.{bit, with_bit, ones, BitIs, BitsFit, AllSet};
+ghost use Rattle.bits.specs.Bit.{with_bit, ones, BitIs, BitsFit, AllSet};
 ghost use Rattle.bits.specs.Find.{Lowest};
 
 // The bit, 0 or 1.
@@ -21,7 +22,7 @@ pub fn set_bit(s: &mut [u8], from: usize, x: u32)
 {
     let at = from + (x / 8) as usize;
     let m = 1u8 << (x % 8);
-    s[at] = s[at] | m;
+    s[at] |= m;
 }
 
 pub fn clear_bit(s: &mut [u8], from: usize, x: u32)
@@ -30,121 +31,68 @@ pub fn clear_bit(s: &mut [u8], from: usize, x: u32)
 {
     let at = from + (x / 8) as usize;
     let m = 1u8 << (x % 8);
-    s[at] = s[at] & !m;
+    s[at] &= !m;
 }
 
-// A bit number that may be missing.
-#[derive(Clone, Copy)]
-pub enum Found {
-    At(u32),
-    Nothing,
-}
-
-// How far a search may go on from bit x: past the whole byte where it starts one that is full, else past x alone.
-fn stride(s: &[u8], from: usize, x: u32) -> u32
-    requires x_in_bounds { from + x / 8 < length s.now }
-    requires x_value { bit s.now from x ≡ 1 }
-    ensures { (0 < result) × (result ≤ 8) × AllSet s.now from x (x + result) }
-{
-    let at = from + (x / 8) as usize;
-    if x % 8 == 0 {
-        if s[at] == 255 {
-            return 8;
-        }
-    }
-    1
-}
-
-// The lowest clear bit below the limit, where every bit below `start` is known to be set.
-pub fn lowest_clear(s: &[u8], from: usize, start: u32, limit: u32) -> Found
+// The lowest clear bit below the limit, where every bit below `start` is known to be set: in the first byte that is not full.
+pub fn lowest_clear(s: &[u8], from: usize, start: u32, limit: u32) -> Option<u32>
     requires bits_fit { BitsFit s.now from limit }
     requires limit_bound { limit ≤ 16777216 }
     requires start_le_limit { start ≤ limit }
     requires all_set { AllSet s.now from 0 start }
     ensures { Lowest s.now from limit result }
 {
-    let mut x = start;
-    while x < limit {
-        let b = bit_at(s, from, x);
-        if b == 0 {
-            return Found::At(x);
-        }
-        let k = stride(s, from, x);
-        x += k;
+    let first = from + (start / 8) as usize;
+    let end = from + ((limit + 7) / 8) as usize;
+    let passed = s[first..end].iter().position(|b| *b != 255)?;
+    let at = first + passed;
+    let x = 8 * (at - from) as u32 + s[at].trailing_ones();
+    (x < limit).then_some(x)
+}
+
+// The ones of the n bytes at `at`, counted together.
+pub fn ones_in(s: &[u8], at: usize, n: usize) -> u32
+    requires n_in_bounds { at + n ≤ length s.now }
+    requires n_bound { n ≤ 8 }
+    ensures { (result ≡ ones s.now at (8 * n)) × (result ≤ 8 * n) }
+{
+    wire::get(s, at, n).count_ones()
+}
+
+// The ones of the lowest k bits of the byte at `at`, which need not be there where k is 0.
+fn low_ones(s: &[u8], at: usize, k: u32) -> u32
+    requires k_in_bounds { BitsFit s.now at k }
+    requires k_bound { k < 8 }
+    ensures { (result ≡ ones s.now at k) × (result ≤ k) }
+{
+    if k == 0 {
+        return 0;
     }
-    Found::Nothing
-}
-
-// The ones of the eight bytes at `at`, counted together.
-pub fn word_ones(s: &[u8], at: usize) -> u32
-    requires { at + 8 ≤ length s.now }
-    ensures { (result ≡ ones s.now at 64) × (result ≤ 64) }
-{
-    u64::count_ones(wire::get(s, at, 8))
-}
-
-// The ones of one byte.
-pub fn byte_ones(s: &[u8], at: usize) -> u32
-    requires { at < length s.now }
-    ensures { (result ≡ ones s.now at 8) × (result ≤ 8) }
-{
-    u8::count_ones(s[at])
+    (s[at] % (1 << k)).count_ones()
 }
 
 // How many bits of the k words of eight bytes from `from` on are set.
-fn count_words(s: &[u8], from: usize, k: u32) -> u32
+fn count_words(s: &[u8], from: usize, k: usize) -> u32
     requires k_in_bounds { from + 8 * k ≤ length s.now }
     requires k_bound { k ≤ 67108863 }
     ensures { (result ≡ ones s.now from (64 * k)) × (result ≤ 64 * k) }
 {
     let mut n: u32 = 0;
-    let mut i: u32 = 0;
-    while i < k {
-        n += word_ones(s, from + 8 * (i as usize));
-        i += 1;
+    for i in 0..k {
+        n += ones_in(s, from + 8 * i, 8);
     }
     n
 }
 
-// How many bits of the k bytes from `from` on are set.
-fn count_bytes(s: &[u8], from: usize, k: u32) -> u32
-    requires k_in_bounds { from + k ≤ length s.now }
-    requires k_bound { k ≤ 8 }
-    ensures { (result ≡ ones s.now from (8 * k)) × (result ≤ 8 * k) }
-{
-    let mut n: u32 = 0;
-    let mut i: u32 = 0;
-    while i < k {
-        n += byte_ones(s, from + (i as usize));
-        i += 1;
-    }
-    n
-}
-
-// How many of the first k bits from byte `from` on are set.
-fn count_bits(s: &[u8], from: usize, k: u32) -> u32
-    requires { BitsFit s.now from k }
-    ensures { (result ≡ ones s.now from k) × (result ≤ k) }
-{
-    let mut n: u32 = 0;
-    let mut x: u32 = 0;
-    while x < k {
-        let b = bit_at(s, from, x);
-        n += b as u32;
-        x += 1;
-    }
-    n
-}
-
-// How many bits below the limit are set: eight bytes together, the last few bytes singly, and of a last part of a byte its bits.
+// How many bits below the limit are set: eight bytes together, then the last few bytes, and of a last part of a byte its bits.
 pub fn count(s: &[u8], from: usize, limit: u32) -> u32
     requires { BitsFit s.now from limit }
     ensures { result ≡ ones s.now from limit }
 {
-    let words = limit / 64;
-    let bytes = limit % 64 / 8;
+    let words = (limit / 64) as usize;
+    let bytes = (limit % 64 / 8) as usize;
     let a = count_words(s, from, words);
-    let b = count_bytes(s, from + 8 * (words as usize), bytes);
-    let c = count_bits(s, from + 8 * (words as usize) + (bytes as usize), limit % 8);
+    let b = ones_in(s, from + 8 * words, bytes);
+    let c = low_ones(s, from + 8 * words + bytes, limit % 8);
     a + b + c
 }

@@ -16,10 +16,6 @@ use Rattle.block.specs.Block.{BlockSize, cell, next, linked, zeroed, Off, Kept}
 pub block_below : (B a b o : ℕ) → a < b → o < B → B * a + o < B * b
 block_below B a b o h k = omega (arith, mul-le-mul_left B h, mul-suc B a)
 
--- an address of 32 bits is that of a byte of 64 bits
-pub offset_fits : {B : ℕ} (a : ℕ) → BlockSize B → a < 2 ^ 32 → B * a < 2 ^ 64
-offset_fits a s h = omega (arith, mul-le-mul_right a s.most)
-
 -- and so is one behind it in the block
 pub link_fits : {B r : ℕ} (a : ℕ) → BlockSize B → a < 2 ^ 32 → r ≡ B * a → r + 4 < 2 ^ 64
 link_fits a s h e = omega (arith, mul-le-mul_right a s.most)
@@ -32,9 +28,9 @@ pub linked_inside : {B z m n : ℕ} (a : ℕ) → z ≡ B → m ≡ a → B * a 
 linked_inside a e f h = rw (e, f) h
 
 -- what code stores is the link
-pub linked_is : (B : ℕ) (I J : List ℕ) (a r to : ℕ) → r ≡ B * a → J ≡ splice I r (bytes 4 to) → J ≡ linked B I a to
+pub linked_is : (B : ℕ) (I J : List ℕ) (a r to v : ℕ) → r ≡ B * a → v ≡ to → J ≡ splice I r (bytes 4 v) → J ≡ linked B I a to
 unfolding linked
-linked_is B I J a r to e h = h ∙ ap (λ (k : ℕ). splice I k (bytes 4 to)) e
+linked_is B I J a r to v e q h = h ∙ (λ i. splice I (e i) (bytes 4 (q i)))
 
 -- ---- Kept: the frame
 

@@ -1,15 +1,17 @@
 // Blocks of an image: their addresses and indexes, and the linked block with its next address.
 // Stores are functions of specs/ on the list of bytes; what a store leaves is said by `Kept` over (block, offset).
+// (`BlockSize` is asked where a bare size comes in, here alone: SuperBlock has it as a number, and so has every definition.)
 #![tactic(auto)]
 
 ghost use Rattle.std.specs.Prelude.{◌≡◌, ◌+◌, ◌-◌, ◌*◌, ◌≤◌, ◌<◌, ◌^◌, length};
 ghost use Rattle.block.specs.Block.{BlockSize, next, linked, zeroed};
+ghost use Rattle.block.specs.One.{size_is_one};
 
 // The bytes of a block where the size code is 0.
 pub const BLOCK_SIZE: u32 = 512;
 
 // A block counted from the start of the image.
-#[derive(Clone, Copy)]
+#[derive(Clone, Copy, PartialEq, Eq)]
 pub struct Addr(pub u32);
 
 // A block counted from the start of the data area.
@@ -50,16 +52,15 @@ pub fn clear(img: &mut [u8], size: u32, a: Addr, k: u32)
     requires k_in_bounds { size * a.0 + size * k ≤ length img.old }
     ensures { img.new ≡ zeroed size img.old a.0 k }
 {
-    let at = offset(size, a);
-    let n = offset(size, Addr(k));
-    wire::fill(img, at, n, 0);
+    wire::fill(img, offset(size, a), offset(size, Addr(k)), 0);
 }
 
-// A block of a chain: a next address, then data bytes to the block's end.
+// A block of a chain: a next address, then data bytes to the block's end. Its size is one that a volume's blocks can have.
 #[derive(Clone, Copy)]
 pub struct LinkedBlock {
     pub size: u32,
     pub addr: Addr,
+    ghost known: { BlockSize size } by { size_is_one size },
 }
 
 impl LinkedBlock {
@@ -67,6 +68,7 @@ impl LinkedBlock {
     pub const LINK: u32 = 4;
 
     pub fn new(size: u32, addr: Addr) -> Self
+        requires { BlockSize size }
         ensures { (result.size ≡ size) × (result.addr.0 ≡ addr.0) }
     {
         LinkedBlock { size, addr }
@@ -74,7 +76,6 @@ impl LinkedBlock {
 
     // How many data bytes it has.
     pub fn capacity(self) -> u32
-        requires { BlockSize self.size }
         ensures { result ≡ self.size - 4 }
     {
         self.size - LinkedBlock::LINK
@@ -82,22 +83,16 @@ impl LinkedBlock {
 
     // The next address, 0 at the end of the chain.
     pub fn next_addr(self, img: &[u8]) -> Addr
-        requires block_size { BlockSize self.size }
-        requires size_in_bounds { self.size * self.addr.0 + self.size ≤ length img.now }
+        requires { self.size * self.addr.0 + self.size ≤ length img.now }
         ensures { result.0 ≡ next self.size img.now self.addr.0 }
     {
-        let a = self.addr;
-        let at = offset(self.size, a);
-        Addr(wire::get32(img, at))
+        Addr(wire::get32(img, offset(self.size, self.addr)))
     }
 
     pub fn set_next_addr(self, img: &mut [u8], to: Addr)
-        requires block_size { BlockSize self.size }
-        requires size_in_bounds { self.size * self.addr.0 + self.size ≤ length img.old }
+        requires { self.size * self.addr.0 + self.size ≤ length img.old }
         ensures { img.new ≡ linked self.size img.old self.addr.0 to.0 }
     {
-        let a = self.addr;
-        let at = offset(self.size, a);
-        wire::put(img, at, 4, to.0 as u64);
+        wire::put(img, offset(self.size, self.addr), 4, u64::from(to.0));
     }
 }

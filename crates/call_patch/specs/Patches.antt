@@ -5,7 +5,7 @@ use Rattle.model.specs.Geometry.{Mount, geo_at}
 use Rattle.handle.specs.declared.Handle.{Handle}
 use Rattle.handle.specs.declared.CountedOut.{CountedOut}
 use Rattle.write.specs.Writing.{Target, count_of}
-use Rattle.write.specs.Written.{counted_says}
+use Rattle.limits.specs.Says.{says}
 use Rattle.patch.specs.Patching.{patch_target, patched_image, handle_behind}
 use Rattle.call_volume.specs.Checking.{work_after, check_refusal}
 
@@ -17,7 +17,7 @@ patch_reply M I len h size = given (check_refusal M I len) (patch_target (geo_at
 -- buffer Z.
 pub record Patches (M : Mount) (I W : List ℕ) (h : Handle) (buf : List ℕ) (time : ℕ) (o : CountedOut)
     (J Z : List ℕ) : Type 0 where
-  pub answer : counted_says o.answer ≡ count_of (length buf) (patch_reply M I (length W) h (length buf))
+  pub answer : says o.answer ≡ count_of (length buf) (patch_reply M I (length W) h (length buf))
   pub handle : o.handle ≡ handle_behind h (length buf) (patch_reply M I (length W) h (length buf))
   pub image : J ≡ settle (check_refusal M I (length W)) (patched_image (geo_at M I) I h buf time) I
   pub work : Z ≡ work_after M I W

@@ -1,3 +1,3 @@
+pub mod Starts
 pub mod Opening
-pub mod Paths
 pub mod Handles

@@ -1,11 +1,16 @@
 -- Open, info, list, read and seek (C4 to C8) on any image. Definitions alone.
 -- They are refused in the orders O5, O6 and O7.
-use Rattle.std.specs.Prelude.{◌≡◌, List, [], ◌∷◌, ℕ, ltb, length}
+use Rattle.std.specs.Prelude.{◌≡◌, List, [], ◌∷◌, ℕ, ◌≤◌, ltb, length, take, Result, Ok, Err}
 use Rattle.wire.specs.Be.{zeros, splice}
 use Rattle.wire.specs.Pick.{pick, same}
 use Rattle.block.specs.Block.{Area}
 use Rattle.model.specs.Answers.{Reply, accepted, refused, and_then, first_of, given}
 use Rattle.limits.specs.Refusals.{refusal_number}
+use Rattle.limits.specs.declared.Damage.{Damage}
+use Rattle.limits.specs.declared.Refusal.{Refusal}
+use Rattle.limits.specs.Says.{says}
+use Rattle.super_block.specs.declared.SuperBlock.{SuperBlock}
+use Rattle.super_block.specs.Super.{area_in, Fit}
 use Rattle.model.specs.Render.{padded}
 use Rattle.model.specs.Geometry.{Mount, block_size, area_of, geo_at, open_refusal}
 use Rattle.model.specs.Volume.{file_limit}
@@ -13,13 +18,10 @@ use Rattle.dir_entry.specs.declared.Kind.{Kind}
 use Rattle.dir_entry.specs.declared.Kind.TheVariants.{Dir}
 use Rattle.dir_entry.specs.declared.DirEntry.{DirEntry}
 use Rattle.dir_entry.specs.Entry.{is_file}
-use Rattle.read_dir.specs.declared.Summed.{Summed}
-use Rattle.read_dir.specs.declared.Summed.TheVariants as summed
 use Rattle.read_dir.specs.declared.Listed.{Listed}
-use Rattle.read_dir.specs.declared.Listed.TheVariants as listed
 use Rattle.read_dir.specs.Walk.{walk}
 use Rattle.read_dir.specs.Finds.{sum_from, skip, list_from, records_from}
-use Rattle.path.specs.Path.{slash, real_path, path_refusal, last_name}
+use Rattle.path.specs.Path.{slash, path_limit, real_path, path_refusal, last_name}
 use Rattle.dir.specs.Resolve.{Held, entry_of, open_dir}
 use Rattle.handle.specs.declared.Handle.{Handle}
 use Rattle.handle.specs.declared.CountedOut.{CountedOut}
@@ -28,9 +30,8 @@ use Rattle.file_read.specs.Read.{read_refusal, bytes_read}
 use Rattle.file_read.specs.Post.{CountedIs}
 use Rattle.call_read.specs.declared.OpenOut.{OpenOut}
 use Rattle.call_read.specs.declared.InfoOut.{InfoOut}
-use Rattle.call_read.specs.declared.Listing.{Listing}
-use Rattle.call_read.specs.declared.Listing.TheVariants as listing
-use Rattle.call_volume.specs.Says.{on_answer, IfRefused}
+use Rattle.call_read.specs.declared.About.{About}
+use Rattle.call_read.specs.Says.{on_answer, IfRefused}
 
 -- O5: 1, 2, 3, 4
 unfoldable pub path_call : Mount → List ℕ → List ℕ → List ℕ → ℕ
@@ -42,6 +43,19 @@ size M I = block_size (geo_at M I)
 
 abbrev pub area_at : Mount → List ℕ → Area
 area_at M I = area_of (geo_at M I)
+
+-- What a call by a path begins with: none of these refuses it, s has the numbers of the image's volume, and the full path
+-- stands in the first n bytes of l.
+pub record Starts (M : Mount) (I cwd p l : List ℕ) (s : SuperBlock) (n : ℕ) : Type 0 where
+  pub good : path_call M I cwd p ≡ 0
+  pub fit : Fit s I
+  pub area : area_in s ≡ area_at M I
+  pub within : n ≤ path_limit
+  pub path : take n l ≡ real_path cwd p
+
+abbrev pub StartIs : Mount → List ℕ → List ℕ → List ℕ → List ℕ → Result (SuperBlock × ℕ) Refusal → Type 0
+StartIs M I cwd p l (Ok x) = Starts M I cwd p l x.0 x.1
+StartIs M I cwd p l (Err r) = path_call M I cwd p ≡ refusal_number r
 
 -- ---- open
 
@@ -69,13 +83,6 @@ open_reply M I cwd p = given (path_call M I cwd p) (open_on (area_at M I) I (rea
 -- ---- info
 
 -- C5: what info tells. The name stands in the first len bytes of an array of 255, zeros after it.
-pub record About : Type 0 where
-  pub kind : Kind
-  pub size : ℕ
-  pub time : ℕ
-  pub len : ℕ
-  pub name : List ℕ
-
 abbrev pub about : Kind → ℕ → ℕ → List ℕ → About
 about k s t x = record { kind = k; size = s; time = t; len = length x; name = padded 255 x }
 
@@ -87,9 +94,9 @@ abbrev pub about_entry : List ℕ → Held → Reply About
 about_entry x h = accepted (about h.entry.kind h.entry.size h.entry.time x)
 
 -- C5: the root has no entry of its own, so its size is summed up, its time is 0 and its name empty
-abbrev pub about_root : Summed → Reply About
-about_root (summed.Total s) = accepted (about Dir s 0 [])
-about_root summed.Damaged = refused 17
+abbrev pub about_root : Result ℕ Damage → Reply About
+about_root (Ok s) = accepted (about Dir s 0 [])
+about_root (Err d) = refused 17
 
 -- P6: of the path p, whose full path is l; the root only where p is a slash and nothing else
 unfoldable pub info_on : Area → List ℕ → List ℕ → List ℕ → Reply About
@@ -102,19 +109,15 @@ info_reply M I cwd p = given (path_call M I cwd p) (info_on (area_at M I) I (rea
 -- ---- list
 
 -- C6: the bytes of the records, and the number of the entry behind them
-pub record Counts : Type 0 where
-  pub bytes : ℕ
-  pub next : ℕ
-
-abbrev pub counts_of : Listed → Reply Counts
-counts_of (listed.Records b i) = accepted (record { bytes = b; next = i })
-counts_of listed.Damaged = refused 17
+abbrev pub counts_of : Result Listed Damage → Reply Listed
+counts_of (Ok l) = accepted l
+counts_of (Err d) = refused 17
 
 -- P5: all of the full path l leads to the directory; from entry number i on, into a buffer of cap bytes.
-unfoldable pub list_on : Area → List ℕ → List ℕ → ℕ → ℕ → Reply Counts
+unfoldable pub list_on : Area → List ℕ → List ℕ → ℕ → ℕ → Reply Listed
 list_on A I l i cap = and_then (open_dir A I l) (λ a. counts_of (list_from cap 0 i (skip i (walk A I a))))
 
-unfoldable pub list_reply : Mount → List ℕ → List ℕ → List ℕ → ℕ → ℕ → Reply Counts
+unfoldable pub list_reply : Mount → List ℕ → List ℕ → List ℕ → ℕ → ℕ → Reply Listed
 list_reply M I cwd p i cap = given (path_call M I cwd p) (list_on (area_at M I) I (real_path cwd p) i cap)
 
 -- The bytes of the records, where the directory is found.
@@ -157,17 +160,13 @@ pub record InfoIs (r : Reply About) (o : InfoOut) : Type 0 where
 abbrev pub Informs : Mount → List ℕ → List ℕ → List ℕ → InfoOut → Type 0
 Informs M I cwd p o = InfoIs (info_reply M I cwd p) o
 
--- List: the counts, and the buffer, from buf to out.
-abbrev pub list_says : Listing → Reply Counts
-list_says (listing.Records b i) = accepted (record { bytes = b; next = i })
-list_says (listing.Refused r) = refused (refusal_number r)
-
--- C6, D1: the answer q, and the buffer from buf to out, where rs are the records' bytes. A refusal leaves all of the buffer.
-pub record ListIs (r : Reply Counts) (rs buf out : List ℕ) (q : Listing) : Type 0 where
-  pub answer : list_says q ≡ r
+-- List, C6, D1: the answer q, and the buffer from buf to out, where rs are the records' bytes. A refusal leaves all of the
+-- buffer.
+pub record ListIs (r : Reply Listed) (rs buf out : List ℕ) (q : Result Listed Refusal) : Type 0 where
+  pub answer : says q ≡ r
   pub buffer : out ≡ on_reply r (splice buf 0 rs) buf
 
-abbrev pub Lists : Mount → List ℕ → List ℕ → List ℕ → ℕ → List ℕ → Listing → List ℕ → Type 0
+abbrev pub Lists : Mount → List ℕ → List ℕ → List ℕ → ℕ → List ℕ → Result Listed Refusal → List ℕ → Type 0
 Lists M I cwd p i buf q out =
     ListIs (list_reply M I cwd p i (length buf)) (records_on (area_at M I) I (real_path cwd p) i (length buf)) buf out q
 

@@ -1,9 +1,10 @@
 -- What the answer means, with no code: the bytes are the fewest leading ones, or all; any two answers are equal.
+use Rattle.std.specs.Prelude.{Result, Ok, Err}
 use mathlib.Core.Path.{◌≡◌, sym, ap, ◌∙◌}
 use mathlib.Core.List.{List}
 use mathlib.Core.Bool.{true, false}
 use mathlib.Core.Logic.{◌↔◌}
-use Prim.Native.Nat.{ℕ, zero, suc, ◌-◌, ◌*◌, ◌≤◌, ◌<◌}
+use Prim.Native.Nat.{ℕ, zero, suc, ◌*◌, ◌≤◌, ◌<◌}
 use native.Mathlib.Decide.{dec_lt}
 use native.Mathlib.Omega.{arith}
 use lib.Dec.{leb}
@@ -15,10 +16,10 @@ use Rattle.limits.specs.Refusals.{refusal_number}
 use Rattle.limits.proofs.Numbers.{number_one}
 use Rattle.bitmap_block.specs.Bitmap.{clears}
 use Rattle.bitmap_room.specs.declared.Told.{Told}
-use Rattle.call_room.specs.declared.RoomOut.{RoomOut}
-use Rattle.call_room.specs.declared.RoomOut.TheVariants.{Known, Refused}
 use Rattle.bitmap_room.specs.Search.{clear_in, bytes_read, bytes_for, room_in}
-use Rattle.call_room.specs.Room.{room_says, Asks}
+use Rattle.limits.specs.declared.Refusal.{Refusal}
+use Rattle.limits.specs.Says.{says}
+use Rattle.call_room.specs.Room.{Asks}
 use Rattle.bitmap_room.proofs.Clear.{clear_mono, byte_read, byte_not, read_to, clear_reach}
 
 -- ---- the bytes read
@@ -64,7 +65,7 @@ module _ (l : List ℕ) (from limit k : ℕ) where
 
 -- ---- the answer
 
-module _ (M : Mount) (I : List ℕ) (k : ℕ) (t : Told) (a : Asks M I k (Known t)) where
+module _ (M : Mount) (I : List ℕ) (k : ℕ) (t : Told) (a : Asks M I k (Ok t)) where
   -- it is that of the bitmap
   room_is : t ≡ room_in (geo_at M I) I k
   room_is =
@@ -103,11 +104,11 @@ module _ (M : Mount) (I : List ℕ) (k : ℕ) (t : Told) (a : Asks M I k (Known 
       bytes_is ∙ reads_all I (block_size g * map_at g) (reach g) k (bytes_for (reach g)) (omega (arith, clear_reach g I))
 
 -- any two are equal
-pub room_one : (M : Mount) (I : List ℕ) (k : ℕ) (r q : RoomOut) → Asks M I k r → Asks M I k q → r ≡ q
+pub room_one : (M : Mount) (I : List ℕ) (k : ℕ) (r q : Result Told Refusal) → Asks M I k r → Asks M I k q → r ≡ q
 room_one M I k r q a b = go r q (a ∙ sym b)
   where
-    go : (r q : RoomOut) → room_says r ≡ room_says q → r ≡ q
-    go (Known t) (Known u) e = ap Known (accepted-one t u e)
-    go (Known t) (Refused y) e = let z : ◌≡◌ {A = ℕ} 0 1 = cc in absurd (omega arith)
-    go (Refused x) (Known u) e = let z : ◌≡◌ {A = ℕ} 0 1 = cc in absurd (omega arith)
-    go (Refused x) (Refused y) e = let n : refusal_number x ≡ refusal_number y = cc in ap Refused (number_one x y n)
+    go : (r q : Result Told Refusal) → says r ≡ says q → r ≡ q
+    go (Ok t) (Ok u) e = ap Ok (accepted-one t u e)
+    go (Ok t) (Err y) e = let z : ◌≡◌ {A = ℕ} 0 1 = cc in absurd (omega arith)
+    go (Err x) (Ok u) e = let z : ◌≡◌ {A = ℕ} 0 1 = cc in absurd (omega arith)
+    go (Err x) (Err y) e = let n : refusal_number x ≡ refusal_number y = cc in ap Err (number_one x y n)

@@ -6,21 +6,12 @@ ghost use Rattle.call_room.specs.Room.{Asks};
 
 use bitmap_room::Told;
 use limits::Refusal;
-use super_block::{Opened, SuperBlock};
-
-#[derive(Clone, Copy)]
-pub enum RoomOut {
-    Known(Told),
-    Refused(Refusal),
-}
+use super_block::{Mount, SuperBlock, Volume};
 
 // Whether so many blocks are free on the image's volume. Refusals: 1, 2, 3.
-pub fn room(img: &[u8], k: u32, code: u32, count: u32) -> RoomOut
-    ensures { Asks (mount k code) img.now count result }
+pub fn room(img: &[u8], m: Mount, count: u32) -> Result<Told, Refusal>
+    ensures { Asks (mount m.k m.code) img.now count result }
 {
-    let opened = SuperBlock::read(img, k, code);
-    match opened {
-        Opened::Refused(r) => RoomOut::Refused(r),
-        Opened::At(s) => RoomOut::Known(bitmap_room::room_in(img, s, count)),
-    }
+    let s = SuperBlock::read(img, m)?;
+    Ok(bitmap_room::room_in(Volume { img, s }, count))
 }

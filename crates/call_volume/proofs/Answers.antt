@@ -1,9 +1,9 @@
 -- What the public functions know where they answer: one law for each answer.
+use Rattle.std.specs.Prelude.{Result, Ok, Err}
 use mathlib.Core.Path.{◌≡◌, sym, ap, ◌∙◌, subst}
 use mathlib.Core.List.{List, [], ◌∷◌}
 use mathlib.Core.Logic.{◌⊎◌, inl}
-use Prim.Native.Nat.{ℕ, ◌+◌, ◌-◌, ◌*◌, ◌^◌, ◌≤◌, ◌<◌}
-use native.Mathlib.Nat.{mul-le-mul_left, mul-le-mul_right}
+use Prim.Native.Nat.{ℕ, ◌+◌, ◌-◌, ◌*◌, ◌≤◌, ◌<◌}
 use native.Mathlib.Omega.{arith}
 use lib.ListN.{length}
 use borrow.Author.Tests.{lt-ltb, le-ltb}
@@ -21,51 +21,41 @@ use Rattle.model.specs.Answers.{accepted, refused, first_of, reply}
 use Rattle.limits.specs.Refusals.{refusal_number}
 use Rattle.limits.specs.declared.Refusal.{Refusal}
 use Rattle.limits.specs.declared.Refusal.TheVariants.{Damaged}
-use Rattle.model.specs.Geometry.{Mount, Geo, super_bytes, block_size, map_at, data_at, bit_end, geo_at, format_geo, used_count, open_refusal, format_refusal}
+use Rattle.model.specs.Geometry.{Mount, Geo, super_bytes, block_size, map_at, data_at, bit_end, geo_at, used_count, open_refusal}
 use Rattle.model.proofs.Opens.{when_true, when_false, first_of_head, first_of_tail, first_of_one}
 use Rattle.model.proofs.Replies.{reply-none, settle-none}
 use Rattle.limits.proofs.Numbers.{reply-refused, settle-refused, number_some}
 use Rattle.super_block.specs.declared.SuperBlock.{SuperBlock}
-use Rattle.super_block.specs.declared.Opened.{Opened}
-use Rattle.super_block.specs.declared.Opened.TheVariants.{At, Refused}
-use Rattle.super_block.specs.Super.{geo_of, super_block, Fit, OpenedIs, MadeIs, super_written}
+use Rattle.super_block.specs.Super.{geo_of, Fit, OpenedIs, MadeIs, super_written}
 use Rattle.super_block.proofs.Fits.{placed, opened_fit, opened-geo, made_fit, made_geo, fit_long}
 use Rattle.bitmap_block.specs.Bitmap.{taken}
-use Rattle.limits.specs.declared.Answer.TheVariants as answer
+use Rattle.limits.specs.Says.{says}
 use Rattle.call_volume.specs.declared.Space.{Space}
-use Rattle.call_volume.specs.declared.Space.TheVariants as space
-use Rattle.call_volume.specs.Says.{space_says}
 use Rattle.call_volume.specs.Format.{formatted, Formats, overused, usage_refusal, sizes_of, Uses}
 
 -- ---- an opened volume
 
-module _ (M : Mount) (I : List ℕ) (r : Opened) (o : OpenedIs M I r) where
-  module _ (s : SuperBlock) (e : r ≡ At s) where
-    opens : (open_refusal M I ≡ 0) × (s ≡ super_block (geo_at M I))
-    opens = subst (OpenedIs M I) e o
-
+module _ (M : Mount) (I : List ℕ) where
+  module _ (s : SuperBlock) (o : OpenedIs M I (Ok s)) where
     pub opened_at : Fit s I
-    opened_at = opened_fit M I s opens.0 opens.1
-
-    pub opened_size : s.size ≡ block_size (geo_of s)
-    opened_size = opened_at.size
+    opened_at = opened_fit M I s o.0 o.1
 
     -- usage, from the answer that the numbers and the count give
-    pub usage_sized : (u : ℕ) (q : Space) → u ≡ used_count (geo_of s) I → space_says q ≡ reply (overused (geo_of s) u) (sizes_of (geo_of s) u) → Uses M I q
+    pub usage_sized : (u : ℕ) (q : Result Space Refusal) → u ≡ used_count (geo_of s) I
+        → says q ≡ reply (overused (geo_of s) u) (sizes_of (geo_of s) u) → Uses M I q
     unfolding usage_refusal
     usage_sized u q f h =
-        let g : geo_of s ≡ geo_at M I = opened-geo M I s opens.1 in
+        let g : geo_of s ≡ geo_at M I = opened-geo M I s o.1 in
         let v : u ≡ used_count (geo_at M I) I = f ∙ ap (λ (x : Geo). used_count x I) g in
         let t : overused (geo_of s) u ≡ overused (geo_at M I) (used_count (geo_at M I) I) = ap (λ (x : Geo). overused x u) g ∙ ap (overused (geo_at M I)) v in
         let z : sizes_of (geo_of s) u ≡ sizes_of (geo_at M I) (used_count (geo_at M I) I) = ap (λ (x : Geo). sizes_of x u) g ∙ ap (sizes_of (geo_at M I)) v in
         let w : first_of (open_refusal M I ∷ (overused (geo_at M I) (used_count (geo_at M I) I) ∷ [])) ≡ overused (geo_at M I) (used_count (geo_at M I) I)
-        = first_of_tail _ _ opens.0 ∙ first_of_one (overused (geo_at M I) (used_count (geo_at M I) I)) in
+        = first_of_tail _ _ o.0 ∙ first_of_one (overused (geo_at M I) (used_count (geo_at M I) I)) in
         h ∙ ap (λ (k : ℕ). reply k (sizes_of (geo_of s) u)) (t ∙ sym w) ∙ ap (reply _) z
 
-  pub usage_refused : (x : Refusal) → r ≡ Refused x → Uses M I (space.Refused x)
+  pub usage_refused : (x : Refusal) → OpenedIs M I (Err x) → Uses M I (Err x)
   unfolding usage_refusal
-  usage_refused x e =
-      let f : open_refusal M I ≡ refusal_number x = subst (OpenedIs M I) e o in
+  usage_refused x f =
       let h : first_of (open_refusal M I ∷ (overused (geo_at M I) (used_count (geo_at M I) I) ∷ [])) ≡ refusal_number x
       = first_of_head _ _ (omega (arith, f, number_some x)) ∙ f in
       sym (reply-refused _ x h)
@@ -79,31 +69,21 @@ sizes_over g u h = sym (reply-refused (sizes_of g u) Damaged (when_true 17 (lt-l
 pub sizes_in : (s : SuperBlock) (u a t : ℕ) → s.size ≡ block_size (geo_of s) → u ≤ s.blocks → a ≡ s.blocks * s.size → t ≡ u * s.size
     → accepted (record { size = a; used = t; free = a - t }) ≡ reply (overused (geo_of s) u) (sizes_of (geo_of s) u)
 unfolding overused sizes_of
-sizes_in s u a t e h p q = rw (p, q, e) (sym (reply-none _ (when_false 17 (le-ltb s.blocks u h))))
-
--- the numbers of bytes have eight, and what is used is no more than all
-pub product_fits : (a b : ℕ) → a < 2 ^ 32 → b < 2 ^ 32 → a * b < 2 ^ 64
-product_fits a b p q = let h : b ≤ 2 ^ 32 = omega arith in omega (arith, mul-le-mul_left a h)
-
-pub product_le : (n u b m v : ℕ) → u ≤ n → m ≡ n → v ≡ u → v * b ≤ m * b
-product_le n u b m v h p q = let k : v ≤ m = omega arith in mul-le-mul_right b k
+sizes_in s u a t e h p q =
+    let told : reply (overused (geo_of s) u) (sizes_of (geo_of s) u) ≡ accepted (sizes_of (geo_of s) u) = reply-none _ (when_false 17 (le-ltb s.blocks u h)) in
+    rw (p, q, e) (search (sym told))
 
 -- ---- format
 
-module _ (M : Mount) (I : List ℕ) (r : Opened) (o : MadeIs M (length I) r) where
-  pub format_refused : (x : Refusal) → r ≡ Refused x → Formats M I (answer.Refused x) I
-  format_refused x e =
-      let f : format_refusal M (length I) ≡ refusal_number x = subst (MadeIs M (length I)) e o in
-      record { answer = sym (reply-refused tt x f); image = sym (settle-refused _ I x f) }
+module _ (M : Mount) (I : List ℕ) where
+  pub format_refused : (x : Refusal) → MadeIs M (length I) (Err x) → Formats M I (Err x) I
+  format_refused x f = record { answer = sym (reply-refused tt x f); image = sym (settle-refused _ I x f) }
 
-  module _ (s : SuperBlock) (e : r ≡ At s) where
-    makes : (format_refusal M (length I) ≡ 0) × (s ≡ super_block (format_geo M (length I)))
-    makes = subst (MadeIs M (length I)) e o
-
+  module _ (s : SuperBlock) (makes : MadeIs M (length I) (Ok s)) where
     pub made_at : Fit s I
     made_at = made_fit M I s makes.0 makes.1
 
-    pub format_made : (J : List ℕ) → J ≡ formatted (geo_of s) I → Formats M I answer.Success J
+    pub format_made : (J : List ℕ) → J ≡ formatted (geo_of s) I → Formats M I (Ok tt) J
     format_made J h =
         record {
           answer = sym (reply-none tt makes.0);
@@ -168,4 +148,4 @@ module _ (s : SuperBlock) (I : List ℕ) (f : Fit s I) where
         let x : J ≡ super_written (geo_of s) I (data_at (geo_of s)) = p ∙ ap (super_written (geo_of s) I) f.area in
         let y : L ≡ zeroed (block_size (geo_of s)) (super_written (geo_of s) I (data_at (geo_of s))) (map_at (geo_of s)) (data_at (geo_of s) - map_at (geo_of s))
         = q ∙ ap (λ (x : List ℕ). zeroed s.size x s.bitmap.0 (s.area.0 - s.bitmap.0)) x ∙ rw (f.size, f.area, f.bitmap) in
-        e ∙ ap (λ (x : List ℕ). taken (geo_of s) x 0) y
+        search (e ∙ ap (λ (x : List ℕ). taken (geo_of s) x 0) y)

@@ -1,5 +1,6 @@
 -- What the check knows where it answers: one law for each answer; and what the number of a checked volume means.
-use mathlib.Core.Path.{◌≡◌, refl, sym, ap, ◌∙◌, subst}
+use Rattle.std.specs.Prelude.{Result, Ok, Err}
+use mathlib.Core.Path.{◌≡◌, refl, sym, ap, ◌∙◌}
 use mathlib.Core.Bool.{Bool, true, false, not}
 use mathlib.Core.Logic.{◌⊎◌, inl, inr}
 use mathlib.Core.List.{List, [], ◌∷◌}
@@ -21,20 +22,16 @@ use Rattle.model.proofs.Opens.{when_true, when_false, when-none, first_of_head, 
 use Rattle.model.proofs.Replies.{settle-none}
 use Rattle.limits.proofs.Numbers.{settle-refused, number_some, number_one}
 use Rattle.super_block.specs.declared.SuperBlock.{SuperBlock}
-use Rattle.super_block.specs.declared.Opened.{Opened}
-use Rattle.super_block.specs.declared.Opened.TheVariants as opened
 use Rattle.super_block.specs.Super.{area_in, geo_of, Fit, OpenedIs}
 use Rattle.super_block.proofs.Fits.{placed, opened_fit, opened-geo}
 use Rattle.check_bitmap.specs.Tally.{mark_bytes, mark_long}
 use Rattle.thm_survey.specs.Whole.{whole}
 use Rattle.thm_survey.proofs.Wholes.{whole_sound, whole_complete}
-use Rattle.call_volume.specs.Checking.{check_call, work_after, Decides, Checks, check_refusal, CheckedIs, Checked}
-use Rattle.limits.specs.declared.Answer.{Answer}
-use Rattle.limits.specs.declared.Answer.TheVariants as answer
+use Rattle.call_volume.specs.Checking.{check_call, work_after, Decides, Checks, check_refusal, Checked}
 
 -- ---- an opened volume
 
-module _ (M : Mount) (I : List ℕ) (s : SuperBlock) (o : OpenedIs M I (opened.At s)) where
+module _ (M : Mount) (I : List ℕ) (s : SuperBlock) (o : OpenedIs M I (Ok s)) where
   pub fit_opened : Fit s I
   fit_opened = opened_fit M I s o.0 o.1
 
@@ -48,7 +45,7 @@ module _ (M : Mount) (I : List ℕ) (s : SuperBlock) (o : OpenedIs M I (opened.A
     mark_long_lem : m ≡ mark_long (geo_at M I)
     mark_long_lem = e ∙ ap (λ (x : SuperBlock). mark_bytes (area_in x)) o.1
 
-    pub call_short : length W < m → Checked M I W (opened.Refused ShortWork) W
+    pub call_short : length W < m → Checked M I W (Err ShortWork) W
     unfolding check_refusal check_call work_after
     call_short h =
         let c : check_call M I (length W) ≡ 16
@@ -69,23 +66,19 @@ module _ (M : Mount) (I : List ℕ) (s : SuperBlock) (o : OpenedIs M I (opened.A
         unfolding work_after
         work_is = rw (settle-none _ W call_none) (search (z ∙ ap (λ (k : ℕ). splice W 0 (zeros k)) (sym e ∙ mark_long_lem)))
 
-        pub call_whole : b ≡ true → Checked M I W (opened.At s) Z
+        pub call_whole : b ≡ true → Checked M I W (Ok s) Z
         call_whole y = record { answer = (number_is ∙ when_false 17 (ap not y), o.1); work = work_is }
 
-        pub call_damaged : b ≡ false → Checked M I W (opened.Refused Damaged) Z
+        pub call_damaged : b ≡ false → Checked M I W (Err Damaged) Z
         call_damaged y = record { answer = number_is ∙ when_true 17 (ap not y); work = work_is }
 
 -- ---- a refused one
 
-pub call_refused : (M : Mount) (I W : List ℕ) (p : Opened) (r : Refusal) → OpenedIs M I p → p ≡ opened.Refused r → Checked M I W (opened.Refused r) W
+pub call_refused : (M : Mount) (I W : List ℕ) (r : Refusal) → OpenedIs M I (Err r) → Checked M I W (Err r) W
 unfolding check_refusal check_call work_after
-call_refused M I W p r o e =
-    let f : open_refusal M I ≡ refusal_number r = subst (OpenedIs M I) e o in
+call_refused M I W r f =
     let c : check_call M I (length W) ≡ refusal_number r = first_of_head _ _ (omega (arith, f, number_some r)) ∙ f in
     record { answer = first_of_head _ _ (omega (arith, c, number_some r)) ∙ c; work = sym (settle-refused _ _ r c) }
-
-pub opened_is : (M : Mount) (I : List ℕ) (p : Opened) (s : SuperBlock) → OpenedIs M I p → p ≡ opened.At s → OpenedIs M I (opened.At s)
-opened_is M I p s o e = subst (OpenedIs M I) e o
 
 -- ---- what the number means
 
@@ -126,23 +119,20 @@ module _ (M : Mount) (I : List ℕ) (len : ℕ) (b : Bytes I) where
           let k : check_refusal M I len ≡ 17 = unfold check_refusal in first_of_tail _ _ z ∙ first_of_one _ ∙ when_true 17 (ap not y) in
           sym e ∙ k ∙ sym (first_of_tail _ _ z ∙ first_of_one 17)
 
-module _ (M : Mount) (I W Z : List ℕ) (p : Opened) (h : Checked M I W p Z) (b : Bytes I) where
-  pub check_success : (s : SuperBlock) → p ≡ opened.At s → Checks M I W answer.Success Z
-  check_success s e =
-      let a = subst (CheckedIs M I (length W)) e h.answer in
-      let c = check_passed M I (length W) b a.0 in
-      record { answer = (c.0, c.2); work = h.work }
+module _ (M : Mount) (I W Z : List ℕ) (b : Bytes I) where
+  pub check_success : (s : SuperBlock) → Checked M I W (Ok s) Z → Checks M I W (Ok tt) Z
+  check_success s h = let c = check_passed M I (length W) b h.answer.0 in record { answer = (c.0, c.2); work = h.work }
 
-  pub check_refusal_lem : (r : Refusal) → p ≡ opened.Refused r → Checks M I W (answer.Refused r) Z
-  check_refusal_lem r e = record { answer = check_refused M I (length W) b r (subst (CheckedIs M I (length W)) e h.answer); work = h.work }
+  pub check_refusal_lem : (r : Refusal) → Checked M I W (Err r) Z → Checks M I W (Err r) Z
+  check_refusal_lem r h = record { answer = check_refused M I (length W) b r h.answer; work = h.work }
 
 -- ---- any two outcomes are equal
 
-decided_one : (M : Mount) (I : List ℕ) (len : ℕ) (r q : Answer) → Decides M I len r → Decides M I len q → r ≡ q
-decided_one M I len answer.Success answer.Success a c = refl
-decided_one M I len answer.Success (answer.Refused y) a c = absurd (c.1 a.0 a.1)
-decided_one M I len (answer.Refused x) answer.Success a c = absurd (a.1 c.0 c.1)
-decided_one M I len (answer.Refused x) (answer.Refused y) a c = ap answer.Refused (number_one x y (a.0 ∙ sym c.0))
+decided_one : (M : Mount) (I : List ℕ) (len : ℕ) (r q : Result (Unit {0}) Refusal) → Decides M I len r → Decides M I len q → r ≡ q
+decided_one M I len (Ok u) (Ok v) a c = refl
+decided_one M I len (Ok u) (Err y) a c = absurd (c.1 a.0 a.1)
+decided_one M I len (Err x) (Ok u) a c = absurd (a.1 c.0 c.1)
+decided_one M I len (Err x) (Err y) a c = ap Err (number_one x y (a.0 ∙ sym c.0))
 
-pub check_one : (M : Mount) (I W Z Y : List ℕ) (r q : Answer) → Checks M I W r Z → Checks M I W q Y → (r ≡ q) × (Z ≡ Y)
+pub check_one : (M : Mount) (I W Z Y : List ℕ) (r q : Result (Unit {0}) Refusal) → Checks M I W r Z → Checks M I W q Y → (r ≡ q) × (Z ≡ Y)
 check_one M I W Z Y r q a c = (decided_one M I (length W) r q a.answer c.answer, a.work ∙ sym c.work)

@@ -1,4 +1,5 @@
 -- An image that format accepts is a well-formed volume with an empty root.
+use Rattle.std.specs.Prelude.{Result}
 use mathlib.Core.Path.{◌≡◌, refl, sym, ap, ◌∙◌, subst}
 use Rattle.model.proofs.Blank.{formatted as blank-volume}
 use mathlib.Core.List.{List, [], ◌∷◌, ◌++◌}
@@ -28,8 +29,8 @@ use Rattle.super_block.specs.Super.{super_block, super_written, Fit}
 use Rattle.super_block.proofs.Fits.{fit_of}
 use Rattle.bitmap_block.specs.Bitmap.{mark, taken}
 use Rattle.bitmap_block.proofs.Stores.{mark_is, top_taken, mark-taken, mark-taken_other, cell-taken, sound_taken}
-use Rattle.limits.specs.declared.Answer.{Answer}
-use Rattle.call_volume.specs.Says.{says}
+use Rattle.limits.specs.Says.{says}
+use Rattle.limits.specs.declared.Refusal.{Refusal}
 use Rattle.call_volume.specs.Format.{formatted, Formats}
 use Rattle.call_volume.proofs.Answers.{bitmap_in, long-J, laid_fit, top-L, used-L, root_in}
 
@@ -97,7 +98,7 @@ module _ (g : Geo) (I : List ℕ) (sound : Sound g (length I)) where
       marks
 
 -- An image that format accepts is well formed: the numbers are those of the whole image, and the tree is the empty one.
-pub format_well_formed : (M : Mount) (I : List ℕ) (r : Answer) (J : List ℕ) → Formats M I r J → says r ≡ accepted tt
+pub format_well_formed : (M : Mount) (I : List ℕ) (r : Result (Unit {0}) Refusal) (J : List ℕ) → Formats M I r J → says r ≡ accepted tt
     → (w : WellFormed M J) × (w.tree ≡ blank max_depth (data_at (format_geo M (length I))))
 format_well_formed M I r J f e =
     let z : format_refusal M (length I) ≡ 0 = reply_zero _ tt tt (sym f.answer ∙ e) in

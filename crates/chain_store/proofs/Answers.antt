@@ -1,17 +1,19 @@
 -- What the code needs and gives: one law for each place.
 use mathlib.Core.Path.{◌≡◌, sym, ap, ◌∙◌}
+use mathlib.Core.Bool.{Bool, true, false}
 use mathlib.Core.List.{List}
 use Prim.Native.Nat.{ℕ, suc, ◌+◌, ◌-◌, ◌≤◌, ◌<◌}
 use native.Mathlib.Omega.{arith}
 use lib.ListN.{length}
-use borrow.Author.Tests.{eq-eqb, ne_eqb, le-leb, lt-leb, lt-ltb, le-ltb}
+use borrow.Author.Tests.{eq-eqb, ne_eqb, le-leb, lt-leb}
 use Rattle.wire.proofs.Picks.{pick_true, pick_false}
-use Rattle.block.specs.Block.{next}
-use Rattle.model.specs.Geometry.{Geo, data_at, bit_end, used_count}
+use Rattle.block.specs.Block.{Area, next}
+use Rattle.model.specs.Geometry.{Geo, area_of, block_size, bit_end, used_count}
 use Rattle.super_block.specs.declared.SuperBlock.{SuperBlock}
-use Rattle.super_block.specs.Super.{geo_of, Fit}
-use Rattle.super_block.proofs.Fits.{placed, fit_long}
+use Rattle.super_block.specs.Super.{area_in, geo_of, Fit}
+use Rattle.super_block.proofs.Fits.{fit_long, area_is}
 use Rattle.bitmap_block.specs.Bitmap.{freed}
+use Rattle.read_dir.specs.Walk.{in_area}
 use Rattle.chain_store.specs.Chain.{released, chain_freed}
 
 pub still_fit : (s : SuperBlock) (I J : List ℕ) → Fit s I → length J ≡ length I → Fit s J
@@ -50,28 +52,32 @@ pub index_inside : (s : SuperBlock) (I : List ℕ) (a x : ℕ) → Fit s I → x
     → s.area.0 + x < bit_end (geo_of s)
 index_inside s I a x f e h k m = omega (arith, index_end s I a x f e h k m)
 
--- ---- a chain freed: what is left to free is what was to be freed
+-- ---- a chain freed: after i of k blocks, what is left to free is what was to be freed
 
-module _ (s : SuperBlock) (I J R : List ℕ) (left b : ℕ) (f : Fit s I) (v : chain_freed (geo_of s) J left b ≡ R) where
-  pub chain_end : left ≤ 0 → J ≡ R
+pub chain_begins : (g : Geo) (I : List ℕ) (k a : ℕ) → chain_freed g I (k - 0) a ≡ chain_freed g I k a
+chain_begins g I k a = let e : k - 0 ≡ k = omega arith in ap (λ (n : ℕ). chain_freed g I n a) e
+
+module _ (s : SuperBlock) (I J R : List ℕ) (k i b : ℕ) (f : Fit s I) (v : chain_freed (geo_of s) J (k - i) b ≡ R) where
+  pub chain_end : k ≤ i → J ≡ R
   unfolding chain_freed
-  chain_end h = let e : left ≡ 0 = omega arith in sym (ap (λ (k : ℕ). chain_freed (geo_of s) J k b) e) ∙ v
+  chain_end h = let e : k - i ≡ 0 = omega arith in sym (ap (λ (n : ℕ). chain_freed (geo_of s) J n b) e) ∙ v
 
-  step : 0 < left → chain_freed (geo_of s) J left b ≡ chain_freed (geo_of s) J (suc (left - 1)) b
-  step h = let e : left ≡ suc (left - 1) = omega arith in ap (λ (k : ℕ). chain_freed (geo_of s) J k b) e
+  module _ (h : i < k) where
+    step : chain_freed (geo_of s) J (k - i) b ≡ chain_freed (geo_of s) J (suc (k - (i + 1))) b
+    step = let e : k - i ≡ suc (k - (i + 1)) = omega arith in ap (λ (n : ℕ). chain_freed (geo_of s) J n b) e
 
-  pub chain_low : (d : ℕ) → d ≡ s.area.0 → 0 < left → b < d → J ≡ R
-  unfolding chain_freed
-  chain_low d q h l = sym (step h ∙ pick_false _ _ (rw (lt-leb (data_at (geo_of s)) b (omega (arith, f.area))))) ∙ v
+    module _ (t : Bool) (e : t ≡ in_area (area_in s) J b) where
+      inside : in_area (area_of (geo_of s)) J b ≡ t
+      inside = sym (e ∙ ap (λ (A : Area). in_area A J b) (area_is f))
 
-  pub chain_high : 0 < left → s.blocks ≤ b → J ≡ R
-  unfolding chain_freed
-  chain_high h l =
-      sym (step h ∙ pick_false _ _ (rw (le-leb (data_at (geo_of s)) b (omega (arith, f.area, (placed f).some_data)), le-ltb b s.blocks l))) ∙ v
+      pub chain_out : t ≡ false → J ≡ R
+      unfolding chain_freed
+      chain_out q = sym (step ∙ pick_false _ _ (inside ∙ q)) ∙ v
 
-  pub chain_more : (d : ℕ) → d ≡ s.area.0 → 0 < left → d ≤ b → b < s.blocks → (L : List ℕ) (B a to : ℕ)
-      → to ≡ next B J a → B ≡ s.size → a ≡ b → L ≡ released (geo_of s) J b → chain_freed (geo_of s) L (left - 1) to ≡ R
-  unfolding chain_freed
-  chain_more d q h l m L B a to x k y z =
-      (λ i. chain_freed (geo_of s) (z i) (left - 1) ((x ∙ (λ j. next ((k ∙ f.size) j) J (y j))) i))
-      ∙ sym (step h ∙ pick_true _ _ (rw (le-leb (data_at (geo_of s)) b (omega (arith, f.area)), lt-ltb b s.blocks m))) ∙ v
+      pub chain_more : t ≡ true → (L : List ℕ) (to : ℕ) → to ≡ next s.size J b → L ≡ released (geo_of s) J b
+          → chain_freed (geo_of s) L (k - (i + 1)) to ≡ R
+      unfolding chain_freed
+      chain_more q L to x z =
+          let more : List ℕ = chain_freed (geo_of s) (released (geo_of s) J b) (k - (i + 1)) (next (block_size (geo_of s)) J b) in
+          let first : chain_freed (geo_of s) J (suc (k - (i + 1))) b ≡ more = search (pick_true more J (inside ∙ q)) in
+          (λ j. chain_freed (geo_of s) (z j) (k - (i + 1)) ((x ∙ ap (λ (B : ℕ). next B J b) f.size) j)) ∙ sym (step ∙ first) ∙ v

@@ -1,12 +1,13 @@
 // Giving blocks back: one block of the data area, and the blocks of a chain. Delete and write share it.
+// (Image and numbers are lent apart, as bitmap_block says.)
 #![tactic(auto)]
 
 ghost use Rattle.std.specs.Prelude.{◌≡◌, ◌≤◌, ◌<◌};
 ghost use Rattle.super_block.specs.Super.{geo_of, Fit};
 ghost use Rattle.chain_store.specs.Chain.{released, chain_freed};
 
-use block::{Addr, LinkedBlock};
-use super_block::SuperBlock;
+use block::Addr;
+use super_block::{SuperBlock, Volume};
 
 // Gives block a of the data area back. A count of 0, which no volume has, cannot be lowered; and a block without a bit, which
 // no volume reaches, cannot be marked.
@@ -33,19 +34,14 @@ pub fn free_chain(img: &mut [u8], s: SuperBlock, a: Addr, k: u32)
     requires { Fit s img.old }
     ensures { img.new ≡ chain_freed (geo_of s) img.old k a.0 }
 {
-    let d = s.area;
     let mut b = a;
-    let mut left = k;
-    while 0 < left {
-        if b.0 < d.0 {
+    for _ in 0..k {
+        let v = Volume { img, s };
+        if !v.has(b) {
             return;
         }
-        if s.blocks <= b.0 {
-            return;
-        }
-        let next = LinkedBlock::new(s.size, b).next_addr(img);
+        let next = v.next_addr(b);
         release(img, s, b);
         b = next;
-        left -= 1;
     }
 }

@@ -1,35 +1,19 @@
 -- What the code knows where it answers, by the struct's own numbers.
 use mathlib.Core.Path.{◌≡◌, sym, ap, ◌∙◌}
-use mathlib.Core.Bool.{Bool, true, false, not}
+use mathlib.Core.Bool.{Bool, true, false}
 use mathlib.Core.List.{List}
 use Prim.Native.Nat.{ℕ, ◌+◌, ◌-◌, ◌*◌, ◌/◌, ◌^◌, ◌≤◌, ◌<◌, min}
 use native.Mathlib.Nat.{mul-add}
 use native.Mathlib.Omega.{arith}
-use lib.Dec.{eqb}
 use lib.ListN.{length, take, drop}
 use lib.Seq.{length-take-le}
-use borrow.Author.Tests.{not-true, not-false}
 use Rattle.wire.specs.Pick.{same, zero_from}
 use Rattle.bits.specs.Bit.{ones}
 use Rattle.bits.proofs.Bits.{ones-le}
-use Rattle.model.specs.Geometry.{block_size, map_at, data_at, set_bits, used_count}
 use Rattle.super_block.specs.declared.SuperBlock.{SuperBlock}
 use Rattle.super_block.specs.Super.{area_in, geo_of, Fit}
 use Rattle.super_block.proofs.Fits.{placed, from_is, area_is, area_inside, few_blocks}
 use Rattle.check_bitmap.specs.Tally.{mark_bytes, map_from, map_long, mark_long, both_long, agreed}
-
--- ---- the rest of the superblock
-
-module _ {s : SuperBlock} {I : List ℕ} (f : Fit s I) where
-  pub head_in : 18 ≤ s.size
-  head_in = omega (arith, f.known.least)
-
-  pub rest_in : {at : ℕ} → at ≡ s.size * s.addr.0 → at + 18 + (s.size - 18) ≤ length I
-  rest_in e = omega (arith, f.top, head_in)
-
-pub rest_tested : (I : List ℕ) (B k at : ℕ) (r : Bool) → at ≡ B * k → r ≡ zero_from I (at + 18) (B - 18)
-    → r ≡ zero_from I (B * k + 18) (B - 18)
-rest_tested I B k at r e f = f ∙ ap (λ (x : ℕ). zero_from I (x + 18) (B - 18)) e
 
 -- ---- the areas
 
@@ -60,19 +44,7 @@ module _ {s : SuperBlock} {I : List ℕ} (f : Fit s I) where
     pub sum_fits : {c : ℕ} → c ≡ ones I at s.bits → s.area.0 + c < 2 ^ 32
     sum_fits {c} h = omega (arith, ones-le I at s.bits, (placed f).few_bits, area_inside f, few_blocks f, f.known.most)
 
-    pub count_tested : {c u : ℕ} → c ≡ ones I at s.bits → u ≡ used_count (geo_of s) I
-        → eqb u (s.area.0 + c) ≡ eqb (used_count (geo_of s) I) (data_at (geo_of s) + set_bits I (geo_of s))
-    count_tested {c} {u} h k =
-        let g = geo_of s in
-        let x : at ≡ block_size g * map_at g = from_is f e in
-        let z : c ≡ set_bits I g = h ∙ ap (λ (w : ℕ). ones I w s.bits) x ∙ ap (ones I (block_size g * map_at g)) f.bits in
-        ap (λ (w : ℕ). eqb w (s.area.0 + c)) k ∙ ap (λ (w : ℕ). eqb (used_count g I) (w + c)) f.area ∙ ap (λ (w : ℕ). eqb (used_count g I) (data_at g + w)) z
-
 -- ---- the bitmap: m bytes of marks in the work buffer W, c of them as the bitmap has them too
-
-pub marks_long : {m c : ℕ} (s : SuperBlock) (W : List ℕ) → m ≡ mark_bytes (area_in s) → mark_bytes (area_in s) ≤ length W → c ≡ min m (s.bits / 8)
-    → c ≡ length (take c W)
-marks_long {m} {c} s W e h q = sym (length-take-le c W (omega arith))
 
 module _ {s : SuperBlock} {I : List ℕ} {m c at : ℕ} (W : List ℕ) (f : Fit s I) (h : mark_bytes (area_in s) ≤ length W)
     (e : m ≡ mark_bytes (area_in s)) (ec : c ≡ min m (s.bits / 8)) (a : at ≡ s.size * s.bitmap.0) where
@@ -81,12 +53,6 @@ module _ {s : SuperBlock} {I : List ℕ} {m c at : ℕ} (W : List ℕ) (f : Fit 
 
   pub marks_in : at + length (take c W) ≤ length I
   marks_in = let p = placed f in omega (arith, took)
-
-  pub both_in : c ≤ m
-  both_in = omega arith
-
-  pub left_in : c + (m - c) ≤ length W
-  left_in = omega arith
 
   at_is : at ≡ map_from (geo_of s)
   at_is = from_is f a
@@ -111,28 +77,25 @@ module _ {s : SuperBlock} {I : List ℕ} {m c at : ℕ} (W : List ℕ) (f : Fit 
   left_over : {b : Bool} → b ≡ zero_from W c (m - c) → b ≡ zero_from W (both_long (geo_of s)) (mark_long (geo_of s) - both_long (geo_of s))
   left_over q = q ∙ (λ i. zero_from W (c_is i) (m_is i - c_is i))
 
-  module _ (b : Bool) (q : b ≡ same (take (length (take c W)) (drop at I)) (take c W)) where
-    pub marks_differ : not b ≡ true → false ≡ agreed (geo_of s) I W
+  -- and the bytes past the marks the third
+  module _ {b : Bool} (q : b ≡ same (take (length (take c W)) (drop at I)) (take c W)) where
+    pub marks_differ : b ≡ false → false ≡ agreed (geo_of s) I W
     unfolding agreed
-    marks_differ t = simp (sym (compared q), not-true b t)
+    marks_differ t = simp (sym (compared q), t)
 
-    module _ (t : not b ≡ false) (v : Bool) (w : v ≡ zero_from W c (m - c)) where
-      pub marks_bare : not v ≡ true → false ≡ agreed (geo_of s) I W
+    module _ (t : b ≡ true) {v : Bool} (w : v ≡ zero_from W c (m - c)) where
+      pub marks_bare : v ≡ false → false ≡ agreed (geo_of s) I W
       unfolding agreed
-      marks_bare y = simp (sym (compared q), not-false b t, sym (left_over w), not-true v y)
+      marks_bare y = simp (sym (compared q), t, sym (left_over w), y)
 
-      -- the bytes past the marks
-      pub marks_tested : not v ≡ false → {end : ℕ} → end ≡ s.size * s.area.0 → {r : Bool} → r ≡ zero_from I (at + c) (end - (at + c)) → r ≡ agreed (geo_of s) I W
+      pub marks_tested : v ≡ true → {end : ℕ} → end ≡ s.size * s.area.0 → {r : Bool} → r ≡ zero_from I (at + c) (end - (at + c)) → r ≡ agreed (geo_of s) I W
       unfolding agreed
       marks_tested y {end} d {r} z =
           let g = geo_of s in
           let x : at + c ≡ map_from g + both_long g = λ i. at_is i + c_is i in
           let k : end - (at + c) ≡ map_long g - both_long g = past_long a (d ∙ sym (map_end f)) (long_is f) c_is in
           z ∙ ap (λ (w : ℕ). zero_from I w (end - (at + c))) x ∙ ap (zero_from I (map_from g + both_long g)) k
-          ∙ simp (sym (compared q), not-false b t, sym (left_over w), not-false v y)
-
-  pub past_fits : at + c < 2 ^ 64
-  past_fits = omega (arith, marks_in, took, f.sound.limit)
+          ∙ simp (sym (compared q), t, sym (left_over w), y)
 
   module _ {end : ℕ} (d : end ≡ s.size * s.area.0) where
     pub past_in : at + c ≤ end

@@ -27,4 +27,5 @@ both_long g = min (mark_long g) (map_long g)
 unfoldable pub agreed : Geo → List ℕ → List ℕ → Bool
 agreed g I W =
     same (take (both_long g) (drop (map_from g) I)) (take (both_long g) W)
-    && (zero_from W (both_long g) (mark_long g - both_long g) && zero_from I (map_from g + both_long g) (map_long g - both_long g))
+    && (zero_from W (both_long g) (mark_long g - both_long g)
+    && zero_from I (map_from g + both_long g) (map_long g - both_long g))

@@ -3,24 +3,18 @@ use mathlib.Core.Path.{◌≡◌, refl, sym, ap, ◌∙◌, subst}
 use mathlib.Core.Bool.{Bool, true, false}
 use mathlib.Core.Option.{Option, none, some}
 use mathlib.Core.List.{List, [], ◌∷◌}
-use Prim.Native.Nat.{ℕ, suc, ◌+◌, ◌-◌, ◌*◌, ◌≤◌, ◌<◌}
+use Prim.Native.Nat.{ℕ, suc, ◌+◌, ◌-◌, ◌≤◌, ◌<◌}
 use native.Mathlib.Omega.{arith}
 use lib.Dec.{eqb, leb}
-use lib.ListN.{length}
 use borrow.Author.Tests.{eq-eqb, ne_eqb, le-leb, lt-leb}
 use Rattle.wire.specs.Pick.{pick}
 use Rattle.wire.proofs.Picks.{pick_true, pick_false}
 use Rattle.block.specs.Block.{Area, next}
-use Rattle.block.proofs.Blocks.{linked_inside}
 use Rattle.model.specs.Tree.{Cell, then}
 use Rattle.model.proofs.Lists.{then_some, then-none}
-use Rattle.super_block.specs.declared.SuperBlock.{SuperBlock}
-use Rattle.super_block.specs.Super.{area_in, Fit}
-use Rattle.super_block.proofs.Fits.{fit_inside}
 use Rattle.thm_survey.specs.Survey.{Claimed, with_found, claim, cells_of, chain_of, seen_of}
-use Rattle.check_bitmap.specs.Tally.{mark_bytes}
-use Rattle.check_chain.specs.Marks.{MarksAnswer, Inside}
-use Rattle.check_chain.proofs.Remaining.{Check, checks_as, Goes, goes_refl, goes_end, goes_stop, goes_no, goes_yes}
+use Rattle.check_chain.specs.Marks.{MarksAnswer}
+use Rattle.check_chain.proofs.Remaining.{Check, checks_as, Goes, goes_refl, goes_from, goes_end, goes_stop, goes_no, goes_yes}
 use Rattle.model.specs.Volume.{file_limit, blocks_for}
 use Rattle.check_chain.proofs.Claims.{beyond_refl}
 use Rattle.thm_survey.proofs.Seen.{seen_with}
@@ -37,13 +31,13 @@ unfolding claim
 claim-any A I a seen = refl
 
 module _ (A : Area) (I : List ℕ) where
-  seen_done : (a : ℕ) (seen : List ℕ) → a ≡ 0 → seen_of (cells_of A I 0 a seen) ≡ some seen
+  seen_done : (a : ℕ) (seen : List ℕ) → eqb a 0 ≡ true → seen_of (cells_of A I 0 a seen) ≡ some seen
   unfolding seen_of cells_of then
-  seen_done a seen e = ap (λ (o : Option (Claimed (List Cell))). then o (λ c. some c.seen)) (pick_true _ _ (eq-eqb a 0 e))
+  seen_done a seen e = ap (λ (o : Option (Claimed (List Cell))). then o (λ c. some c.seen)) (pick_true _ _ e)
 
-  seen_over : (a : ℕ) (seen : List ℕ) → (a ≡ 0 → ⊥) → seen_of (cells_of A I 0 a seen) ≡ none
+  seen_over : (a : ℕ) (seen : List ℕ) → eqb a 0 ≡ false → seen_of (cells_of A I 0 a seen) ≡ none
   unfolding seen_of cells_of then
-  seen_over a seen e = ap (λ (o : Option (Claimed (List Cell))). then o (λ c. some c.seen)) (pick_false _ _ (ne_eqb a 0 e))
+  seen_over a seen e = ap (λ (o : Option (Claimed (List Cell))). then o (λ c. some c.seen)) (pick_false _ _ e)
 
   seen_next : (k a : ℕ) (seen s : List ℕ) → claim A [] a seen ≡ some s → seen_of (cells_of A I (suc k) a seen) ≡ seen_of (cells_of A I k (next A.size I a) s)
   unfolding cells_of
@@ -56,64 +50,53 @@ module _ (A : Area) (I : List ℕ) where
   seen_stop k a seen e =
       ap seen_of (then-none (λ t. with_found (λ cs. record { at = a; body = _ } ∷ cs) (cells_of A I k (next A.size I a) t)) (claim-any A I a seen ∙ e)) ∙ seen_none (List Cell)
 
--- ---- what the loop's calls ask
-
-pub still_long : (s : SuperBlock) (W₀ W : List ℕ) → mark_bytes (area_in s) ≤ length W₀ → length W ≡ length W₀ → mark_bytes (area_in s) ≤ length W
-still_long s W₀ W h e = omega arith
-
-pub claimed_inside : (s : SuperBlock) (I : List ℕ) (a b : ℕ) (r : Bool) → Fit s I → Inside (area_in s) b r → r ≡ true → a ≡ b
-    → s.size * a + s.size ≤ length I
-claimed_inside s I a b r f q e g = fit_inside s I I a b f refl g (subst (Inside (area_in s) b) e q).1
-
--- the same, by the numbers of the block that is made of it
-pub claimed_linked : {z m : ℕ} (s : SuperBlock) (I : List ℕ) (b : ℕ) (r : Bool) → z ≡ s.size → m ≡ b → Fit s I
-    → Inside (area_in s) b r → r ≡ true → z * m + z ≤ length I
-claimed_linked s I b r e g f q y = linked_inside b e g (claimed_inside s I b b r f q y refl)
-
--- the next address is read by these numbers too
-pub next_is : {z m c : ℕ} (B : ℕ) (I : List ℕ) (b : ℕ) → z ≡ B → m ≡ b → c ≡ next z I m → c ≡ next B I b
-next_is B I b e g h = h ∙ (λ i. next (e i) I (g i))
-
--- ---- the loop, whatever check g (of at most so many blocks, from an address on) it computes: what is left to claim from W on is
--- what was to be claimed from W₀ on
+-- ---- the loop, whatever check g (of at most so many blocks, from an address on) it computes: after j of k blocks, what is left
+-- to claim from W on is what was to be claimed from W₀ on
 
 abbrev pub Along : Type 0
 Along = ℕ → ℕ → Check
 
-pub record Left (A : Area) (g : Along) (W₀ : List ℕ) (k a : ℕ) (W : List ℕ) (b left : ℕ) : Type 0 where
-  pub goes : Goes A (g k a) (g left b) W₀ W
+pub record Left (A : Area) (g : Along) (W₀ : List ℕ) (k a : ℕ) (W : List ℕ) (b j : ℕ) : Type 0 where
+  pub goes : Goes A (g k a) (g (k - j) b) W₀ W
 
 module _ (A : Area) (g : Along) (W₀ : List ℕ) (k a : ℕ) where
-  pub left_start : Left A g W₀ k a W₀ a k
-  left_start = record { goes = goes_refl A (g k a) W₀ }
+  pub left_start : Left A g W₀ k a W₀ a 0
+  left_start =
+      let e : k ≡ k - 0 = omega arith in
+      record { goes = goes_from A (g k a) (g (k - 0) a) (g (k - 0) a) W₀ W₀ (λ s. ap (λ (i : ℕ). g i a s) e) (goes_refl A (g (k - 0) a) W₀) }
 
-  module _ (W : List ℕ) (b left : ℕ) (l : Left A g W₀ k a W b left) where
-    none_left : left ≤ 0 → left ≡ 0
+  module _ (W : List ℕ) (b j : ℕ) (l : Left A g W₀ k a W b j) where
+    none_left : k ≤ j → k - j ≡ 0
     none_left h = omega arith
 
-    some_left : 0 < left → left ≡ suc (left - 1)
+    some_left : j < k → k - j ≡ suc (k - (j + 1))
     some_left h = omega arith
 
     -- nothing is left
-    pub left_end : left ≤ 0 → ((seen : List ℕ) → g 0 b seen ≡ some seen) → MarksAnswer A (g k a) W₀ W true
-    left_end h e = goes_end A (g k a) (g left b) W₀ W l.goes (λ s. ap (λ (j : ℕ). g j b s) (none_left h) ∙ e s)
+    left_end : k ≤ j → ((seen : List ℕ) → g 0 b seen ≡ some seen) → MarksAnswer A (g k a) W₀ W true
+    left_end h e = goes_end A (g k a) (g (k - j) b) W₀ W l.goes (λ s. ap (λ (i : ℕ). g i b s) (none_left h) ∙ e s)
 
-    pub left_over : left ≤ 0 → ((seen : List ℕ) → g 0 b seen ≡ none) → MarksAnswer A (g k a) W₀ W false
-    left_over h e = goes_stop A (g k a) (g left b) W₀ W l.goes (λ s. ap (λ (j : ℕ). g j b s) (none_left h) ∙ e s)
+    pub left_over : k ≤ j → ((seen : List ℕ) → g 0 b seen ≡ none) → MarksAnswer A (g k a) W₀ W false
+    left_over h e = goes_stop A (g k a) (g (k - j) b) W₀ W l.goes (λ s. ap (λ (i : ℕ). g i b s) (none_left h) ∙ e s)
+
+    pub left_answer : (t : Bool) → k ≤ j → (t ≡ true → (seen : List ℕ) → g 0 b seen ≡ some seen) → (t ≡ false → (seen : List ℕ) → g 0 b seen ≡ none)
+        → MarksAnswer A (g k a) W₀ W t
+    left_answer true h e f = left_end h (e refl)
+    left_answer false h e f = left_over h (f refl)
 
     -- block b passes its check h, or not
-    module _ (h : Check) (Z : List ℕ) (r : Bool) (more : 0 < left) (q : MarksAnswer A h W Z r) where
-      pub left_stop : r ≡ false → ((j : ℕ) (seen : List ℕ) → h seen ≡ none → g (suc j) b seen ≡ none) → MarksAnswer A (g k a) W₀ Z false
-      left_stop e f = goes_no A (g k a) (g left b) W₀ W l.goes h Z r q e (λ s y. ap (λ (j : ℕ). g j b s) (some_left more) ∙ f (left - 1) s y)
+    module _ (h : Check) (Z : List ℕ) (r : Bool) (more : j < k) (q : MarksAnswer A h W Z r) where
+      pub left_stop : r ≡ false → ((i : ℕ) (seen : List ℕ) → h seen ≡ none → g (suc i) b seen ≡ none) → MarksAnswer A (g k a) W₀ Z false
+      left_stop e f = goes_no A (g k a) (g (k - j) b) W₀ W l.goes h Z r q e (λ s y. ap (λ (i : ℕ). g i b s) (some_left more) ∙ f (k - (j + 1)) s y)
 
-      pub left_step : (c : ℕ) → r ≡ true → ((j : ℕ) (seen s : List ℕ) → h seen ≡ some s → g (suc j) b seen ≡ g j c s) → Left A g W₀ k a Z c (left - 1)
-      left_step c e f = record { goes = goes_yes A (g k a) (g left b) W₀ W l.goes h Z r q (g (left - 1) c) e (λ s y z. ap (λ (j : ℕ). g j b s) (some_left more) ∙ f (left - 1) s y z) }
+      pub left_step : (c : ℕ) → r ≡ true → ((i : ℕ) (seen s : List ℕ) → h seen ≡ some s → g (suc i) b seen ≡ g i c s) → Left A g W₀ k a Z c (j + 1)
+      left_step c e f = record { goes = goes_yes A (g k a) (g (k - j) b) W₀ W l.goes h Z r q (g (k - (j + 1)) c) e (λ s y z. ap (λ (i : ℕ). g i b s) (some_left more) ∙ f (k - (j + 1)) s y z) }
 
       -- the chain ends with b
-      pub left_last : r ≡ true → ((j : ℕ) (seen s : List ℕ) → h seen ≡ some s → g (suc j) b seen ≡ some s) → MarksAnswer A (g k a) W₀ Z true
+      pub left_last : r ≡ true → ((i : ℕ) (seen s : List ℕ) → h seen ≡ some s → g (suc i) b seen ≡ some s) → MarksAnswer A (g k a) W₀ Z true
       left_last e f =
           goes_end A (g k a) some W₀ Z
-          (goes_yes A (g k a) (g left b) W₀ W l.goes h Z r q some e (λ s y z. ap (λ (j : ℕ). g j b s) (some_left more) ∙ f (left - 1) s y z)) (λ s. refl)
+          (goes_yes A (g k a) (g (k - j) b) W₀ W l.goes h Z r q some e (λ s y z. ap (λ (i : ℕ). g i b s) (some_left more) ∙ f (k - (j + 1)) s y z)) (λ s. refl)
 
 -- ---- a file's chain
 
@@ -121,10 +104,10 @@ module _ (A : Area) (I : List ℕ) where
   abbrev pub file_check : Along
   file_check k a seen = seen_of (cells_of A I k a seen)
 
-  pub file_done : (b : ℕ) → b ≡ 0 → (seen : List ℕ) → file_check 0 b seen ≡ some seen
+  pub file_done : (b : ℕ) → eqb b 0 ≡ true → (seen : List ℕ) → file_check 0 b seen ≡ some seen
   file_done b e seen = seen_done A I b seen e
 
-  pub file_over : (b : ℕ) → (b ≡ 0 → ⊥) → (seen : List ℕ) → file_check 0 b seen ≡ none
+  pub file_over : (b : ℕ) → eqb b 0 ≡ false → (seen : List ℕ) → file_check 0 b seen ≡ none
   file_over b e seen = seen_over A I b seen e
 
   pub file_stop : (b j : ℕ) (seen : List ℕ) → claim A [] b seen ≡ none → file_check (suc j) b seen ≡ none
@@ -171,8 +154,10 @@ module _ (A : Area) (I : List ℕ) (a size : ℕ) (W : List ℕ) where
   abbrev pub file_of : Check
   file_of seen = pick (leb size file_limit) (seen_of (cells_of A I (blocks_for A.size size) a seen)) none
 
-  pub file_large : file_limit < size → MarksAnswer A file_of W W false
-  file_large h = record { beyond = beyond_refl A W; answer = λ seen m. pick_false _ _ (lt-leb size file_limit h) }
+  pub file_large : file_limit < size → MarksAnswer A file_of W W (leb size file_limit)
+  file_large h =
+      let t : leb size file_limit ≡ false = lt-leb size file_limit h in
+      subst (MarksAnswer A file_of W W) (sym t) (record { beyond = beyond_refl A W; answer = λ seen m. pick_false _ _ t })
 
   pub file_cells : size ≤ file_limit → (k : ℕ) (Z : List ℕ) (r : Bool) → k ≡ blocks_for A.size size → MarksAnswer A (λ seen. seen_of (cells_of A I k a seen)) W Z r → MarksAnswer A file_of W Z r
   file_cells h k Z r e q =

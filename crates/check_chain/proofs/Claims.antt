@@ -1,6 +1,7 @@
 -- What `claim` knows where it answers: one law for each answer; and the marks of a block that is claimed.
 use mathlib.Core.Path.{◌≡◌, refl, sym, ap, ◌∙◌}
 use mathlib.Core.Bool.{true, false}
+use mathlib.Core.Logic.{◌⊎◌, inl, inr}
 use mathlib.Core.List.{List, [], ◌∷◌}
 use Prim.Native.Nat.{ℕ, suc, ◌+◌, ◌-◌, ◌*◌, ◌/◌, ◌≤◌, ◌<◌}
 use native.Mathlib.Omega.{arith}
@@ -20,11 +21,15 @@ pub beyond_refl : (A : Area) (W : List ℕ) → Beyond A W W
 beyond_refl A W = record { long = refl; rest = λ j h. refl }
 
 module _ (A : Area) (a : ℕ) (W : List ℕ) where
-  pub no_below : a < A.first → MarksAnswer A (claim A [] a) W W false
+  no_below : a < A.first → MarksAnswer A (claim A [] a) W W false
   no_below h = record { beyond = beyond_refl A W; answer = λ seen m. claim_below A [] a seen h }
 
-  pub no_above : A.first ≤ a → A.end ≤ a → MarksAnswer A (claim A [] a) W W false
+  no_above : A.first ≤ a → A.end ≤ a → MarksAnswer A (claim A [] a) W W false
   no_above h k = record { beyond = beyond_refl A W; answer = λ seen m. claim_above A [] a seen h k }
+
+  pub no_outside : (a < A.first) ⊎ ((A.first ≤ a) × (A.end ≤ a)) → MarksAnswer A (claim A [] a) W W false
+  no_outside (inl h) = no_below h
+  no_outside (inr k) = no_above k.0 k.1
 
   module _ (x b : ℕ) (e : x ≡ a - A.first) (f : b ≡ bit W 0 x) where
     -- the mark of a block of the area says how often it is claimed

@@ -1,5 +1,5 @@
 -- A check in steps: what is left to check from the marks Z on is what was to be checked from the marks W on.
-use mathlib.Core.Path.{◌≡◌, refl, ◌∙◌, subst}
+use mathlib.Core.Path.{◌≡◌, refl, sym, ◌∙◌, subst}
 use mathlib.Core.Bool.{Bool, true, false}
 use mathlib.Core.Option.{Option, none, some}
 use mathlib.Core.List.{List}
@@ -25,7 +25,7 @@ pub goes_refl : (A : Area) (f : Check) (W : List ℕ) → Goes A f f W W
 goes_refl A f W = record { beyond = beyond_refl A W; rest = λ seen m. (seen, m, refl) }
 
 -- the same check in other words
-goes_from : (A : Area) (e f g : Check) (W Z : List ℕ) → ((seen : List ℕ) → e seen ≡ f seen) → Goes A f g W Z → Goes A e g W Z
+pub goes_from : (A : Area) (e f g : Check) (W Z : List ℕ) → ((seen : List ℕ) → e seen ≡ f seen) → Goes A f g W Z → Goes A e g W Z
 goes_from A e f g W Z q l = record { beyond = l.beyond; rest = λ seen m. let s = l.rest seen m in (s.0, s.1, q seen ∙ s.2) }
 
 module _ (A : Area) (f g : Check) (W Z : List ℕ) (l : Goes A f g W Z) where
@@ -57,8 +57,8 @@ module _ (A : Area) (f g : Check) (W Z : List ℕ) (l : Goes A f g W Z) where
 
 -- A step and then the rest, where the whole check is their sequence.
 module _ (A : Area) (h : Check) (k : Check) (f : Check) (W Z : List ℕ) (r : Bool) (q : MarksAnswer A h W Z r) (is : (seen : List ℕ) → f seen ≡ then (h seen) k) where
-  pub step_no : r ≡ false → MarksAnswer A f W Z false
-  step_no e = goes_no A f f W W (goes_refl A f W) h Z r q e (λ seen z. is seen ∙ then-none k z)
+  pub step_no : r ≡ false → MarksAnswer A f W Z r
+  step_no e = subst (MarksAnswer A f W Z) (sym e) (goes_no A f f W W (goes_refl A f W) h Z r q e (λ seen z. is seen ∙ then-none k z))
 
   pub step_yes : r ≡ true → Goes A f k W Z
   step_yes e = goes_yes A f f W W (goes_refl A f W) h Z r q k e (λ seen s z. is seen ∙ then_some k z)

@@ -4,26 +4,27 @@ use mathlib.Core.Bool.{true, false}
 use mathlib.Core.Option.{Option, none, some}
 use mathlib.Core.List.{List, [], ◌∷◌}
 use Prim.Native.Nat.{ℕ, zero, suc, ◌-◌}
+use lib.Dec.{eqb}
 use borrow.Author.Tests.{eq-eqb, ne_eqb}
 use Rattle.wire.specs.Pick.{pick}
 use Rattle.wire.proofs.Picks.{pick_true, pick_false}
 use Rattle.block.specs.Block.{Area, next}
 use Rattle.model.specs.Tree.{then}
 use Rattle.thm_survey.specs.Survey.{Raw, RawBlock, has_some, Claimed, claim, raws_from, later_of, blocks_of, seen_of}
-use Rattle.check_dir.specs.Blocks.{held_at, may_stand, block_check}
+use Rattle.check_dir.specs.Blocks.{may_stand, block_check}
 use Rattle.thm_survey.proofs.Seen.{then-then, then_same, seen_then, seen_test, seen_with}
 
 -- a first block may stand there unless it is damaged; a later one must have an entry too
 first_stands : {Y : Type 0} (o : Option (List Raw)) (s : List ℕ) (f : List ℕ → Option Y)
-    → then (pick (may_stand false (held_at 0 o)) (some s) none) f ≡ then o (λ rs. f s)
-unfolding then pick held_at has_some
+    → then (pick (may_stand false o) (some s) none) f ≡ then o (λ rs. f s)
+unfolding then pick may_stand has_some
 first_stands none s f = refl
 first_stands (some []) s f = refl
 first_stands (some (r ∷ rs)) s f = refl
 
 later_stands : {Y : Type 0} (o : Option (List Raw)) (s : List ℕ) (f : List ℕ → Option Y)
-    → then (pick (may_stand true (held_at 0 o)) (some s) none) f ≡ then o (λ rs. pick (has_some rs) (f s) none)
-unfolding then pick held_at has_some
+    → then (pick (may_stand true o) (some s) none) f ≡ then o (λ rs. pick (has_some rs) (f s) none)
+unfolding then pick may_stand has_some
 later_stands none s f = refl
 later_stands (some []) s f = refl
 later_stands (some (r ∷ rs)) s f = refl
@@ -61,6 +62,6 @@ module _ (A : Area) (I : List ℕ) where
   later_end zero a seen z = ap (λ (o : Option (Claimed (List RawBlock))). then o (λ c. some c.seen)) (pick_true _ _ (eq-eqb a 0 z))
   later_end (suc k) a seen z = ap (λ (o : Option (Claimed (List RawBlock))). then o (λ c. some c.seen)) (pick_true _ _ (eq-eqb a 0 z))
 
-  pub later_over : (a : ℕ) (seen : List ℕ) → (a ≡ 0 → ⊥) → seen_of (later_of A I 0 a seen) ≡ none
+  pub later_over : (a : ℕ) (seen : List ℕ) → eqb a 0 ≡ false → seen_of (later_of A I 0 a seen) ≡ none
   unfolding later_of seen_of then
-  later_over a seen z = ap (λ (o : Option (Claimed (List RawBlock))). then o (λ c. some c.seen)) (pick_false _ _ (ne_eqb a 0 z))
+  later_over a seen z = ap (λ (o : Option (Claimed (List RawBlock))). then o (λ c. some c.seen)) (pick_false _ _ z)

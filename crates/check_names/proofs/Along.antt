@@ -1,4 +1,5 @@
 -- How `earlier`, `tested` and `forget` go along a walk, one step at a time.
+use Rattle.std.specs.Prelude.{Option, Some, None, Result, Ok, Err}
 use mathlib.Core.Path.{◌≡◌, refl, sym, ap, ◌∙◌, subst}
 use mathlib.Core.Bool.{Bool, true, false, not, ◌&&◌}
 use mathlib.Core.List.{List, [], ◌∷◌, ◌++◌, append-nil}
@@ -10,7 +11,6 @@ use borrow.Author.Tests.{not-true, not-false}
 use Rattle.wire.specs.Pick.{same}
 use Rattle.block.specs.declared.Addr.{Addr}
 use Rattle.block.specs.Block.{Area}
-use Rattle.dir_entry.specs.declared.DirEntry.{DirEntry}
 use Rattle.dir_entry.specs.Entry.{place_at, name_at}
 use Rattle.super_block.specs.declared.SuperBlock.{SuperBlock}
 use Rattle.super_block.specs.Super.{area_in, Fit}
@@ -19,9 +19,8 @@ use Rattle.model.specs.Tree.{Name}
 use Rattle.read_dir.specs.Walk.{Walk, walk}
 use Rattle.read_dir.specs.Cursor.{start, cursor_walk, on_step, Stepped, items}
 use Rattle.read_dir.specs.declared.ReadDir.{ReadDir}
-use Rattle.read_dir.specs.declared.Place.{Place}
-use Rattle.read_dir.specs.declared.Step.{Step}
-use Rattle.read_dir.specs.declared.Step.TheVariants as step
+use Rattle.read_dir.specs.declared.Placed.{Placed}
+use Rattle.limits.specs.declared.Damage.{Damage}
 use Rattle.read_dir.proofs.Along.{start-walk, count_again}
 use Rattle.read_dir.proofs.Sizes.{count_fits}
 use Rattle.check_names.specs.Names.{one_of, names_in, ends}
@@ -60,55 +59,56 @@ met_start s I F m k c dir f e b =
 
 -- ---- one step
 
-module _ (A : Area) (I : List ℕ) (c : ReadDir) (m : Step) (g : Stepped A I c m) where
-  gave : (x : Step) → m ≡ x → cursor_walk A I c ≡ on_step A I x
-  gave x e = g.walked ∙ ap (on_step A I) e
+module _ (A : Area) (I : List ℕ) (c d : ReadDir) (m : Result (Option Placed) Damage) (g : Stepped A I c d m) where
+  gave : (x : Result (Option Placed) Damage) → m ≡ x → cursor_walk A I c ≡ on_step A I d x
+  gave x e = g.walked ∙ ap (on_step A I d) e
 
-  names_end : m ≡ step.End → names_in (cursor_walk A I c) ≡ []
+  names_end : m ≡ Ok None → names_in (cursor_walk A I c) ≡ []
   unfolding names_in
-  names_end e = ap names_in (gave step.End e)
+  names_end e = ap names_in (gave (Ok None) e)
 
-  names_bad : m ≡ step.Damaged → names_in (cursor_walk A I c) ≡ []
+  names_bad : (v : Damage) → m ≡ Err v → names_in (cursor_walk A I c) ≡ []
   unfolding names_in
-  names_bad e = ap names_in (gave step.Damaged e)
+  names_bad v e = ap names_in (gave (Err v) e)
 
-  names_item : (e : DirEntry) (p : Place) (d : ReadDir) → m ≡ step.Entry e p d
-      → names_in (cursor_walk A I c) ≡ name_at I (place_at A.size p.block.0 p.offset) e.len ∷ names_in (cursor_walk A I d)
+  names_item : (y : Placed) → m ≡ Ok (Some y)
+      → names_in (cursor_walk A I c) ≡ name_at I (place_at A.size y.place.block.0 y.place.offset) y.entry.len ∷ names_in (cursor_walk A I d)
   unfolding names_in
-  names_item e p d q = ap names_in (gave (step.Entry e p d) q)
+  names_item y q = ap names_in (gave (Ok (Some y)) q)
 
-  ends_item : (e : DirEntry) (p : Place) (d : ReadDir) → m ≡ step.Entry e p d → ends (cursor_walk A I c) ≡ ends (cursor_walk A I d)
+  ends_item : (y : Placed) → m ≡ Ok (Some y) → ends (cursor_walk A I c) ≡ ends (cursor_walk A I d)
   unfolding ends
-  ends_item e p d q = ap ends (gave (step.Entry e p d) q)
+  ends_item y q = ap ends (gave (Ok (Some y)) q)
 
   -- ---- earlier: what is left to search is what was to be searched
 
-  module _ (x : Name) (c₀ : ReadDir) (i k : ℕ) (inv : one_of x (take k (names_in (cursor_walk A I c))) ≡ one_of x (take i (names_in (cursor_walk A I c₀)))) where
-    looked : (ys : List Name) → names_in (cursor_walk A I c) ≡ ys → one_of x (take k ys) ≡ one_of x (take i (names_in (cursor_walk A I c₀)))
-    looked ys q = sym (ap (λ (zs : List Name). one_of x (take k zs)) q) ∙ inv
+  module _ (x : Name) (c₀ : ReadDir) (i j : ℕ) (inv : one_of x (take (i - j) (names_in (cursor_walk A I c))) ≡ one_of x (take i (names_in (cursor_walk A I c₀)))) where
+    looked : (ys : List Name) → names_in (cursor_walk A I c) ≡ ys → one_of x (take (i - j) ys) ≡ one_of x (take i (names_in (cursor_walk A I c₀)))
+    looked ys q = sym (ap (λ (zs : List Name). one_of x (take (i - j) zs)) q) ∙ inv
 
-    pub earlier_again : (e : DirEntry) (p : Place) (d : ReadDir) (t : Bool) → m ≡ step.Entry e p d → 0 < k
-        → t ≡ same (name_at I (place_at A.size p.block.0 p.offset) e.len) x → t ≡ false
-        → one_of x (take (k - 1) (names_in (cursor_walk A I d))) ≡ one_of x (take i (names_in (cursor_walk A I c₀)))
-    earlier_again e p d t q h a f =
-        let y : Name = name_at I (place_at A.size p.block.0 p.offset) e.len in
-        sym (search_miss x k y (names_in (cursor_walk A I d)) h (sym a ∙ f)) ∙ looked (y ∷ names_in (cursor_walk A I d)) (names_item e p d q)
+    pub earlier_again : (y : Placed) (t : Bool) → m ≡ Ok (Some y) → j < i
+        → t ≡ same (name_at I (place_at A.size y.place.block.0 y.place.offset) y.entry.len) x → t ≡ false
+        → one_of x (take (i - (j + 1)) (names_in (cursor_walk A I d))) ≡ one_of x (take i (names_in (cursor_walk A I c₀)))
+    earlier_again y t q h a f =
+        let n : Name = name_at I (place_at A.size y.place.block.0 y.place.offset) y.entry.len in
+        let e : i - (j + 1) ≡ i - j - 1 = omega arith in
+        rw e (sym (search_miss x (i - j) n (names_in (cursor_walk A I d)) (omega arith) (sym a ∙ f)) ∙ looked (n ∷ names_in (cursor_walk A I d)) (names_item y q))
 
     module _ (dir : Addr) (b : c₀ ≡ start A dir) where
       whole : one_of x (take i (names_in (cursor_walk A I c₀))) ≡ one_of x (take i (names_in (walk A I dir.0)))
       whole = ap (λ (v : Walk). one_of x (take i (names_in v))) (start-walk A I c₀ dir b)
 
-      pub earlier_hit : (e : DirEntry) (p : Place) (d : ReadDir) (t : Bool) → m ≡ step.Entry e p d → 0 < k
-          → t ≡ same (name_at I (place_at A.size p.block.0 p.offset) e.len) x → t ≡ true → true ≡ one_of x (take i (names_in (walk A I dir.0)))
-      earlier_hit e p d t q h a f =
-          let y : Name = name_at I (place_at A.size p.block.0 p.offset) e.len in
-          sym (search_hit x k y (names_in (cursor_walk A I d)) h (sym a ∙ f)) ∙ looked (y ∷ names_in (cursor_walk A I d)) (names_item e p d q) ∙ whole
+      pub earlier_hit : (y : Placed) (t : Bool) → m ≡ Ok (Some y) → j < i
+          → t ≡ same (name_at I (place_at A.size y.place.block.0 y.place.offset) y.entry.len) x → t ≡ true → true ≡ one_of x (take i (names_in (walk A I dir.0)))
+      earlier_hit y t q h a f =
+          let n : Name = name_at I (place_at A.size y.place.block.0 y.place.offset) y.entry.len in
+          sym (search_hit x (i - j) n (names_in (cursor_walk A I d)) (omega arith) (sym a ∙ f)) ∙ looked (n ∷ names_in (cursor_walk A I d)) (names_item y q) ∙ whole
 
-      pub earlier_end : m ≡ step.End → false ≡ one_of x (take i (names_in (walk A I dir.0)))
-      earlier_end q = sym (search_end x k) ∙ looked [] (names_end q) ∙ whole
+      pub earlier_end : m ≡ Ok None → false ≡ one_of x (take i (names_in (walk A I dir.0)))
+      earlier_end q = sym (search_end x (i - j)) ∙ looked [] (names_end q) ∙ whole
 
-      pub earlier_bad : m ≡ step.Damaged → false ≡ one_of x (take i (names_in (walk A I dir.0)))
-      earlier_bad q = sym (search_end x k) ∙ looked [] (names_bad q) ∙ whole
+      pub earlier_bad : (v : Damage) → m ≡ Err v → false ≡ one_of x (take i (names_in (walk A I dir.0)))
+      earlier_bad v q = sym (search_end x (i - j)) ∙ looked [] (names_bad v q) ∙ whole
 
   -- ---- tested
 
@@ -120,23 +120,23 @@ module _ (A : Area) (I : List ℕ) (c : ReadDir) (m : Step) (g : Stepped A I c m
         = sym (append-nil (take i (names_in w))) ∙ ap (λ (ys : List Name). take i (names_in w) ++ ys) (sym z ∙ v.left) ∙ take-append-drop i (names_in w) in
         ap (distinct_in n k) (sym t) ∙ v.apart
 
-    pub tested_end : m ≡ step.End → true ≡ (ends w && distinct_in n k (names_in w))
+    pub tested_end : m ≡ Ok None → true ≡ (ends w && distinct_in n k (names_in w))
     unfolding ends
     tested_end q =
-        let t : ends w ≡ true = sym v.ending ∙ ap ends (gave step.End q) in
+        let t : ends w ≡ true = sym v.ending ∙ ap ends (gave (Ok None) q) in
         sym (ap (λ (b : Bool). b && distinct_in n k (names_in w)) t ∙ at_end_lem (names_end q))
 
-    pub tested_bad : m ≡ step.Damaged → false ≡ (ends w && distinct_in n k (names_in w))
+    pub tested_bad : (u : Damage) → m ≡ Err u → false ≡ (ends w && distinct_in n k (names_in w))
     unfolding ends
-    tested_bad q =
-        let t : ends w ≡ false = sym v.ending ∙ ap ends (gave step.Damaged q) in
+    tested_bad u q =
+        let t : ends w ≡ false = sym v.ending ∙ ap ends (gave (Err u) q) in
         sym (ap (λ (b : Bool). b && distinct_in n k (names_in w)) t)
 
     -- at a name, after which the filter is G
-    module _ (e : DirEntry) (p : Place) (d : ReadDir) (x : Name) (G : List ℕ) (q : m ≡ step.Entry e p d)
-        (a : x ≡ name_at I (place_at A.size p.block.0 p.offset) e.len) (f : G ≡ noted_in F x n k) where
+    module _ (y : Placed) (x : Name) (G : List ℕ) (q : m ≡ Ok (Some y))
+        (a : x ≡ name_at I (place_at A.size y.place.block.0 y.place.offset) y.entry.len) (f : G ≡ noted_in F x n k) where
       rest : drop i (names_in w) ≡ x ∷ names_in (cursor_walk A I d)
-      rest = sym v.left ∙ names_item e p d q ∙ ap (λ (y : Name). y ∷ names_in (cursor_walk A I d)) (sym a)
+      rest = sym v.left ∙ names_item y q ∙ ap (λ (y : Name). y ∷ names_in (cursor_walk A I d)) (sym a)
 
       parts : take i (names_in w) ++ (x ∷ names_in (cursor_walk A I d)) ≡ names_in w
       parts = ap (λ (ys : List Name). take i (names_in w) ++ ys) (sym rest) ∙ take-append-drop i (names_in w)
@@ -171,37 +171,37 @@ module _ (A : Area) (I : List ℕ) (c : ReadDir) (m : Step) (g : Stepped A I c m
             let u : met_in n k x (take i (names_in w)) ≡ false = not-true (met_in n k x (take i (names_in w))) (sym o ∙ z) in
             record {
               left = sym (ap (drop 1) rest) ∙ drop-drop 1 i (names_in w);
-              ending = sym (ends_item e p d q) ∙ v.ending;
+              ending = sym (ends_item y q) ∙ v.ending;
               apart = ap (distinct_in n k) one_more ∙ part_more n k (take i (names_in w)) x v.apart u;
               covers = next_covers;
               within = next_within;
-              few = count_again A I c m g i e p d v.few q;
+              few = count_again A I c d m g i (Some y) y v.few q refl;
             }
 
   -- ---- forget
 
   module _ (F : List ℕ) (v : Only F (names_in (cursor_walk A I c))) where
-    pub forget_again : (e : DirEntry) (p : Place) (d : ReadDir) (x : Name) (h : ℕ) (G : List ℕ) → m ≡ step.Entry e p d → x ≡ name_at I (place_at A.size p.block.0 p.offset) e.len
+    pub forget_again : (y : Placed) (x : Name) (h : ℕ) (G : List ℕ) → m ≡ Ok (Some y) → x ≡ name_at I (place_at A.size y.place.block.0 y.place.offset) y.entry.len
         → h ≡ hash_of x → G ≡ wiped F h → Only G (names_in (cursor_walk A I d))
-    forget_again e p d x h G q a u f =
-        let t : names_in (cursor_walk A I c) ≡ x ∷ names_in (cursor_walk A I d) = names_item e p d q ∙ ap (λ (y : Name). y ∷ names_in (cursor_walk A I d)) (sym a) in
+    forget_again y x h G q a u f =
+        let t : names_in (cursor_walk A I c) ≡ x ∷ names_in (cursor_walk A I d) = names_item y q ∙ ap (λ (y : Name). y ∷ names_in (cursor_walk A I d)) (sym a) in
         let z : G ≡ wiped F (hash_of x) = f ∙ ap (wiped F) u in
         subst (λ (y : List ℕ). Only y (names_in (cursor_walk A I d))) (sym z) (within_wiped F x (names_in (cursor_walk A I d)) (subst (Only F) t v))
 
-    pub forget_end : m ≡ step.End → F ≡ clear
+    pub forget_end : m ≡ Ok None → F ≡ clear
     forget_end q = within_none F (subst (Only F) (names_end q) v)
 
-    pub forget_bad : m ≡ step.Damaged → F ≡ clear
-    forget_bad q = within_none F (subst (Only F) (names_bad q) v)
+    pub forget_bad : (u : Damage) → m ≡ Err u → F ≡ clear
+    forget_bad u q = within_none F (subst (Only F) (names_bad u q) v)
 
 -- ---- the ends that no step makes
 
 -- no name is left to search
-pub earlier_none : (A : Area) (I : List ℕ) (x : Name) (c c₀ : ReadDir) (i k : ℕ) (dir : Addr)
-    → one_of x (take k (names_in (cursor_walk A I c))) ≡ one_of x (take i (names_in (cursor_walk A I c₀))) → k ≤ 0 → c₀ ≡ start A dir
+pub earlier_none : (A : Area) (I : List ℕ) (x : Name) (c c₀ : ReadDir) (i j : ℕ) (dir : Addr)
+    → one_of x (take (i - j) (names_in (cursor_walk A I c))) ≡ one_of x (take i (names_in (cursor_walk A I c₀))) → i ≤ j → c₀ ≡ start A dir
     → false ≡ one_of x (take i (names_in (walk A I dir.0)))
-earlier_none A I x c c₀ i k dir inv h b =
-    sym (search_none x k (names_in (cursor_walk A I c)) (omega arith)) ∙ inv ∙ ap (λ (v : Walk). one_of x (take i (names_in v))) (start-walk A I c₀ dir b)
+earlier_none A I x c c₀ i j dir inv h b =
+    sym (search_none x (i - j) (names_in (cursor_walk A I c)) (omega arith)) ∙ inv ∙ ap (λ (v : Walk). one_of x (take i (names_in v))) (start-walk A I c₀ dir b)
 
 -- every name is still to be forgotten
 pub forget_start : (A : Area) (I F : List ℕ) (c : ReadDir) (dir : Addr) → Only F (names_in (walk A I dir.0)) → c ≡ start A dir

@@ -1,24 +1,24 @@
 -- What the filter knows of names: the laws of `Covers` and `Only`.
 use mathlib.Core.Path.{◌≡◌, refl, sym, ap, ◌∙◌, subst}
 use mathlib.Core.Logic.{◌⊎◌, inl, inr}
-use mathlib.Core.Bool.{Bool, true, false, not, ◌&&◌}
-use mathlib.Core.List.{List, [], ◌∷◌, ◌++◌, append-nil}
-use Prim.Native.Nat.{ℕ, ◌+◌, ◌%◌, ◌≤◌, ◌<◌}
+use mathlib.Core.Bool.{true, false}
+use mathlib.Core.List.{List, [], ◌∷◌, ◌++◌}
+use Prim.Native.Nat.{ℕ, ◌%◌, ◌<◌}
 use native.Mathlib.Omega.{arith}
 use native.Mathlib.Decide.{dec_lt}
 use lib.Dec.{eqb}
-use lib.ListN.{length, get_or, take, length-replicate, get_or-replicate, get_or-eq_default, drop_of_length-le}
+use lib.ListN.{length, get_or, take, length-replicate, get_or-replicate, get_or-eq_default}
 use lib.Seq.{ext_get_or}
 use borrow.Author.Tests.{eq-eqb, ne_eqb}
-use Rattle.wire.specs.Be.{zeros, splice}
+use Rattle.wire.specs.Be.{zeros}
 use Rattle.wire.proofs.Picks.{not_both, pick_true, pick_false, pick_case}
 use Rattle.name_filter.specs.Bits.{hash_of, filter_bytes, turned, filtered, noted, wiped, OffPair}
 use Rattle.name_filter.proofs.Bytes.{hash_fits}
 use Rattle.name_filter.proofs.Marks.{length-noted, noted_other, length_wiped, noted-marked, noted_keeps, wiped_off}
 use Rattle.model.specs.Tree.{Name}
 use Rattle.check_names.specs.Names.{one_of}
-use Rattle.check_names.specs.Filter.{clear, part_of, met_in, noted_in, Covers, CoversPart, OffFilter, Only}
-use Rattle.check_names.proofs.Among.{not_so, none_of_none, one_self, one_cases, one_first, one_second, one_last, one-taken}
+use Rattle.check_names.specs.Filter.{clear, part_of, noted_in, CoversPart, OffFilter, Only}
+use Rattle.check_names.proofs.Among.{none_of_none, one_self, one_cases, one_first, one_second, one_last, one-taken}
 
 -- ---- the clear filter
 
@@ -42,11 +42,9 @@ clear_zero j = go (dec_lt j filter_bytes)
     go (no h) = get_or-eq_default clear 0 (omega (arith, clear_long))
 
 -- as code makes it
-pub clear_filled : (F G : List ℕ) → length F ≡ filter_bytes → G ≡ splice F 0 (zeros 16384) → G ≡ clear
-unfolding clear splice
-clear_filled F G l e =
-    let p : length F ≤ 0 + length (zeros 16384) = omega (arith, length-replicate {A = ℕ} 16384 0) in
-    e ∙ ap (λ (y : List ℕ). zeros 16384 ++ y) (drop_of_length-le F p) ∙ append-nil (zeros 16384)
+pub clear_filled : (F G : List ℕ) → length F ≡ filter_bytes → G ≡ zeros (length F) → G ≡ clear
+unfolding clear
+clear_filled F G l e = e ∙ ap zeros l
 
 -- ---- what it knows of names
 
@@ -97,12 +95,6 @@ module _ (y : Name) (m k h : ℕ) (e : h ≡ hash_of y) where
   other_part : (h % 65521 % m ≡ k → ⊥) → eqb (part_of m y) k ≡ false
   other_part n = ne_eqb (part_of m y) k (λ q. n (ap (λ (z : ℕ). z % 65521 % m) e ∙ q))
 
-  pub fresh_own : (xs : List Name) (t : Bool) → h % 65521 % m ≡ k → t ≡ one_of y xs → not t ≡ not (met_in m k y xs)
-  fresh_own xs t q o = ap not (o ∙ sym (ap (λ (b : Bool). b && one_of y xs) (eq-eqb (part_of m y) k (own_part q))))
-
-  pub fresh_other : (xs : List Name) → (h % 65521 % m ≡ k → ⊥) → true ≡ not (met_in m k y xs)
-  fresh_other xs n = sym (ap (λ (b : Bool). not (b && one_of y xs)) (other_part n))
-
   pub fresh-noted : (F G : List ℕ) → h % 65521 % m ≡ k → G ≡ noted F h → G ≡ noted_in F y m k
   unfolding noted_in
   fresh-noted F G q g = g ∙ ap (noted F) e ∙ sym (pick_true (noted F (hash_of y)) F (eq-eqb (part_of m y) k (own_part q)))
@@ -111,18 +103,9 @@ module _ (y : Name) (m k h : ℕ) (e : h ≡ hash_of y) where
   unfolding noted_in
   fresh_kept F n = sym (pick_false (noted F (hash_of y)) F (other_part n))
 
-  -- one of the part is covered
-  pub covers_own : (F : List ℕ) (xs : List Name) → CoversPart F xs m k → h % 65521 % m ≡ k → Covers F xs y
-  covers_own F xs c q = c y (own_part q)
-
 -- of all names, where it was of the first
 pub within_all : (F : List ℕ) (i : ℕ) (xs : List Name) → Only F (take i xs) → Only F xs
 within_all F i xs w = record { long = w.long; rest = λ j u. w.rest j (λ x t. u x (one-taken x i xs t)) }
-
--- A name that is not covered is none of them.
-pub not_covered : (F : List ℕ) (xs : List Name) (x : Name) (h : ℕ) (b : Bool)
-    → Covers F xs x → h ≡ hash_of x → b ≡ filtered F h → b ≡ false → false ≡ one_of x xs
-not_covered F xs x h b k e m f = sym (not_so (one_of x xs) (λ t. not_both (k t) (ap (filtered F) (sym e) ∙ sym m ∙ f)))
 
 -- of one name fewer
 pub within_wiped : (F : List ℕ) (x : Name) (xs : List Name) → Only F (x ∷ xs) → Only (wiped F (hash_of x)) xs

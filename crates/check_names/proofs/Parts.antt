@@ -3,16 +3,13 @@ use mathlib.Core.Path.{◌≡◌, refl, sym, ap, ◌∙◌}
 use mathlib.Core.Bool.{Bool, true, false, not, ◌&&◌}
 use mathlib.Core.Logic.{◌⊎◌, inl, inr}
 use mathlib.Core.List.{List, [], ◌∷◌, ◌++◌}
-use Prim.Native.Nat.{ℕ, ◌+◌, ◌-◌, ◌^◌, ◌%◌, ◌≤◌, ◌<◌}
+use Prim.Native.Nat.{ℕ, ◌%◌, ◌≤◌, ◌<◌}
 use native.Mathlib.Nat.{mod-lt}
 use native.Mathlib.Omega.{arith}
-use native.Mathlib.Decide.{ℕ_discrete}
 use lib.Dec.{eqb}
 use borrow.Author.Tests.{not-true, eq-eqb}
 use Rattle.wire.specs.Pick.{same}
 use Rattle.wire.proofs.Picks.{not_both, same_refl, and_both}
-use Rattle.super_block.specs.declared.SuperBlock.{SuperBlock}
-use Rattle.super_block.specs.Super.{Fit}
 use Rattle.model.specs.Tree.{Name}
 use Rattle.check_names.specs.Names.{one_of, distinct}
 use Rattle.name_filter.specs.Bits.{hash_of}
@@ -105,16 +102,6 @@ abbrev pub Tested : Bool → List Name → ℕ → ℕ → Type 0
 Tested t xs m k = (j : ℕ) → j < k → (t && distinct_in m j xs) ≡ true
 
 module _ (t : Bool) (xs : List Name) (m k : ℕ) where
-  pub tested_none : k ≡ 0 → Tested t xs m k
-  tested_none e j l = absurd (omega arith)
-
-  pub tested_more : (r : Bool) → Tested t xs m k → r ≡ (t && distinct_in m k xs) → r ≡ true → Tested t xs m (k + 1)
-  tested_more r v e u j l = go (ℕ_discrete j k)
-    where
-      go : Dec (j ≡ k) → (t && distinct_in m j xs) ≡ true
-      go (yes q) = ap (λ (i : ℕ). t && distinct_in m i xs) q ∙ sym e ∙ u
-      go (no n) = v j (omega arith)
-
   pub tested_all : Tested t xs m k → 0 < m → m ≤ k → true ≡ (t && distinct xs)
   tested_all v h l =
       let all : (j : ℕ) → j < m → (t ≡ true) × (distinct_in m j xs ≡ true)
@@ -125,15 +112,3 @@ module _ (t : Bool) (xs : List Name) (m k : ℕ) where
   tested_not r e u = sym (not_so (t && distinct xs) (λ d.
       let q = and_both t (distinct xs) d in
       not_both (both_so t (distinct_in m k xs) q.0 (part_distinct m k xs q.1)) (sym e ∙ u)))
-
--- ---- how `extent` counts
-
-module _ {s : SuperBlock} {I : List ℕ} {n : ℕ} (f : Fit s I) (h : n < 268435456) where
-  pub extent_fits : n + s.size < 2 ^ 32
-  extent_fits = omega (arith, f.known.most)
-
-  pub extent_more : n + s.size < 536870912
-  extent_more = omega (arith, f.known.most)
-
-  pub extent_less : 536870912 - (n + s.size) < 536870912 - n
-  extent_less = omega (arith, f.known.least)

@@ -50,7 +50,7 @@ module _ (A : Area) (I : List ℕ) (a : ℕ) (W Z : List ℕ) (r : Bool) (q : Ma
   unfolding dir_check
   as_steps seen = dir_steps A I max_depth a seen
 
-  pub tree_no : r ≡ false → MarksAnswer A tree_check W Z false
+  pub tree_no : r ≡ false → MarksAnswer A tree_check W Z r
   tree_no e = step_no A _ entries tree_check W Z r q as_steps e
 
   pub tree_yes : r ≡ true → (Y : List ℕ) (t : Bool) → MarksAnswer A entries Z Y t → MarksAnswer A tree_check W Y t
@@ -137,8 +137,8 @@ module _ (s : SuperBlock) (I : List ℕ) (f : Fit s I) where
         whole_is : whole g I ≡ (v && eqb (used_count g I) (data_at g + set_bits I g))
         whole_is = rest_then (some claimed.0) there ∙ ap (λ (x : Bool). x && eqb (used_count g I) (data_at g + set_bits I g)) (sym same_bits ∙ sym k)
 
-        pub not_agreed : v ≡ false → false ≡ whole g I
-        not_agreed y = sym (whole_is ∙ ap (λ (x : Bool). x && eqb (used_count g I) (data_at g + set_bits I g)) y)
+        pub not_agreed : v ≡ false → v ≡ whole g I
+        not_agreed y = y ∙ sym (whole_is ∙ ap (λ (x : Bool). x && eqb (used_count g I) (data_at g + set_bits I g)) y)
 
         pub answer_count : v ≡ true → (u : Bool) → u ≡ eqb (used_count g I) (data_at g + set_bits I g) → u ≡ whole g I
         answer_count y u o = o ∙ sym (whole_is ∙ ap (λ (x : Bool). x && eqb (used_count g I) (data_at g + set_bits I g)) y)

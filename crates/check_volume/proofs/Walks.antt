@@ -1,4 +1,5 @@
 -- The walk of a directory and of an entry: what the code knows where it answers.
+use Rattle.std.specs.Prelude.{Option, Some, None, Result, Ok, Err}
 use mathlib.Core.Path.{◌≡◌, sym, ap, ◌∙◌, subst}
 use mathlib.Core.Bool.{Bool, true, false}
 use mathlib.Core.Option.{none}
@@ -21,25 +22,16 @@ use Rattle.read_dir.specs.Walk.{Walk, walk}
 use Rattle.read_dir.specs.Cursor.{start, cursor_walk, on_step, Stepped}
 use Rattle.read_dir.specs.Finds.{sum_from}
 use Rattle.read_dir.specs.declared.ReadDir.{ReadDir}
-use Rattle.read_dir.specs.declared.Place.{Place}
-use Rattle.read_dir.specs.declared.Step.{Step}
-use Rattle.read_dir.specs.declared.Step.TheVariants as step
 use Rattle.read_dir.proofs.Along.{start-walk}
-use Rattle.check_names.specs.Filter.{clear}
 use Rattle.thm_survey.specs.Survey.{chain_of, seen_of}
 use Rattle.check_chain.specs.Marks.{MarksAnswer}
 use Rattle.thm_survey.specs.Steps.{open_dir, through, is_total, entry_check, sub_check}
 use Rattle.check_chain.proofs.Claims.{beyond_refl}
-use Rattle.check_chain.proofs.Remaining.{checks_as, Check, Goes, goes_refl, goes_end, goes_stop, goes_no, goes_yes, goes_last, step_no, step_yes}
+use Rattle.check_chain.proofs.Remaining.{checks_as, Check, Goes, goes_end, goes_stop, goes_no, goes_yes, goes_last, step_no, step_yes}
 use Rattle.thm_survey.proofs.WalkedDirs.{sub-steps, sub-none, file_steps, device_steps}
 use Rattle.check_chain.proofs.Chains.{file_of}
-
--- a filter that comes back as it was is still clear, and as long
-pub still_clear : (F G : List ℕ) → F ≡ G → G ≡ clear → F ≡ clear
-still_clear F G e h = e ∙ h
-
-pub kept_filter : (F G H : List ℕ) → F ≡ G → G ≡ H → F ≡ H
-kept_filter F G H e h = e ∙ h
+use Rattle.limits.specs.declared.Damage.{Damage}
+use Rattle.read_dir.specs.declared.Placed.{Placed}
 
 -- ---- a directory's entries
 
@@ -47,13 +39,10 @@ kept_filter F G H e h = e ∙ h
 pub record Rest (A : Area) (f : DirEntry → Check) (W₀ : List ℕ) (w₀ : Walk) (W : List ℕ) (w : Walk) : Type 0 where
   pub goes : Goes A (through f w₀) (through f w) W₀ W
 
-pub rest_start : (A : Area) (f : DirEntry → Check) (W : List ℕ) (w : Walk) → Rest A f W w W w
-rest_start A f W w = record { goes = goes_refl A (through f w) W }
-
 module _ (A : Area) (I : List ℕ) (f : DirEntry → Check) (W₀ : List ℕ) (c₀ : ReadDir) (W : List ℕ) (c : ReadDir) (l : Rest A f W₀ (cursor_walk A I c₀) W (cursor_walk A I c))
-    (m : Step) (w : Stepped A I c m) where
-  gave : (x : Step) → m ≡ x → (seen : List ℕ) → through f (cursor_walk A I c) seen ≡ through f (on_step A I x) seen
-  gave x g seen = ap (λ (v : Walk). through f v seen) (w.walked ∙ ap (on_step A I) g)
+    (d : ReadDir) (m : Result (Option Placed) Damage) (w : Stepped A I c d m) where
+  gave : (x : Result (Option Placed) Damage) → m ≡ x → (seen : List ℕ) → through f (cursor_walk A I c) seen ≡ through f (on_step A I d x) seen
+  gave x g seen = ap (λ (v : Walk). through f v seen) (w.walked ∙ ap (on_step A I d) g)
 
   module _ (dir : Addr) (b : c₀ ≡ start A dir) where
     abbrev all : Check
@@ -62,22 +51,22 @@ module _ (A : Area) (I : List ℕ) (f : DirEntry → Check) (W₀ : List ℕ) (c
     whole : (Z : List ℕ) (r : Bool) → MarksAnswer A (through f (cursor_walk A I c₀)) W₀ Z r → MarksAnswer A all W₀ Z r
     whole Z r q = subst (λ (v : Walk). MarksAnswer A (through f v) W₀ Z r) (start-walk A I c₀ dir b) q
 
-    pub rest_end : m ≡ step.End → MarksAnswer A all W₀ W true
+    pub rest_end : m ≡ Ok None → MarksAnswer A all W₀ W true
     unfolding through
-    rest_end g = whole W true (goes_end A _ _ W₀ W l.goes (λ seen. gave step.End g seen))
+    rest_end g = whole W true (goes_end A _ _ W₀ W l.goes (λ seen. gave (Ok None) g seen))
 
-    pub rest_bad : m ≡ step.Damaged → MarksAnswer A all W₀ W false
+    pub rest_bad : (v : Damage) → m ≡ Err v → MarksAnswer A all W₀ W false
     unfolding through
-    rest_bad g = whole W false (goes_stop A _ _ W₀ W l.goes (λ seen. gave step.Damaged g seen))
+    rest_bad v g = whole W false (goes_stop A _ _ W₀ W l.goes (λ seen. gave (Err v) g seen))
 
-    pub rest_no : (e : DirEntry) (p : Place) (d : ReadDir) (Z : List ℕ) (r : Bool) → m ≡ step.Entry e p d → MarksAnswer A (f e) W Z r → r ≡ false → MarksAnswer A all W₀ Z false
+    pub rest_no : (y : Placed) (Z : List ℕ) (r : Bool) → m ≡ Ok (Some y) → MarksAnswer A (f y.entry) W Z r → r ≡ false → MarksAnswer A all W₀ Z false
     unfolding through
-    rest_no e p d Z r g q h = whole Z false (goes_no A _ _ W₀ W l.goes (f e) Z r q h (λ seen z. gave (step.Entry e p d) g seen ∙ then-none _ z))
+    rest_no y Z r g q h = whole Z false (goes_no A _ _ W₀ W l.goes (f y.entry) Z r q h (λ seen z. gave (Ok (Some y)) g seen ∙ then-none _ z))
 
-  pub rest_on : (e : DirEntry) (p : Place) (d : ReadDir) (Z : List ℕ) (r : Bool) → m ≡ step.Entry e p d → MarksAnswer A (f e) W Z r → r ≡ true
+  pub rest_on : (y : Placed) (Z : List ℕ) (r : Bool) → m ≡ Ok (Some y) → MarksAnswer A (f y.entry) W Z r → r ≡ true
       → Rest A f W₀ (cursor_walk A I c₀) Z (cursor_walk A I d)
   unfolding through
-  rest_on e p d Z r g q h = record { goes = goes_yes A _ _ W₀ W l.goes (f e) Z r q (through f (cursor_walk A I d)) h (λ seen s z. gave (step.Entry e p d) g seen ∙ then_some _ z) }
+  rest_on y Z r g q h = record { goes = goes_yes A _ _ W₀ W l.goes (f y.entry) Z r q (through f (cursor_walk A I d)) h (λ seen s z. gave (Ok (Some y)) g seen ∙ then_some _ z) }
 
 -- ---- an entry
 
@@ -108,14 +97,14 @@ module _ (A : Area) (I : List ℕ) (depth : ℕ) (e : DirEntry) (W Z : List ℕ)
         ap (λ (d : ℕ). entry_check A I d e seen) w ∙ sub-steps A I fits (depth - 1) e seen g
 
     pub entry_shut : r ≡ false → MarksAnswer A (entry_check A I depth e) W Z false
-    entry_shut h = step_no A _ (λ s. pick fits_size (below s) none) _ W Z r q as_sub h
+    entry_shut h = subst (MarksAnswer A (entry_check A I depth e) W Z) h (step_no A _ (λ s. pick fits_size (below s) none) _ W Z r q as_sub h)
 
     module _ (h : r ≡ true) (t : Bool) (o : t ≡ fits_size) where
       opened : Goes A (entry_check A I depth e) (λ s. pick fits_size (below s) none) W Z
       opened = step_yes A _ (λ s. pick fits_size (below s) none) _ W Z r q as_sub h
 
-      pub entry_size : t ≡ false → MarksAnswer A (entry_check A I depth e) W Z false
-      entry_size z = goes_stop A _ _ W Z opened (λ s. pick_false _ _ (sym o ∙ z))
+      pub entry_size : t ≡ false → MarksAnswer A (entry_check A I depth e) W Z t
+      entry_size z = subst (MarksAnswer A (entry_check A I depth e) W Z) (sym z) (goes_stop A _ _ W Z opened (λ s. pick_false _ _ (sym o ∙ z)))
 
       pub entry_down : t ≡ true → (d : ℕ) (Y : List ℕ) (u : Bool) → d ≡ depth - 1 → MarksAnswer A (through (entry_check A I d) (walk A I e.addr.0)) Z Y u → MarksAnswer A (entry_check A I depth e) W Y u
       entry_down z d Y u v p =

@@ -11,7 +11,8 @@ use lib.ListN.{length}
 use borrow.Author.Tests.{le-leb, lt-leb, lt-ltb, eq-eqb, ne_eqb, ltb-true, ltb-false, eqb-false}
 use Rattle.wire.specs.Pick.{pick}
 use Rattle.wire.proofs.Picks.{either, not_both}
-use Rattle.block.specs.Block.{Area}
+use Rattle.std.specs.Prelude.{Result, Ok}
+use Rattle.limits.specs.declared.Damage.{Damage}
 use Rattle.model.specs.Answers.{Reply, accepted, refused, and_then, when, first_of, given}
 use Rattle.model.specs.Tree.{Name, Entry, Below, Tree, Absent, any, holds, lookup, Some, find}
 use Rattle.model.specs.Render.{blocks_at}
@@ -19,7 +20,7 @@ use Rattle.model.specs.Geometry.{area_of, Geo, block_size}
 use Rattle.model.specs.Volume.{max_depth, GoodName, Volume}
 use Rattle.model.specs.Calls.{free_blocks, entry_room, to_create, entry_block, TreeCreatesFile, TreeCreatesDir}
 use Rattle.model.proofs.Opens.{when_true, when_false, when-none, first_of_one}
-use Rattle.model.proofs.Replies.{not_accepted, accepted-one, given_none, given_some, given_accepted, given_refused, then-accepted, then-refused, and_then_ok}
+use Rattle.model.proofs.Replies.{not_accepted, accepted-one, given_some, given_accepted, given_refused, then-accepted, then-refused, and_then_ok}
 use Rattle.bitmap_block.proofs.Stores.{volume_clears}
 use Rattle.dir_entry.specs.declared.Kind.{Kind}
 use Rattle.dir_entry.specs.declared.Kind.TheVariants.{Dir, File}
@@ -27,9 +28,9 @@ use Rattle.dir_entry.specs.Entry.{is_dir}
 use Rattle.read_dir.specs.Walk.{walk}
 use Rattle.read_dir.specs.Finds.{find_in}
 use Rattle.create_store.specs.declared.Spot.{Spot}
-use Rattle.create_store.specs.declared.Spot.TheVariants as spot
-use Rattle.create_store.specs.Create.{spot_for, needed, SpotIn, inserted_at}
-use Rattle.create_store.proofs.Inserted.{inserted_file, inserted_dir, inserted_entry, spot_inside, spot_adds}
+use Rattle.create_store.specs.Create.{spot_for, spot_on, needed, inserted_at}
+use Rattle.create_store.proofs.Spotted.{spot_is}
+use Rattle.create_store.proofs.Inserted.{inserted_file, inserted_dir, inserted_entry, spot_adds}
 use Rattle.text.specs.Text.{is_text}
 use Rattle.path.specs.Path.{last_name, dir_part, steps}
 use Rattle.path.proofs.FullPaths.{last_name_lem}
@@ -37,7 +38,7 @@ use Rattle.dir.specs.Hold.{Hold, hold_dir}
 use Rattle.thm_path.specs.Held.{HeldAt}
 use Rattle.thm_path.proofs.Finds.{lookup_or, find_is, find-missing}
 use Rattle.thm_path.proofs.Holding.{hold_is, hold_refused, hold_some}
-use Rattle.create.specs.Creating.{Site, Fresh, bad_name, too_deep, exists_number, spot_number, no_room, site_at, site_in, site_of, fresh_of, created_on, image_at, created_image}
+use Rattle.create.specs.Creating.{Site, Fresh, bad_name, too_deep, exists_number, no_room, site_at, site_in, site_of, fresh_of, created_on, image_at, created_image}
 use Rattle.create.specs.OnTree.{tree_refusal}
 use Rattle.create.proofs.Sites.{name_short}
 
@@ -61,6 +62,9 @@ no_level (suc e) d h = lt-leb max_depth d (omega arith) ∙ sym (ne_eqb (suc e) 
 -- the first of three tests
 abbrev first_test : Bool → Bool → Bool → ℕ
 first_test a b c = first_of (when 15 a ∷ (when 7 b ∷ (when 9 c ∷ [])))
+
+tests_given : {A : Type 0} (a b c : Bool) (r : Reply A) → given (first_test a b c) r ≡ given (when 15 a) (given (when 7 b) (given (when 9 c) r))
+tests_given a b c r = given_first (when 15 a) _ r ∙ ap (given (when 15 a)) (given_first (when 7 b) _ r ∙ ap (given (when 7 b)) (given_last (when 9 c) r))
 
 tests_none : (a b c : Bool) → first_test a b c ≡ 0 → (a ≡ false) × (b ≡ false) × (c ≡ false)
 unfolding first_of when pick
@@ -95,6 +99,12 @@ module _ (g : Geo) (free : List ℕ) (k : Kind) (n : Name) (s : Some) where
   abbrev full_test : Bool
   full_test = ltb (length free) (to_create (entry_room g) n s.1)
 
+  -- what the code's tests come to, one after the other
+  tree_given : {A : Type 0} (r : Reply A)
+      → given (tree_refusal g free k n s) r ≡ given (when 15 (is_dir k && eqb s.0 0)) (given (when 7 (any (holds n) s.1)) (given (when 9 full_test) r))
+  unfolding tree_refusal
+  tree_given r = search (tests_given (is_dir k && eqb s.0 0) (any (holds n) s.1) full_test r)
+
   tree_none : tree_refusal g free k n s ≡ 0 → ((is_dir k && eqb s.0 0) ≡ false) × Absent n s.1 × (to_create (entry_room g) n s.1 ≤ length free)
   unfolding tree_refusal
   tree_none e =
@@ -113,19 +123,6 @@ module _ (g : Geo) (free : List ℕ) (k : Kind) (n : Name) (s : Some) where
     λ q. last_tests q.0 q.1 (lt-ltb _ _ q.2),
   )
 
-  -- what the code's tests come to
-  tree_given : {A : Type 0} (r : Reply A)
-      → given (tree_refusal g free k n s) r ≡ given (when 15 (is_dir k && eqb s.0 0)) (given (when 7 (any (holds n) s.1)) (given (when 9 full_test) r))
-  unfolding tree_refusal
-  tree_given r =
-      given_first (when 15 (is_dir k && eqb s.0 0)) _ r
-      ∙ ap (given (when 15 (is_dir k && eqb s.0 0))) (given_first (when 7 (any (holds n) s.1)) _ r ∙ ap (given (when 7 (any (holds n) s.1))) (given_last (when 9 full_test) r))
-
-spot_known : (A : Area) (len : ℕ) (p : Spot) → SpotIn A len p → spot_number p ≡ 0
-spot_known A len (spot.In p) h = refl
-spot_known A len (spot.After a) h = refl
-spot_known A len spot.Damaged h = absurd h
-
 -- ---- a create in a directory of the tree
 
 module _ (g : Geo) (I : List ℕ) (t : Tree max_depth) (v : Volume g I max_depth t) (p : List Name) (h : Hold) (q : HeldAt (block_size g) max_depth p t h) (k : Kind) (n : Name) where
@@ -136,7 +133,15 @@ module _ (g : Geo) (I : List ℕ) (t : Tree max_depth) (v : Volume g I max_depth
   dir = q.there
 
   abbrev at : Spot
-  at = spot_for (area_of g) I h.dir (length n)
+  at = spot_on (entry_room g) n 0 dir.1
+
+  -- the spot that is looked for is the tree's
+  at_told : Ok at ≡ spot_for (area_of g) I h.dir (length n)
+  at_told =
+      sym (ap (λ (a : ℕ). spot_for (area_of g) I a (length n)) (sym q.starts) ∙ spot_is g I max_depth t _ p n dir v.laid q.found)
+
+  abbrev looked : Result Spot Damage
+  looked = spot_for (area_of g) I h.dir (length n)
 
   abbrev site : Site
   site = record { dir = h.dir; spot = at; own = h.own }
@@ -159,20 +164,19 @@ module _ (g : Geo) (I : List ℕ) (t : Tree max_depth) (v : Volume g I max_depth
   unfolding no_room
   room_is =
       ap (λ (l : List ℕ). ltb (length l) (needed at)) (volume_clears g I max_depth t v)
-      ∙ ap (ltb (length free)) (spot_adds g I max_depth t n at v p dir q.found h.dir q.starts refl)
+      ∙ ap (ltb (length free)) (spot_adds g I max_depth t n at v p dir q.found h.dir q.starts at_told)
 
-  at_is : site_at g I h at ≡ given (when 9 (ltb (length free) (to_create (entry_room g) n dir.1))) (accepted site)
+  at_is : site_at g I h (spot_for (area_of g) I h.dir (length n))
+      ≡ given (when 9 (ltb (length free) (to_create (entry_room g) n dir.1))) (accepted site)
   unfolding site_at
-  at_is =
-      given_none _ (spot_known (area_of g) (length n) at (spot_inside g I max_depth t n at v p dir q.found h.dir q.starts refl))
-      ∙ ap (λ (b : Bool). given (when 9 b) (accepted site)) room_is
+  at_is = ap (site_at g I h) (sym at_told) ∙ ap (λ (b : Bool). given (when 9 b) (accepted site)) room_is
 
   -- The tree's refusal if there is one, and else the site: never 17.
   site_is : site_in g I k n h ≡ given (tree_refusal g free k n dir) (accepted site)
   unfolding site_in
   site_is =
-      ap (λ (b : Bool). given (when 15 b) (given (exists_number (find_in n (walk (area_of g) I h.dir))) (site_at g I h at))) deep_is
-      ∙ ap (λ (j : ℕ). given (when 15 (is_dir k && eqb dir.0 0)) (given j (site_at g I h at))) found_is
+      ap (λ (b : Bool). given (when 15 b) (given (exists_number (find_in n (walk (area_of g) I h.dir))) (site_at g I h looked))) deep_is
+      ∙ ap (λ (j : ℕ). given (when 15 (is_dir k && eqb dir.0 0)) (given j (site_at g I h looked))) found_is
       ∙ ap (λ (r : Reply Site). given (when 15 (is_dir k && eqb dir.0 0)) (given (when 7 (any (holds n) dir.1)) r)) at_is
       ∙ sym (tree_given g free k n dir (accepted site))
 
@@ -290,7 +294,7 @@ module _ (g : Geo) (I : List ℕ) (t : Tree max_depth) (v : Volume g I max_depth
       let w : site_of g I k l ≡ accepted (site g I t v way h q k last) = e ∙ ap accepted r.here in
       let first : h.dir ≡ blocks_at s.1 = sym q.starts ∙ ap (λ (y : Some). blocks_at y.1) (one_there s h q f) in
       let second : inserted_at g I (at g I t v way h q k last) ≡ entry_block g last s.1 unused
-      = inserted_entry g I max_depth t v way last 0 h.own q.own m (omega arith) d q.found h.dir q.starts (at g I t v way h q k last) refl z.1 z.2
+      = inserted_entry g I max_depth t v way last 0 h.own q.own m (omega arith) d q.found h.dir q.starts (at g I t v way h q k last) (at_told g I t v way h q k last) z.1 z.2
       ∙ ap (λ (y : Some). entry_block g last y.1 unused) (one_there s h q f) in
       and_then_ok (site g I t v way h q k last) (λ (y : Site). let u : Reply Fresh = accepted (record { dir = y.dir; block = inserted_at g I y.spot }) in u) w
       ∙ ap (λ (a : ℕ). let u : Reply Fresh = accepted (record { dir = a; block = inserted_at g I (at g I t v way h q k last) }) in u) first
@@ -312,7 +316,7 @@ module _ (g : Geo) (I : List ℕ) (t : Tree max_depth) (v : Volume g I max_depth
       let z = tree_none g (free_blocks g max_depth t) File (last_name l) q.there r.tests in
       subst (λ (y : Reply Site). TreeCreatesFile g max_depth names (last_name l) now t I (image_at g I File (last_name l) now y)) (sym (e ∙ ap accepted r.here))
       (inserted_file g I max_depth t v names (last_name l) now h.own q.own (good_last g I t v File l plain r.named) clock q.there q.found h.dir q.starts
-      (at g I t v names h q File (last_name l)) refl z.1 z.2)
+      (at g I t v names h q File (last_name l)) (at_told g I t v names h q File (last_name l)) z.1 z.2)
 
   -- An accepted create of a directory is the model's.
   pub created_dir_lem : site_of g I Dir l ≡ accepted x → TreeCreatesDir g max_depth (steps (dir_part l)) (last_name l) now t I (created_image g I Dir l now)
@@ -325,4 +329,4 @@ module _ (g : Geo) (I : List ℕ) (t : Tree max_depth) (v : Volume g I max_depth
       let some_level : q.there.0 ≡ 0 → ⊥ = eqb-false q.there.0 0 z.0 in
       subst (λ (y : Reply Site). TreeCreatesDir g max_depth names (last_name l) now t I (image_at g I Dir (last_name l) now y)) (sym (e ∙ ap accepted r.here))
       (inserted_dir g I max_depth t v names (last_name l) now h.own q.own (good_last g I t v Dir l plain r.named) clock q.there q.found h.dir q.starts
-      (at g I t v names h q Dir (last_name l)) refl z.1 z.2 (omega arith))
+      (at g I t v names h q Dir (last_name l)) (at_told g I t v names h q Dir (last_name l)) z.1 z.2 (omega arith))

@@ -1,19 +1,18 @@
 -- Creating by a full path, on an opened volume: the refusals in the order O9, and the image. Definitions alone.
 -- O9: 8, 5/6, 15, 7, 9 (4 comes before, with the path)
-use Rattle.std.specs.Prelude.{Bool, ◌&&◌, ◌||◌, List, ℕ, ltb, leb, eqb, length}
+use Rattle.std.specs.Prelude.{Bool, ◌&&◌, ◌||◌, List, ℕ, ltb, leb, eqb, length, Option, Some, None, Result, Ok, Err}
 use Rattle.model.specs.Answers.{Reply, accepted, refused, and_then, when, given}
 use Rattle.model.specs.Geometry.{area_of, Geo}
 use Rattle.model.specs.Volume.{max_depth}
 use Rattle.bitmap_block.specs.Bitmap.{clears}
 use Rattle.dir_entry.specs.declared.Kind.{Kind}
 use Rattle.dir_entry.specs.Entry.{is_dir}
-use Rattle.read_dir.specs.declared.Found.{Found}
-use Rattle.read_dir.specs.declared.Found.TheVariants as found
+use Rattle.limits.specs.declared.Damage.{Damage}
+use Rattle.read_dir.specs.declared.Placed.{Placed}
 use Rattle.read_dir.specs.Walk.{walk}
 use Rattle.read_dir.specs.Finds.{find_in}
-use Rattle.own_entry.specs.declared.Own.{Own}
+use Rattle.own_entry.specs.Own.{Own}
 use Rattle.create_store.specs.declared.Spot.{Spot}
-use Rattle.create_store.specs.declared.Spot.TheVariants as spot
 use Rattle.create_store.specs.Create.{spot_for, needed, inserted, inserted_at}
 use Rattle.path.specs.Path.{last_name, dir_part}
 use Rattle.dir.specs.Hold.{Hold, hold_dir}
@@ -38,15 +37,10 @@ unfoldable pub too_deep : Kind → Hold → Bool
 too_deep k h = is_dir k && leb max_depth h.depth
 
 -- R7; damage on the walk is 17
-abbrev pub exists_number : Found → ℕ
-exists_number (found.At e p) = 7
-exists_number found.Missing = 0
-exists_number found.Damaged = 17
-
-abbrev pub spot_number : Spot → ℕ
-spot_number (spot.In p) = 0
-spot_number (spot.After a) = 0
-spot_number spot.Damaged = 17
+abbrev pub exists_number : Result (Option Placed) Damage → ℕ
+exists_number (Ok (Some x)) = 7
+exists_number (Ok None) = 0
+exists_number (Err d) = 17
 
 module _ (g : Geo) (I : List ℕ) where
   -- R9: k is the number of blocks that the create takes
@@ -54,9 +48,9 @@ module _ (g : Geo) (I : List ℕ) where
   no_room k = ltb (length (clears g I)) k
 
   -- In the directory h, for a name that goes to the spot p: 9, or the site; damage on the way to the spot is 17.
-  unfoldable pub site_at : Hold → Spot → Reply Site
-  site_at h p = given (spot_number p) (given (when 9 (no_room (needed p)))
-      (accepted (record { dir = h.dir; spot = p; own = h.own })))
+  unfoldable pub site_at : Hold → Result Spot Damage → Reply Site
+  site_at h (Ok p) = given (when 9 (no_room (needed p))) (accepted (record { dir = h.dir; spot = p; own = h.own }))
+  site_at h (Err d) = refused 17
 
   -- In the directory h, for the name x: 15, 7, then these.
   unfoldable pub site_in : Kind → List ℕ → Hold → Reply Site

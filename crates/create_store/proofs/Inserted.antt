@@ -30,8 +30,8 @@ use Rattle.dir_entry.specs.declared.Kind.TheVariants.{Dir, File}
 use Rattle.dir_entry.specs.Shown.{head_of}
 use Rattle.dir_entry.proofs.Shown.{entry_bytes_lem}
 use Rattle.thm_walk.proofs.Parts.{Stored, Part, laid_part, part_find, stored_right, stored_in}
-use Rattle.own_entry.specs.declared.Own.{Own}
-use Rattle.own_entry.specs.Own.{OwnOf}
+use Rattle.std.specs.Prelude.{Ok}
+use Rattle.own_entry.specs.Own.{Own, OwnOf}
 use Rattle.own_entry.proofs.Renews.{Made, sub-blocks, sum_makes}
 use Rattle.create_store.specs.declared.Spot.{Spot}
 use Rattle.create_store.specs.Create.{spot_for, spot_on, needed, SpotIn, entered, opened, place_in, inserted, inserted_at}
@@ -230,11 +230,14 @@ module _ (g : Geo) (I : List ℕ) (d : ℕ) (t : Tree d) (v : Volume g I d t) (p
 
   -- ==== the theorem
 
-  module _ (s : Some) (h : find d p t ≡ some s) (dir : ℕ) (begins : blocks_at s.1 ≡ dir) (at : Spot) (at_is : at ≡ spot_for (area_of g) I dir (length n))
+  module _ (s : Some) (h : find d p t ≡ some s) (dir : ℕ) (begins : blocks_at s.1 ≡ dir) (at : Spot) (at_is : Ok at ≡ spot_for (area_of g) I dir (length n))
       (absent : Absent n s.1) (room : to_create (entry_room g) n s.1 ≤ length (free_blocks g d t)) where
     -- the spot that code finds is the tree's
     at_spot : at ≡ spot_on (entry_room g) n 0 s.1
-    at_spot = at_is ∙ ap (λ (a : ℕ). spot_for (area_of g) I a (length n)) (sym begins) ∙ spot_is g I d t _ p n s v.laid h
+    at_spot =
+        let both : Ok at ≡ Ok (spot_on (entry_room g) n 0 s.1)
+        = at_is ∙ ap (λ (a : ℕ). spot_for (area_of g) I a (length n)) (sym begins) ∙ spot_is g I d t _ p n s v.laid h in
+        cc
 
     -- Creating a file.
     pub inserted_file : TreeCreatesFile g d p n now t I (inserted g I dir at own File n now)
@@ -280,15 +283,13 @@ module _ (g : Geo) (I : List ℕ) (d : ℕ) (t : Tree d) (n : Name) where
     in_part e (b ∷ bs) q k = (in_gap (view (block_size g) e) (b ∷ bs) q.stored k (gap (entry_room g) n 0 b bs), ap needed k ∙ spot_needs (entry_room g) n 0 b bs)
 
     module _ (v : Volume g I d t) (p : List Name) (s : Some) (h : find d p t ≡ some s) (dir : ℕ) (begins : blocks_at s.1 ≡ dir)
-        (at_is : at ≡ spot_for (area_of g) I dir (length n)) where
+        (at_is : Ok at ≡ spot_for (area_of g) I dir (length n)) where
       both : SpotIn (area_of g) (length n) at × (needed at ≡ to_create (entry_room g) n s.1)
       both =
-          in_part s.0 s.1 (part_find g I d p t s (laid_part g I d t _ v.laid) h)
-          (at_is ∙ ap (λ (a : ℕ). spot_for (area_of g) I a (length n)) (sym begins) ∙ spot_is g I d t _ p n s v.laid h)
-
-      -- It lies in the data area and has the room,
-      pub spot_inside : SpotIn (area_of g) (length n) at
-      spot_inside = both.0
+          let told : Ok at ≡ Ok (spot_on (entry_room g) n 0 s.1)
+          = at_is ∙ ap (λ (a : ℕ). spot_for (area_of g) I a (length n)) (sym begins) ∙ spot_is g I d t _ p n s v.laid h in
+          let is : at ≡ spot_on (entry_room g) n 0 s.1 = cc in
+          in_part s.0 s.1 (part_find g I d p t s (laid_part g I d t _ v.laid) h) is
 
       -- the blocks that it needs are those that a create adds,
       pub spot_adds : needed at ≡ to_create (entry_room g) n s.1

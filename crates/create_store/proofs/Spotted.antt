@@ -23,10 +23,17 @@ use Rattle.dir_entry.specs.Shown.{head_of}
 use Rattle.dir_entry.proofs.Shown.{Legible, head_weight, first_shown, block_stops, slot_is}
 use Rattle.read_dir.specs.Finds.{placed}
 use Rattle.thm_walk.proofs.Parts.{Stored, Part, laid_part, part_find, stored_few, entries_legible, block_data, chain-after, below_stored, block_next, block_shown}
+use Rattle.std.specs.Prelude.{Result, Ok}
+use Rattle.limits.specs.declared.Damage.{Damage}
+use Rattle.create_store.specs.declared.Spot.{Spot}
 use Rattle.create_store.specs.declared.Spot.TheVariants.{In}
 use Rattle.create_store.specs.Create.{stop_from, used_at, spot_from, spot_for, spot_on, needed}
 use Rattle.create_store.proofs.Gaps.{Gap, Full, gap}
 use Rattle.create_store.proofs.Spots.{stop_here, stop_past, spot_in, spot_after, spot_next}
+
+-- a spot that is found
+abbrev ok : Spot → Result Spot Damage
+ok p = Ok p
 
 -- ---- where a block's entries stop
 
@@ -57,13 +64,13 @@ module _ (g : Geo) (I : List ℕ) (sound : Sound g (length I)) (d : ℕ) where
 
   -- one block
   room_here : (n : Name) (b : Block (Below d)) (bs : Tree d) (k z : ℕ) → GoodBlock (block_size g) (GoodBelow (block_size g) d) b → Stored g I (dir_pieces (block_size g) shows (b ∷ bs))
-      → has_room (entry_room g) n b ≡ true → spot_from (area_of g) I (length n) (suc k) b.at ≡ spot_on (entry_room g) n z (b ∷ bs)
+      → has_room (entry_room g) n b ≡ true → spot_from (area_of g) I (length n) (suc k) b.at ≡ Ok (spot_on (entry_room g) n z (b ∷ bs))
   unfolding spot_on has_room
   room_here n b bs k z a s c =
       let r = block_data g I shows b bs s in
       let e = block_used b bs a s in
       spot_in (area_of g) I (length n) k b.at r.0 r.1 (omega (arith, e, leb-true (used b.entries + (18 + length n)) (entry_room g) c))
-      ∙ ap (λ (u : ℕ). In (placed b.at u)) e ∙ sym (pick_true _ _ c)
+      ∙ ap (λ (u : ℕ). let r : Result Spot Damage = Ok (In (placed b.at u)) in r) e ∙ ap ok (sym (pick_true _ _ c))
 
   no_room_lem : (n : Name) (b : Block (Below d)) (bs : Tree d) → GoodBlock (block_size g) (GoodBelow (block_size g) d) b → Stored g I (dir_pieces (block_size g) shows (b ∷ bs))
       → has_room (entry_room g) n b ≡ false → block_size g - 5 < used_at (block_size g) I b.at + header + length n
@@ -71,33 +78,33 @@ module _ (g : Geo) (I : List ℕ) (sound : Sound g (length I)) (d : ℕ) where
   no_room_lem n b bs a s c = omega (arith, block_used b bs a s, leb-false (used b.entries + (18 + length n)) (entry_room g) c)
 
   chain_spot : (n : Name) (b : Block (Below d)) (bs : Tree d) (k z : ℕ) → length bs ≤ k → All (GoodBlock (block_size g) (GoodBelow (block_size g) d)) (b ∷ bs)
-      → Stored g I (dir_pieces (block_size g) shows (b ∷ bs)) → spot_from (area_of g) I (length n) (suc k) b.at ≡ spot_on (entry_room g) n z (b ∷ bs)
+      → Stored g I (dir_pieces (block_size g) shows (b ∷ bs)) → spot_from (area_of g) I (length n) (suc k) b.at ≡ Ok (spot_on (entry_room g) n z (b ∷ bs))
   unfolding spot_on blocks_at
   chain_spot n b [] k z h a s = go (either (has_room (entry_room g) n b))
     where
       go : (has_room (entry_room g) n b ≡ true) ⊎ (has_room (entry_room g) n b ≡ false)
-          → spot_from (area_of g) I (length n) (suc k) b.at ≡ spot_on (entry_room g) n z (b ∷ [])
+          → spot_from (area_of g) I (length n) (suc k) b.at ≡ Ok (spot_on (entry_room g) n z (b ∷ []))
       go (inl c) = room_here n b [] k z a.0 s c
       go (inr c) =
           let r = block_data g I shows b [] s in
-          spot_after (area_of g) I (length n) k b.at r.0 r.1 (no_room_lem n b [] a.0 s c) (block_next g I shows sound b [] s) ∙ sym (pick_false _ _ c)
+          spot_after (area_of g) I (length n) k b.at r.0 r.1 (no_room_lem n b [] a.0 s c) (block_next g I shows sound b [] s) ∙ ap ok (sym (pick_false _ _ c))
   chain_spot n b (x ∷ bs) zero z h a s = absurd (omega arith)
   chain_spot n b (x ∷ bs) (suc k) z h a s = go (either (has_room (entry_room g) n b)) (chain_spot n x bs k b.at (omega arith) a.1 (chain-after g I shows b (x ∷ bs) s))
     where
       go : (has_room (entry_room g) n b ≡ true) ⊎ (has_room (entry_room g) n b ≡ false)
-          → spot_from (area_of g) I (length n) (suc k) x.at ≡ spot_on (entry_room g) n b.at (x ∷ bs)
-          → spot_from (area_of g) I (length n) (suc (suc k)) b.at ≡ spot_on (entry_room g) n z (b ∷ (x ∷ bs))
+          → spot_from (area_of g) I (length n) (suc k) x.at ≡ Ok (spot_on (entry_room g) n b.at (x ∷ bs))
+          → spot_from (area_of g) I (length n) (suc (suc k)) b.at ≡ Ok (spot_on (entry_room g) n z (b ∷ (x ∷ bs)))
       go (inl c) r = room_here n b (x ∷ bs) (suc k) z a.0 s c
       go (inr c) r =
           let q = block_data g I shows b (x ∷ bs) s in
           let m : next (block_size g) I b.at ≡ x.at = block_next g I shows sound b (x ∷ bs) s in
           let w = block_data g I shows x bs (chain-after g I shows b (x ∷ bs) s) in
           spot_next (area_of g) I (length n) (suc k) b.at q.0 q.1 (no_room_lem n b (x ∷ bs) a.0 s c) (λ y. omega (arith, y, m, w.0, (area g (length I) sound).maps))
-          ∙ ap (spot_from (area_of g) I (length n) (suc k)) m ∙ r ∙ sym (pick_false _ _ c)
+          ∙ ap (spot_from (area_of g) I (length n) (suc k)) m ∙ r ∙ ap ok (sym (pick_false _ _ c))
 
 -- The spot in a directory that the image holds.
 part_spot : (g : Geo) (I : List ℕ) (d : ℕ) (t : Tree d) (n : Name) → Part g I d t
-    → spot_for (area_of g) I (blocks_at t) (length n) ≡ spot_on (entry_room g) n 0 t
+    → spot_for (area_of g) I (blocks_at t) (length n) ≡ Ok (spot_on (entry_room g) n 0 t)
 unfolding blocks_at render
 part_spot g I d [] n p = absurd p.good.packed
 part_spot g I d (b ∷ bs) n p =
@@ -108,7 +115,7 @@ part_spot g I d (b ∷ bs) n p =
 
 -- The spot in a directory of a volume: its first block with room, where its entries end, or after its last one where none has room.
 pub spot_is : (g : Geo) (I : List ℕ) (d : ℕ) (t : Tree d) (u : ℕ) (p : List Name) (n : Name) (s : Some) → Laid g I d t u → find d p t ≡ some s
-    → spot_for (area_of g) I (blocks_at s.1) (length n) ≡ spot_on (entry_room g) n 0 s.1
+    → spot_for (area_of g) I (blocks_at s.1) (length n) ≡ Ok (spot_on (entry_room g) n 0 s.1)
 spot_is g I d t u p n s l f = part_spot g I s.0 s.1 n (part_find g I d p t s (laid_part g I d t u l) f)
 
 -- ---- how many blocks a create adds

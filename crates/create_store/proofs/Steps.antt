@@ -10,7 +10,7 @@ use Rattle.wire.specs.Be.{splice}
 use Rattle.wire.proofs.Numbers.{length-splice}
 use Rattle.block.specs.declared.Addr.{Addr}
 use Rattle.block.specs.Block.{Area, linked, Off, Kept}
-use Rattle.block.proofs.Blocks.{linked_inside, linked_kept}
+use Rattle.block.proofs.Blocks.{linked_kept}
 use Rattle.model.specs.Tree.{Name}
 use Rattle.model.specs.Geometry.{area_of, Geo, block_size, data_at, Sound}
 use Rattle.model.proofs.Areas.{area, size_large, block_inside}
@@ -26,11 +26,10 @@ use Rattle.dir_entry.specs.Entry.{head_bytes, place_at}
 use Rattle.dir_entry.proofs.Heads.{length_head, splice-then}
 use Rattle.read_dir.specs.declared.Place.{Place}
 use Rattle.read_dir.specs.Finds as finds
-use Rattle.own_entry.specs.declared.Own.{Own}
-use Rattle.own_entry.specs.declared.Own.TheVariants.{Root, At}
-use Rattle.own_entry.specs.Own.{OwnIn, sum_renewed}
+use Rattle.std.specs.Prelude.{Some, None}
+use Rattle.own_entry.specs.Own.{Own, OwnIn, sum_renewed}
 use Rattle.create_store.specs.declared.Spot.{Spot}
-use Rattle.create_store.specs.declared.Spot.TheVariants.{In, After, Damaged}
+use Rattle.create_store.specs.declared.Spot.TheVariants.{In, After}
 use Rattle.create_store.specs.Create.{needed, SpotIn, block_taken, opened, place_in, new_head, entered, inserted, inserted_at}
 
 -- ---- a block taken
@@ -74,24 +73,20 @@ module _ (g : Geo) (I : List ℕ) (s : Sound g (length I)) (len : ℕ) where
   opened_long : (t : Spot) → SpotIn (area_of g) len t → Room g I (needed t) → length (opened g I t) ≡ length I
   opened_long (In p) q r = refl
   opened_long (After a) q r = (linked_in a.0 q.0 q.1 r).size ∙ length-grown g I (omega (arith, r.clear)) s
-  opened_long Damaged q r = refl
 
   opened_room : (t : Spot) → SpotIn (area_of g) len t → Room g I (needed t) → Room g (opened g I t) 1
   opened_room (In p) q r = r
   opened_room (After a) q r =
       let h : 1 ≤ length (clears g I) = omega (arith, r.clear) in
       room_kept g (block_taken g I) (sound_grown g I h s) (Off a.0 0 4) _ (linked_in a.0 q.0 q.1 r) (λ b o k e _ _. omega (arith, q.0)) 1 (room_grown g I h s 1 r)
-  opened_room Damaged q r = absurd q
 
   place_data : (t : Spot) → SpotIn (area_of g) len t → Room g I (needed t) → (data_at g ≤ (place_in g I t).block.0) × ((place_in g I t).block.0 < g.n)
   place_data (In p) q r = (q.0, q.1)
   place_data (After a) q r = let h : 1 ≤ length (clears g I) = omega (arith, r.clear) in (fresh_low g I h, fresh_high g I h s)
-  place_data Damaged q r = absurd q
 
   place_room : (t : Spot) → SpotIn (area_of g) len t → len ≤ 255 → (place_in g I t).offset + 18 + len ≤ block_size g - 5
   place_room (In p) q r = omega (arith, q.2)
   place_room (After a) q r = omega (arith, size_large g)
-  place_room Damaged q r = absurd q
 
 -- ---- the entry stored
 
@@ -105,11 +100,6 @@ length-entered g I s r p k name time h q =
     length-splice (block_taken g I) (place_at (block_size g) p.block.0 p.offset) E (omega (arith, length_head (new_head k (fresh g I) time (length name)), size_large g)) ∙ l
 
 -- ==== what the code needs and gives
-
--- the linked block that code makes lies in each image of that length
-pub still_inside : {B z m : ℕ} (a : ℕ) (I J : List ℕ) → z ≡ B → m ≡ a → B * a + B ≤ length I → length J ≡ length I
-    → z * m + z ≤ length J
-still_inside a I J e f h l = linked_inside a e f (omega arith)
 
 module _ {s : SuperBlock} {I : List ℕ} (f : Fit s I) where
   -- take_block
@@ -127,12 +117,6 @@ module _ {s : SuperBlock} {I : List ℕ} (f : Fit s I) where
   -- the spot, by the struct's own numbers
   in_data : (t : Spot) (len : ℕ) → SpotIn (area_in s) len t → SpotIn (area_of (geo_of s)) len t
   in_data t len q = subst (λ (A : Area). SpotIn A len t) (area_is f) q
-
-  -- open_place
-  pub after_inside : (t : Spot) (len : ℕ) (a : Addr) → SpotIn (area_in s) len t → t ≡ After a → s.size * a.0 + s.size ≤ length I
-  after_inside t len a q e =
-      let w : SpotIn (area_in s) len (After a) = subst (SpotIn (area_in s) len) e q in
-      fit_inside s I I a.0 a.0 f refl refl w.1
 
   -- insert: what the second step finds
   module _ (t : Spot) (len : ℕ) {J : List ℕ} (q : SpotIn (area_in s) len t) (r : Room (geo_of s) I (needed t)) (j : J ≡ opened (geo_of s) I t) where
@@ -171,8 +155,8 @@ module _ {s : SuperBlock} {I : List ℕ} (f : Fit s I) where
         enter_fit = fit_long enter_long f
 
         pub enter_own : (o : Own) → OwnIn s.size I o → OwnIn s.size L o
-        enter_own Root x = tt
-        enter_own (At y) x = (omega (arith, x.0, enter_long), x.1)
+        enter_own None x = tt
+        enter_own (Some y) x = (omega (arith, x.0, enter_long), x.1)
 
 -- grow
 pub grow_image : (B : ℕ) (g : Geo) (I J L : List ℕ) (a z b c last : ℕ) → J ≡ block_taken g I → a ≡ fresh g I → c ≡ a → z ≡ B
@@ -187,16 +171,8 @@ module _ (g : Geo) (I : List ℕ) (t : Spot) where
   pub in_place : (p : Place) → t ≡ In p → p ≡ place_in g I t
   in_place p e = ap (place_in g I) (sym e)
 
-  pub after_room : (a : Addr) → t ≡ After a → Room g I (needed t) → Room g I 1
-  after_room a e r =
-      let w : Room g I 2 = subst (λ (z : Spot). Room g I (needed z)) e r in
-      record { clear = omega (arith, w.clear); count = omega (arith, w.count) }
-
   pub after_place : (a b : Addr) → t ≡ After a → b.0 ≡ fresh g I → ◌≡◌ {A = Place} (record { block = b; offset = 0 }) (place_in g I t)
   after_place a b e f = (λ i. finds.placed (f i) 0) ∙ ap (place_in g I) (sym e)
-
-  pub never : (A : Area) (len : ℕ) → t ≡ Damaged → SpotIn A len t → ⊥
-  never A len e q = subst (SpotIn A len) e q
 
 pub after_image : (s : SuperBlock) (I J : List ℕ) (t : Spot) (a : Addr) → Fit s I → t ≡ After a
     → J ≡ linked s.size (block_taken (geo_of s) I) a.0 (fresh (geo_of s) I) → J ≡ opened (geo_of s) I t
@@ -204,26 +180,25 @@ after_image s I J t a f e j =
     j ∙ ap (λ (B : ℕ). linked B (block_taken (geo_of s) I) a.0 (fresh (geo_of s) I)) f.size ∙ ap (opened (geo_of s) I) (sym e)
 
 -- store_entry
-pub entry_stored : (B : ℕ) (I J L : List ℕ) (at : ℕ) (p : Place) (e : DirEntry) (name : Name) → B * p.block.0 + B ≤ length I
-    → p.offset + 18 + length name ≤ B - 5 → at ≡ place_at B p.block.0 p.offset → J ≡ splice I at (head_bytes e)
-    → L ≡ splice J (at + 18) (take (length name) (drop 0 name))
-    → L ≡ splice I (place_at B p.block.0 p.offset) (head_bytes e ++ name)
-entry_stored B I J L at p e name h w f j l =
-    let q : ℕ = place_at B p.block.0 p.offset in
+pub entry_stored : (B : ℕ) (I J L : List ℕ) (at a o : ℕ) (e : DirEntry) (name : Name) → B * a + B ≤ length I → o + 18 + length name ≤ B - 5
+    → at ≡ place_at B a o → J ≡ splice I at (head_bytes e) → L ≡ splice J (at + 18) (take (length name) (drop 0 name))
+    → L ≡ splice I (place_at B a o) (head_bytes e ++ name)
+entry_stored B I J L at a o e name h w f j l =
+    let q : ℕ = place_at B a o in
     let k : q + 18 ≡ q + length (head_bytes e) = omega (arith, length_head e) in
     l ∙ (λ i. splice J (f i + 18) (take_all (length name) name (omega arith) i))
     ∙ splice-then I J q (q + 18) (head_bytes e) name (j ∙ ap (λ (z : ℕ). splice I z (head_bytes e)) f) k (omega (arith, length_head e))
 
--- enter
-pub enter_image : (s : SuperBlock) (I J L : List ℕ) (p : Place) (k : Kind) (a : Addr) (name : Name) (time : ℕ) (e : DirEntry)
-    → Fit s I → J ≡ block_taken (geo_of s) I → a.0 ≡ fresh (geo_of s) I
-    → e ≡ record { kind = k; addr = a; size = 0; time = time; len = length name }
-    → L ≡ splice J (place_at s.size p.block.0 p.offset) (head_bytes e ++ name) → L ≡ entered (geo_of s) I p k name time
+-- enter: z and m are the size and the address of the linked block that it stores in, n the length that the entry says
+pub enter_image : (s : SuperBlock) (I J L : List ℕ) (p : Place) (z m n : ℕ) (k : Kind) (a : Addr) (name : Name) (time : ℕ) (e : DirEntry)
+    → Fit s I → z ≡ s.size → m ≡ p.block.0 → J ≡ block_taken (geo_of s) I → a.0 ≡ fresh (geo_of s) I
+    → n ≡ length name → e ≡ record { kind = k; addr = a; size = 0; time = time; len = n }
+    → L ≡ splice J (place_at z m p.offset) (head_bytes e ++ name) → L ≡ entered (geo_of s) I p k name time
 unfolding entered
-enter_image s I J L p k a name time e fit j f d l =
+enter_image s I J L p z m n k a name time e fit g h j f q d l =
     let at : ℕ → ℕ = λ B. place_at B p.block.0 p.offset in
-    l ∙ (λ i. splice (j i) (at (fit.size i)) (head_bytes (d i) ++ name))
-    ∙ (λ i. splice (block_taken (geo_of s) I) (at (block_size (geo_of s))) (head_bytes (new_head k (f i) time (length name)) ++ name))
+    l ∙ (λ i. splice (j i) (place_at (g i) (h i) p.offset) (head_bytes (d i) ++ name))
+    ∙ (λ i. splice (block_taken (geo_of s) I) (at (fit.size i)) (head_bytes (new_head k (f i) time (q i)) ++ name))
 
 -- insert
 pub insert_image : (s : SuperBlock) (I J L M : List ℕ) (dir : ℕ) (t : Spot) (own : Own) (k : Kind) (name : Name) (time : ℕ) (p : Place)

@@ -1,31 +1,30 @@
 -- Creating a file or a directory: where its entry goes, and what the stores make of the image, in their order. Definitions alone.
-use Rattle.std.specs.Prelude.{List, [], ◌∷◌, ◌++◌, ℕ, zero, suc, ◌+◌, ◌-◌, ◌≤◌, ◌<◌, leb, eqb, length}
+use Rattle.std.specs.Prelude.{List, [], ◌∷◌, ◌++◌, ℕ, zero, suc, ◌+◌, ◌-◌, ◌≤◌, ◌<◌, leb, eqb, length, Option, Some, None, Result, Ok, Err}
 use Rattle.wire.specs.Be.{splice}
 use Rattle.wire.specs.Pick.{pick}
 use Rattle.block.specs.Block.{Area, next, linked}
 use Rattle.model.specs.Tree.{Name, Block, used}
+use Rattle.limits.specs.declared.Damage.{Damage}
+use Rattle.limits.specs.Says.{damage}
 use Rattle.model.specs.Geometry.{Geo, block_size, data_at}
 use Rattle.model.specs.Calls.{has_room}
 use Rattle.bitmap_block.specs.Bitmap.{taken, fresh}
 use Rattle.dir_entry.specs.declared.Kind.{Kind}
 use Rattle.dir_entry.specs.declared.DirEntry.{DirEntry}
-use Rattle.dir_entry.specs.declared.Slot.{Slot}
-use Rattle.dir_entry.specs.declared.Slot.TheVariants.{Entry, Stop}
 use Rattle.dir_entry.specs.Entry.{header, head_bytes, place_at, slot_at}
 use Rattle.read_dir.specs.declared.Place.{Place}
 use Rattle.read_dir.specs.Walk.{in_area}
 use Rattle.read_dir.specs.Finds.{placed}
-use Rattle.own_entry.specs.declared.Own.{Own}
-use Rattle.own_entry.specs.Own.{sum_renewed}
+use Rattle.own_entry.specs.Own.{Own, sum_renewed}
 use Rattle.create_store.specs.declared.Spot.{Spot}
-use Rattle.create_store.specs.declared.Spot.TheVariants.{In, After, Damaged}
+use Rattle.create_store.specs.declared.Spot.TheVariants.{In, After}
 
 -- ---- where the entry goes
 
 -- k of the entry that stands at offset o, or o where the block's entries stop
-abbrev pub stop_or : Slot → (DirEntry → ℕ) → ℕ → ℕ
-stop_or (Entry e) k o = k e
-stop_or Stop k o = o
+abbrev pub stop_or : Option DirEntry → (DirEntry → ℕ) → ℕ → ℕ
+stop_or (Some e) k o = k e
+stop_or None k o = o
 
 -- The offset where the entries of block a stop, from offset o on. (The first number bounds them.)
 unfoldable pub stop_from : ℕ → List ℕ → ℕ → ℕ → ℕ → ℕ
@@ -38,16 +37,16 @@ used_at B I a = stop_from B I B a 0
 
 -- C9, R17: the first block where a byte stays free behind the entry, else behind the last; a walk out of the area, or over more
 -- than n-D blocks, is damage. For a name of len bytes, from block a on, where k blocks may be read.
-unfoldable pub spot_from : Area → List ℕ → ℕ → ℕ → ℕ → Spot
-spot_from A I len zero a = Damaged
+unfoldable pub spot_from : Area → List ℕ → ℕ → ℕ → ℕ → Result Spot Damage
+spot_from A I len zero a = Err damage
 spot_from A I len (suc k) a =
     pick (in_area A I a)
-    (pick (leb (used_at A.size I a + header + len) (A.size - 5)) (In (placed a (used_at A.size I a)))
-    (pick (eqb (next A.size I a) 0) (After (record { 0 = a })) (spot_from A I len k (next A.size I a))))
-    Damaged
+    (pick (leb (used_at A.size I a + header + len) (A.size - 5)) (Ok (In (placed a (used_at A.size I a))))
+    (pick (eqb (next A.size I a) 0) (Ok (After (record { 0 = a }))) (spot_from A I len k (next A.size I a))))
+    (Err damage)
 
 -- The same for the directory whose first block is dir.
-abbrev pub spot_for : Area → List ℕ → ℕ → ℕ → Spot
+abbrev pub spot_for : Area → List ℕ → ℕ → ℕ → Result Spot Damage
 spot_for A I dir len = spot_from A I len (A.end - A.first) dir
 
 -- The same on a directory of the tree, z being the block before: its first block with room, at the end of its entries,
@@ -60,13 +59,11 @@ spot_on cap n z (b ∷ bs) = pick (has_room cap n b) (In (placed b.at (used b.en
 abbrev pub needed : Spot → ℕ
 needed (In p) = 1
 needed (After a) = 2
-needed Damaged = 0
 
 -- A place in the data area with room for a name of len bytes, or a last block in the data area.
 abbrev pub SpotIn : Area → ℕ → Spot → Type 0
 SpotIn A len (In p) = (A.first ≤ p.block.0) × (p.block.0 < A.end) × (p.offset + header + len ≤ A.size - 5)
 SpotIn A len (After a) = (A.first ≤ a.0) × (a.0 < A.end)
-SpotIn A len Damaged = ⊥
 
 -- ---- the stores
 
@@ -83,12 +80,10 @@ module _ (g : Geo) where
   abbrev pub opened : List ℕ → Spot → List ℕ
   opened I (In p) = I
   opened I (After a) = linked (block_size g) (block_taken I) a.0 (fresh g I)
-  opened I Damaged = I
 
   abbrev pub place_in : List ℕ → Spot → Place
   place_in I (In p) = p
   place_in I (After a) = placed (fresh g I) 0
-  place_in I Damaged = placed 0 0
 
   -- C9: the image with the entry's block taken, and the entry at its place.
   unfoldable pub entered : List ℕ → Place → Kind → Name → ℕ → List ℕ

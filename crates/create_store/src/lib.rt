@@ -1,79 +1,69 @@
 // Creating a file or a directory: where the new entry goes in its directory, and the stores that put it there.
 // specs/Create.antt says each step; proofs/ shows that on a well-formed volume they are the tree's edit.
+// (Image and numbers are lent apart, as bitmap_block says.)
 #![tactic(auto)]
 
 ghost use Rattle.std.specs.Prelude.{◌≡◌, ◌++◌, ◌+◌, ◌-◌, ◌*◌, ◌≤◌, ◌<◌, length};
 ghost use Rattle.wire.specs.Be.{splice};
-ghost use Rattle.block.specs.Block.{BlockSize, linked};
+ghost use Rattle.block.specs.Block.{linked};
 ghost use Rattle.super_block.specs.Super.{area_in, geo_of, Fit};
 ghost use Rattle.bitmap_block.specs.Bitmap.{fresh, Room};
 ghost use Rattle.dir_entry.specs.Entry.{header, head_bytes, place_at};
 ghost use Rattle.own_entry.specs.Own.{OwnIn};
-ghost use Rattle.create_store.specs.Create.{used_at, spot_for, needed, SpotIn, block_taken, opened, place_in, entered, inserted, inserted_at};
+ghost use Rattle.create_store.specs.Create.{used_at, spot_for, needed, SpotIn, block_taken, opened, place_in};
+ghost use Rattle.create_store.specs.Create.{entered, inserted, inserted_at};
 
 use block::{Addr, Index, LinkedBlock};
-use dir_entry::{DirEntry, Kind, Slot};
-use own_entry::Own;
+use dir_entry::{DirEntry, Kind, Name};
+use limits::Damage;
 use read_dir::Place;
-use super_block::SuperBlock;
+use super_block::{SuperBlock, Volume};
 
 // Where a new entry goes: at a place of the directory, or into a new block after its last one.
 #[derive(Clone, Copy)]
 pub enum Spot {
     In(Place),
     After(Addr),
-    Damaged,
 }
 
 // The offset where a block's entries stop.
-fn used_bytes(img: &[u8], size: u32, block: Addr) -> usize
-    requires block_size { BlockSize size }
-    requires size_in_bounds { size * block.0 + size ≤ length img.now }
-    ensures { (result ≡ used_at size img.now block.0) × (result ≤ size - 5) }
+fn used_bytes(v: Volume, block: Addr) -> usize
+    requires { v.s.size * block.0 + v.s.size ≤ length v.img.now }
+    ensures { (result ≡ used_at v.entry.s.size v.entry.img.now block.0) × (result ≤ v.entry.s.size - 5) }
 {
+    let block = v.block(block);
     let mut at: usize = 0;
-    loop {
-        match DirEntry::decode(img, LinkedBlock::new(size, block), at) {
-            Slot::Stop => return at,
-            Slot::Entry(e) => {
-                at = at + DirEntry::HEADER + (e.len as usize);
-            }
-        }
+    while let Some(e) = DirEntry::decode(v.img, block, at) {
+        at += DirEntry::HEADER + usize::from(e.len);
     }
+    at
 }
 
 // The first block of the chain with room for a name of len bytes, else its last one. Each is looked at before it is read.
-pub fn spot_for(img: &[u8], s: SuperBlock, dir: Addr, len: usize) -> Spot
-    requires fit { Fit s img.now }
-    requires len_bound { len ≤ 255 }
-    ensures { result ≡ spot_for (area_in s) img.now dir.0 len }
+pub fn spot_for(v: Volume, dir: Addr, len: u8) -> Result<Spot, Damage>
+    ensures { result ≡ spot_for (area_in v.entry.s) v.entry.img.now dir.0 len }
 {
-    let d = s.area;
+    let d = v.s.area;
+    let capacity = (v.s.size - LinkedBlock::LINK) as usize;
     let mut b = dir;
-    let mut left = s.blocks - d.0;
-    let capacity = (s.size - LinkedBlock::LINK) as usize;
-    while 0 < left {
-        if b.0 < d.0 {
-            return Spot::Damaged;
+    for _ in d.0..v.s.blocks {
+        if !v.has(b) {
+            return Err(Damage);
         }
-        if s.blocks <= b.0 {
-            return Spot::Damaged;
-        }
-        let used = used_bytes(img, s.size, b);
-        if used + DirEntry::HEADER + len <= capacity - 1 {
-            return Spot::In(Place {
+        let used = used_bytes(v, b);
+        if used + DirEntry::HEADER + len as usize <= capacity - 1 {
+            return Ok(Spot::In(Place {
                 block: b,
                 offset: used,
-            });
+            }));
         }
-        let next = LinkedBlock::new(s.size, b).next_addr(img);
+        let next = v.next_addr(b);
         if next.0 == 0 {
-            return Spot::After(b);
+            return Ok(Spot::After(b));
         }
         b = next;
-        left -= 1;
     }
-    Spot::Damaged
+    Err(Damage)
 }
 
 // How many blocks an entry at that spot takes.
@@ -83,7 +73,6 @@ pub fn blocks_needed(spot: Spot) -> u32
     match spot {
         Spot::In(_) => 1,
         Spot::After(_) => 2,
-        Spot::Damaged => 0,
     }
 }
 
@@ -113,7 +102,7 @@ fn grow(img: &mut [u8], s: SuperBlock, last: Addr) -> Addr
 }
 
 // The place for the entry: in a block with room, or at the start of a new one.
-fn open_place(img: &mut [u8], s: SuperBlock, spot: Spot, len: usize) -> Place
+fn open_place(img: &mut [u8], s: SuperBlock, spot: Spot, len: u8) -> Place
     requires fit { Fit s img.old }
     requires room { Room (geo_of s) img.old (needed spot) }
     requires spot_in { SpotIn (area_in s) len spot }
@@ -122,42 +111,31 @@ fn open_place(img: &mut [u8], s: SuperBlock, spot: Spot, len: usize) -> Place
 {
     match spot {
         Spot::In(p) => p,
-        Spot::After(a) => {
-            let b = grow(img, s, a);
-            Place {
-                block: b,
-                offset: 0,
-            }
-        }
-        Spot::Damaged => Place {
-            block: Addr(0),
+        Spot::After(last) => Place {
+            block: grow(img, s, last),
             offset: 0,
         },
     }
 }
 
 // Stores an entry's fixed part and its name.
-fn store_entry(img: &mut [u8], size: u32, p: Place, e: DirEntry, name: &[u8])
-    requires block_size { BlockSize size }
-    requires size_in_bounds { size * p.block.0 + size ≤ length img.old }
-    requires name_bound { p.offset + header + length name.now ≤ size - 5 }
-    ensures { img.new ≡ splice img.old (place_at size p.block.0 p.offset)
-        (head_bytes e ++ name.now) }
+fn store_entry(img: &mut [u8], block: LinkedBlock, offset: usize, e: DirEntry, name: &[u8])
+    requires size_in_bounds { block.size * block.addr.0 + block.size ≤ length img.old }
+    requires name_bound { offset + header + length name.now ≤ block.size - 5 }
+    ensures { img.new ≡ splice img.old (place_at block.size block.addr.0 offset) (head_bytes e ++ name.now) }
 {
-    let b = p.block;
-    let at = dir_entry::place(size, b, p.offset);
+    let at = dir_entry::place(block, offset);
     e.store(img, at);
     wire::copy(img, at + DirEntry::HEADER, name, 0, name.len());
 }
 
 // Takes the entry's own block, and stores the entry.
-fn enter(img: &mut [u8], s: SuperBlock, p: Place, kind: Kind, name: &[u8], time: u64) -> Addr
+fn enter(img: &mut [u8], s: SuperBlock, p: Place, kind: Kind, name: Name, time: u64) -> Addr
     requires fit { Fit s img.old }
     requires room { Room (geo_of s) img.old 1 }
     requires size_in_bounds { s.size * p.block.0 + s.size ≤ length img.old }
-    requires name_bound { p.offset + header + length name.now ≤ s.size - 5 }
-    requires name_len_bound { length name.now ≤ 255 }
-    ensures { (img.new ≡ entered (geo_of s) img.old p kind name.now time)
+    requires name_bound { p.offset + header + length name.bytes.now ≤ s.size - 5 }
+    ensures { (img.new ≡ entered (geo_of s) img.old p kind name.entry.bytes.now time)
         × (result.0 ≡ fresh (geo_of s) img.old) }
 {
     let a = take_block(img, s);
@@ -166,9 +144,15 @@ fn enter(img: &mut [u8], s: SuperBlock, p: Place, kind: Kind, name: &[u8], time:
         addr: a,
         size: 0,
         time,
-        len: name.len() as u8,
+        len: name.len(),
     };
-    store_entry(img, s.size, p, e, name);
+    store_entry(
+        img,
+        LinkedBlock::new(s.size, p.block),
+        p.offset,
+        e,
+        name.bytes,
+    );
     a
 }
 
@@ -178,17 +162,16 @@ pub fn insert(
     s: SuperBlock,
     dir: Addr,
     spot: Spot,
-    own: Own,
+    own: Option<Place>,
     kind: Kind,
-    name: &[u8],
+    name: Name,
     time: u64,
 ) -> Addr
     requires fit { Fit s img.old }
     requires room { Room (geo_of s) img.old (needed spot) }
-    requires spot_in { SpotIn (area_in s) (length name.now) spot }
-    requires name_len_bound { length name.now ≤ 255 }
+    requires spot_in { SpotIn (area_in s) (length name.bytes.now) spot }
     requires own_in { OwnIn s.size img.old own }
-    ensures { (img.new ≡ inserted (geo_of s) img.old dir.0 spot own kind name.now time)
+    ensures { (img.new ≡ inserted (geo_of s) img.old dir.0 spot own kind name.entry.bytes.now time)
         × (result.0 ≡ inserted_at (geo_of s) img.old spot) }
 {
     let p = open_place(img, s, spot, name.len());

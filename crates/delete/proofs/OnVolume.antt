@@ -23,19 +23,17 @@ use Rattle.model.proofs.Levels.{used_none, bare_sum}
 use Rattle.dir_entry.specs.declared.DirEntry.{DirEntry}
 use Rattle.dir_entry.specs.Entry.{is_dir}
 use Rattle.dir_entry.specs.Shown.{kind_is, head_of}
-use Rattle.read_dir.specs.declared.Found.{Found}
-use Rattle.read_dir.specs.declared.Found.TheVariants as found
 use Rattle.read_dir.specs.Walk.{walk}
 use Rattle.read_dir.specs.Finds.{find_in}
 use Rattle.own_entry.specs.Own.{OwnOf}
 use Rattle.delete_store.proofs.Removes.{removed_is}
 use Rattle.path.specs.Path.{last_name, dir_part, steps}
-use Rattle.dir.specs.Resolve.{on_name}
-use Rattle.dir.specs.Hold.{Hold, on_placed, hold_dir}
+use Rattle.dir.specs.Resolve.{on_placed, on_name}
+use Rattle.dir.specs.Hold.{Hold, hold_dir}
 use Rattle.dir.proofs.Answers.{name_some}
 use Rattle.thm_walk.specs.Shown.{spot_of}
 use Rattle.thm_path.specs.Held.{HeldAt}
-use Rattle.thm_path.proofs.Finds.{lookup_or, find_is, find-missing, found_is}
+use Rattle.thm_path.proofs.Finds.{Looked, found, lookup_or, find_is, find-missing, found_is}
 use Rattle.thm_path.proofs.Resolves.{lookup_name, absent_none}
 use Rattle.thm_path.proofs.Holding.{hold_is, hold_refused, hold_some}
 use Rattle.delete.specs.Deleting.{Doomed, has_entries, doomed_at, doomed_in, doomed_of, image_at, deleted_image}
@@ -98,7 +96,7 @@ module _ (g : Geo) (I : List ℕ) (d : ℕ) (t : Tree d) (l : List ℕ) (v : Vol
       let h : Hold = b.hold in
       let q : HeldAt (block_size g) d way t h = hold_is g I d t _ way v.laid h b.held in
       let s : Some = q.there in
-      let e = found_is g I d t _ way s v.laid q.found (last_name l) x.entry x.place
+      let e = found_is g I d t _ way s v.laid q.found (last_name l) (record { entry = x.entry; place = x.place })
       (ap (λ (a : ℕ). find_in (last_name l) (walk (area_of g) I a)) q.starts ∙ b.entry) in
       subst (TreeDeletes g d way (last_name l) now t I) (sym (ap (image_at g I now) k))
       (removed_is g I d t way (last_name l) s e.0 x.entry x.place x.dir now x.own v q.found (q.starts ∙ sym b.dir)
@@ -112,7 +110,7 @@ module _ (g : Geo) (I : List ℕ) (d : ℕ) (t : Tree d) (l : List ℕ) (v : Vol
   abbrev names : List Name
   names = steps (dir_part l)
 
-  abbrev found_from : ℕ → Found
+  abbrev found_from : ℕ → Looked
   found_from a = find_in (last_name l) (walk (area_of g) I a)
 
   abbrev holding : Reply Hold
@@ -149,12 +147,12 @@ module _ (g : Geo) (I : List ℕ) (d : ℕ) (t : Tree d) (l : List ℕ) (v : Vol
       let m = (good_lookup (block_size g) (GoodBelow (block_size g) o.dir.0) n o.dir.1 o.entry (good_find (block_size g) d names t o.dir v.laid.good o.there) o.held).good_name.some_bytes in
       let j : length n ≡ length o.entry.name = ap length (lookup_name n o.dir.1 o.entry o.held) in
       let some_name : length n ≡ 0 → ⊥ = λ (z : length n ≡ 0). omega arith in
-      let f : found_from h.dir ≡ found.At (shown_there o) (spot_of n o.dir.1)
+      let f : found_from h.dir ≡ found (shown_there o) (spot_of n o.dir.1)
       = ap found_from (sym k.3) ∙ find_is g I d t _ names o.dir v.laid o.there n o.entry o.held in (
         record { dir = h.dir; entry = shown_there o; place = spot_of n o.dir.1; own = h.own },
         name_some n _ some_name
             ∙ in_held h k.1
-            ∙ ap (λ (y : Found). on_placed y (doomed_at h)) f,
+            ∙ ap (λ (y : Looked). on_placed y (doomed_at h)) f,
       )
 
   -- R5, R6
@@ -172,7 +170,7 @@ module _ (g : Geo) (I : List ℕ) (d : ℕ) (t : Tree d) (l : List ℕ) (v : Vol
       let k = held_there s f in
       name_gives (last_name l) (and_then holding (doomed_in g I (last_name l))) 5 (inl refl)
       (in_held k.0 k.1
-      ∙ ap (λ (y : Found). on_placed y (doomed_at k.0)) (ap found_from (sym k.3) ∙ find-missing g I d t _ names s v.laid f (last_name l) a))
+      ∙ ap (λ (y : Looked). on_placed y (doomed_at k.0)) (ap found_from (sym k.3) ∙ find-missing g I d t _ names s v.laid f (last_name l) a))
 
   -- and a way that stops gives its number.
   stops_is : (k : ℕ) → holding ≡ refused k → (j : ℕ) × NotThere j × (doomed_of g I l ≡ refused j)

@@ -6,13 +6,14 @@ use Rattle.model.specs.Geometry.{area_of, Geo}
 use Rattle.dir_entry.specs.declared.DirEntry.{DirEntry}
 use Rattle.dir_entry.specs.Entry.{is_dir}
 use Rattle.read_dir.specs.declared.Place.{Place}
+use Rattle.read_dir.specs.declared.Placed.{Placed}
 use Rattle.read_dir.specs.Walk.{walk}
 use Rattle.read_dir.specs.Finds.{find_in}
-use Rattle.own_entry.specs.declared.Own.{Own}
+use Rattle.own_entry.specs.Own.{Own}
 use Rattle.delete_store.specs.Delete.{removed}
 use Rattle.path.specs.Path.{last_name, dir_part}
-use Rattle.dir.specs.Resolve.{on_name}
-use Rattle.dir.specs.Hold.{Hold, on_placed, hold_dir}
+use Rattle.dir.specs.Resolve.{on_placed, on_name}
+use Rattle.dir.specs.Hold.{Hold, hold_dir}
 
 -- The entry to delete: its directory's first address, its fixed part, its place there, and that directory's own entry.
 pub record Doomed : Type 0 where
@@ -25,9 +26,10 @@ pub record Doomed : Type 0 where
 unfoldable pub has_entries : DirEntry → Bool
 has_entries e = is_dir e.kind && not (eqb e.size 0)
 
--- The entry e at p of the directory h: 14, or the entry.
-unfoldable pub doomed_at : Hold → DirEntry → Place → Reply Doomed
-doomed_at h e p = given (when 14 (has_entries e)) (accepted (record { dir = h.dir; entry = e; place = p; own = h.own }))
+-- The entry x of the directory h: 14, or the entry.
+unfoldable pub doomed_at : Hold → Placed → Reply Doomed
+doomed_at h x =
+    given (when 14 (has_entries x.entry)) (accepted (record { dir = h.dir; entry = x.entry; place = x.place; own = h.own }))
 
 module _ (g : Geo) (I : List ℕ) where
   -- In the directory h, by the name x: 5, then these.

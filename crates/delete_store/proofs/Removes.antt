@@ -27,8 +27,7 @@ use Rattle.dir_entry.specs.Shown.{head_of}
 use Rattle.read_dir.specs.declared.Place.{Place}
 use Rattle.thm_walk.specs.Shown.{spot_of}
 use Rattle.thm_walk.proofs.Parts.{Stored, Part, laid_part, part_find, stored_lookup, stored_few}
-use Rattle.own_entry.specs.declared.Own.{Own}
-use Rattle.own_entry.specs.Own.{OwnOf, sum_renewed}
+use Rattle.own_entry.specs.Own.{Own, OwnOf, sum_renewed}
 use Rattle.own_entry.proofs.Renews.{Made, sub-blocks, sum_makes}
 use Rattle.delete_store.specs.Delete.{entry_gone, removed}
 use Rattle.chain_store.specs.Chain.{released, chain_freed}

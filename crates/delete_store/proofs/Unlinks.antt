@@ -18,7 +18,7 @@ use Rattle.model.specs.Render.{Piece, View, blocks_at, padded, entry_bytes, entr
 use Rattle.model.specs.Geometry.{Geo, block_size, data_at, Sound}
 use Rattle.model.specs.Volume.{All, GoodBlock, GoodBelow}
 use Rattle.model.proofs.Alike.{length_entry}
-use Rattle.model.proofs.Areas.{few, size_large, block_inside}
+use Rattle.model.proofs.Areas.{size_large, block_inside}
 use Rattle.model.proofs.Commit.{shows_both, shows_two, shows_stored, shows_after}
 use Rattle.model.proofs.Counts.{count_same, count_cons, count_append, ats-append, length-ats}
 use Rattle.model.proofs.Cuts.{up_to}

@@ -8,8 +8,7 @@ use Rattle.chain_store.specs.Chain.{released, chain_freed}
 use Rattle.dir_entry.specs.declared.DirEntry.{DirEntry}
 use Rattle.dir_entry.specs.Entry.{header, place_at}
 use Rattle.read_dir.specs.declared.Place.{Place}
-use Rattle.own_entry.specs.declared.Own.{Own}
-use Rattle.own_entry.specs.Own.{sum_renewed}
+use Rattle.own_entry.specs.Own.{Own, sum_renewed}
 
 -- ---- the entry's bytes
 

@@ -1,9 +1,9 @@
 // Deleting a directory's entry: its bytes go, a block that they leave empty is unlinked and freed, its chain is freed,
 // and the directory's own entry is renewed (C13). What is refused is looked at before, above this crate.
+// (Image and numbers are lent apart, as bitmap_block says.)
 #![tactic(auto)]
 
 ghost use Rattle.std.specs.Prelude.{◌≡◌, ◌+◌, ◌-◌, ◌*◌, ◌≤◌, ◌<◌, length};
-ghost use Rattle.block.specs.Block.{BlockSize};
 ghost use Rattle.super_block.specs.Super.{geo_of, Fit};
 ghost use Rattle.dir_entry.specs.Entry.{header};
 ghost use Rattle.own_entry.specs.Own.{OwnIn};
@@ -12,45 +12,37 @@ ghost use Rattle.delete_store.specs.Delete.{cut_out, before_from, unlinked, less
 
 use block::{Addr, LinkedBlock};
 use dir_entry::DirEntry;
-use own_entry::Own;
-use read_dir::Place;
-use super_block::SuperBlock;
+use read_dir::{Place, Placed};
+use super_block::{SuperBlock, Volume};
 
-// The w bytes at a place go: those after them in the block move down, and the block's end is zeroed.
-fn cut_out(img: &mut [u8], size: u32, p: Place, w: usize)
-    requires block_size { BlockSize size }
-    requires size_in_bounds { size * p.block.0 + size ≤ length img.old }
-    requires w_bound { p.offset + w ≤ size - 5 }
-    ensures { img.new ≡ cut_out size img.old p.block.0 p.offset w }
+// The w bytes at an offset of a block go: those after them in the block move down, and the block's end is zeroed.
+fn cut_out(img: &mut [u8], block: LinkedBlock, offset: usize, w: usize)
+    requires size_in_bounds { block.size * block.addr.0 + block.size ≤ length img.old }
+    requires w_bound { offset + w ≤ block.size - 5 }
+    ensures { img.new ≡ cut_out block.size img.old block.addr.0 offset w }
 {
-    let b = p.block;
-    let at = dir_entry::place(size, b, p.offset);
-    let capacity = (size - LinkedBlock::LINK) as usize;
-    let after = capacity - (p.offset + w);
+    let at = dir_entry::place(block, offset);
+    let capacity = block.capacity() as usize;
+    let after = capacity - (offset + w);
     wire::move_down(img, at, w, after);
     wire::fill(img, at + after, w, 0);
 }
 
 // The block before b in the chain from dir on. A chain without b ends at one of its blocks.
-fn before(img: &[u8], s: SuperBlock, dir: Addr, b: Addr) -> Addr
-    requires fit { Fit s img.now }
-    requires dir_lt_blocks { dir.0 < s.blocks }
-    ensures { (result.0 ≡ before_from s.size s.blocks img.now (s.blocks - s.area.0) dir.0 b.0)
-        × (result.0 < s.blocks) }
+fn before(v: Volume, dir: Addr, b: Addr) -> Addr
+    requires { dir.0 < v.s.blocks }
+    ensures { (result.0 ≡ before_from v.entry.s.size v.entry.s.blocks v.entry.img.now
+        (v.entry.s.blocks - v.entry.s.area.0) dir.0 b.0)
+        × (result.0 < v.entry.s.blocks) }
 {
-    let d = s.area;
+    let d = v.s.area;
     let mut a = dir;
-    let mut left = s.blocks - d.0;
-    while 0 < left {
-        let next = LinkedBlock::new(s.size, a).next_addr(img);
-        if next.0 == b.0 {
-            return a;
-        }
-        if s.blocks <= next.0 {
+    for _ in d.0..v.s.blocks {
+        let next = v.next_addr(a);
+        if next.0 == b.0 || v.s.blocks <= next.0 {
             return a;
         }
         a = next;
-        left -= 1;
     }
     a
 }
@@ -63,8 +55,9 @@ fn unlink(img: &mut [u8], s: SuperBlock, dir: Addr, b: Addr)
     requires b_lt_blocks { b.0 < s.blocks }
     ensures { img.new ≡ unlinked (geo_of s) img.old dir.0 b.0 }
 {
-    let to = LinkedBlock::new(s.size, b).next_addr(img);
-    let last = before(img, s, dir, b);
+    let v = Volume { img, s };
+    let to = v.next_addr(b);
+    let last = before(v, dir, b);
     LinkedBlock::new(s.size, last).set_next_addr(img, to);
     chain_store::release(img, s, b);
 }
@@ -80,24 +73,30 @@ fn drop_bare(img: &mut [u8], s: SuperBlock, dir: Addr, b: Addr)
     if b.0 == dir.0 {
         return;
     }
-    let at = dir_entry::place(s.size, b, 0);
-    if wire::zero_bytes(img, at, (s.size - LinkedBlock::LINK) as usize) {
+    let block = LinkedBlock::new(s.size, b);
+    let at = dir_entry::place(block, 0);
+    if wire::zero_bytes(img, at, block.capacity() as usize) {
         unlink(img, s, dir, b);
     }
 }
 
 // The bytes of an entry go, and its block where it is left empty.
-fn take_out(img: &mut [u8], s: SuperBlock, dir: Addr, e: DirEntry, p: Place)
+fn take_out(img: &mut [u8], s: SuperBlock, dir: Addr, x: Placed)
     requires fit { Fit s img.old }
     requires dir_lt_blocks { dir.0 < s.blocks }
-    requires area_le_block { s.area.0 ≤ p.block.0 }
-    requires block_lt_blocks { p.block.0 < s.blocks }
-    requires len_bound { p.offset + header + e.len ≤ s.size - 5 }
-    ensures { img.new ≡ entry_gone (geo_of s) img.old dir.0 e p }
+    requires area_le_block { s.area.0 ≤ x.place.block.0 }
+    requires block_lt_blocks { x.place.block.0 < s.blocks }
+    requires len_bound { x.place.offset + header + x.entry.len ≤ s.size - 5 }
+    ensures { img.new ≡ entry_gone (geo_of s) img.old dir.0 x.entry x.place }
 {
-    let b = p.block;
-    cut_out(img, s.size, p, DirEntry::HEADER + (e.len as usize));
-    drop_bare(img, s, dir, b);
+    let p = x.place;
+    cut_out(
+        img,
+        LinkedBlock::new(s.size, p.block),
+        p.offset,
+        DirEntry::HEADER + usize::from(x.entry.len),
+    );
+    drop_bare(img, s, dir, p.block);
 }
 
 // Gives back the whole chain from a on.
@@ -109,19 +108,17 @@ fn free_all(img: &mut [u8], s: SuperBlock, a: Addr)
     chain_store::free_chain(img, s, a, s.blocks - d.0);
 }
 
-// Deletes the entry e, which stands at p in the directory that begins at block dir; that directory's own entry is
-// at `own`.
-pub fn remove(img: &mut [u8], s: SuperBlock, dir: Addr, e: DirEntry, p: Place, own: Own, time: u64)
+// Deletes an entry of the directory that begins at block dir; that directory's own entry is at `own`.
+pub fn remove(img: &mut [u8], s: SuperBlock, dir: Addr, x: Placed, own: Option<Place>, time: u64)
     requires fit { Fit s img.old }
     requires dir_lt_blocks { dir.0 < s.blocks }
-    requires area_le_block { s.area.0 ≤ p.block.0 }
-    requires block_lt_blocks { p.block.0 < s.blocks }
-    requires len_bound { p.offset + header + e.len ≤ s.size - 5 }
+    requires area_le_block { s.area.0 ≤ x.place.block.0 }
+    requires block_lt_blocks { x.place.block.0 < s.blocks }
+    requires len_bound { x.place.offset + header + x.entry.len ≤ s.size - 5 }
     requires own_in { OwnIn s.size img.old own }
-    ensures { img.new ≡ removed (geo_of s) img.old dir.0 e p own time }
+    ensures { img.new ≡ removed (geo_of s) img.old dir.0 x.entry x.place own time }
 {
-    let a = e.addr;
-    take_out(img, s, dir, e, p);
-    free_all(img, s, a);
+    take_out(img, s, dir, x);
+    free_all(img, s, x.entry.addr);
     own_entry::renew_sum(img, s, dir, own, time);
 }

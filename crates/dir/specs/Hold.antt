@@ -1,20 +1,16 @@
 -- The directory that a changing call changes, and its own entry, which the way to it leads over. Definitions alone.
 -- A is the data area: the size of its blocks, its first address and the volume's end.
-use Rattle.std.specs.Prelude.{List, [], ◌∷◌, ℕ, ◌+◌}
+use Rattle.std.specs.Prelude.{List, [], ◌∷◌, ℕ, ◌+◌, Some, None}
 use Rattle.wire.specs.Pick.{pick}
 use Rattle.block.specs.Block.{Area}
 use Rattle.model.specs.Answers.{Reply, accepted, refused, and_then}
-use Rattle.dir_entry.specs.declared.DirEntry.{DirEntry}
 use Rattle.dir_entry.specs.Entry.{is_dir}
-use Rattle.read_dir.specs.declared.Place.{Place}
-use Rattle.read_dir.specs.declared.Found.{Found}
-use Rattle.read_dir.specs.declared.Found.TheVariants.{At, Missing, Damaged}
+use Rattle.read_dir.specs.declared.Placed.{Placed}
 use Rattle.read_dir.specs.Walk.{walk}
 use Rattle.read_dir.specs.Finds.{find_in}
-use Rattle.own_entry.specs.declared.Own.{Own}
-use Rattle.own_entry.specs.declared.Own.TheVariants as own
+use Rattle.own_entry.specs.Own.{Own}
 use Rattle.path.specs.Path.{steps}
-use Rattle.dir.specs.Resolve.{on_name}
+use Rattle.dir.specs.Resolve.{on_placed, on_name}
 
 -- C13: a holding directory: its first address, where its own entry stands, and its depth. The root is at depth 0 and has none.
 pub record Hold : Type 0 where
@@ -23,17 +19,12 @@ pub record Hold : Type 0 where
   pub depth : ℕ
 
 abbrev pub root_hold : ℕ → Hold
-root_hold D = record { dir = D; own = own.Root; depth = 0 }
+root_hold D = record { dir = D; own = None; depth = 0 }
 
--- R5: an entry that was looked for and its place: 5 where there is none; damage on the walk is 17.
-abbrev pub on_placed : {A : Type 0} → Found → (DirEntry → Place → Reply A) → Reply A
-on_placed (At e p) f = f e p
-on_placed Missing f = refused 5
-on_placed Damaged f = refused 17
-
--- The directory that the entry e at p stands for, in a directory at depth k: e is its own entry. 6 where e is no directory's.
-abbrev pub hold_at : ℕ → DirEntry → Place → Reply Hold
-hold_at k e p = pick (is_dir e.kind) (accepted (record { dir = e.addr.0; own = own.At p; depth = k + 1 })) (refused 6)
+-- The directory that the entry x stands for, in a directory at depth k: its own entry is x. 6 where x is no directory's.
+abbrev pub hold_at : ℕ → Placed → Reply Hold
+hold_at k x =
+    pick (is_dir x.entry.kind) (accepted (record { dir = x.entry.addr.0; own = Some x.place; depth = k + 1 })) (refused 6)
 
 module _ (A : Area) (I : List ℕ) where
   -- The directory of the name x in the directory h.

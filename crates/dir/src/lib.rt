@@ -1,34 +1,28 @@
 // Directories and entries by their path, on any image: the reading half of dir.rs.
-// A path is the first bytes of a lent buffer, as the crate path leaves it.
+// A path is a slice, as the crate path makes it.
 #![tactic(auto)]
 
-ghost use Rattle.std.specs.Prelude.{◌≡◌, ◌≤◌, length, take, drop};
+ghost use Rattle.std.specs.Prelude.{◌≡◌, ◌<◌};
 ghost use Rattle.model.specs.Answers.{accepted};
-ghost use Rattle.super_block.specs.Super.{area_in, Fit};
-ghost use Rattle.path.specs.Path.{path_limit, split};
-ghost use Rattle.dir.specs.Resolve.{lookup_in, open_dir, entry_of, held};
-ghost use Rattle.dir.specs.Hold.{root_hold, hold_at, entered, hold_from, hold_dir};
-ghost use Rattle.dir.specs.Post.{opened_says, located_says, hold_of, holds_says};
+ghost use Rattle.limits.specs.Says.{says, says_by};
+ghost use Rattle.super_block.specs.Super.{area_in};
+ghost use Rattle.read_dir.specs.Walk.{walk};
+ghost use Rattle.read_dir.specs.Finds.{find_in};
+ghost use Rattle.dir.specs.Resolve.{on_placed, open_dir, entry_of};
+ghost use Rattle.dir.specs.Hold.{root_hold, hold_at, entered, hold_dir};
+ghost use Rattle.dir.specs.Post.{number_of, located, hold_of};
 
 use block::Addr;
 use dir_entry::{DirEntry, Kind};
 use limits::Refusal;
-use own_entry::Own;
-use read_dir::{Found, Place};
-use super_block::SuperBlock;
+use read_dir::{Place, Placed};
+use super_block::Volume;
 
-// A directory's first address.
+// The entry at a path: the first address of the directory that holds it, and its fixed part.
 #[derive(Clone, Copy)]
-pub enum Opened {
-    At(Addr),
-    Refused(Refusal),
-}
-
-// The entry at a path: the directory that holds it, and its fixed part.
-#[derive(Clone, Copy)]
-pub enum Located {
-    At(Addr, DirEntry),
-    Refused(Refusal),
+pub struct Located {
+    pub dir: Addr,
+    pub entry: DirEntry,
 }
 
 // A directory that a path leads to, with what a change of it needs: its first address, where its own entry stands, and its
@@ -36,157 +30,88 @@ pub enum Located {
 #[derive(Clone, Copy)]
 pub struct Holding {
     pub dir: Addr,
-    pub own: Own,
-    pub depth: u32,
+    pub own: Option<Place>,
+    pub depth: usize,
 }
 
-#[derive(Clone, Copy)]
-pub enum Holds {
-    At(Holding),
-    Refused(Refusal),
-}
-
-// The directory that the entry e at p stands for, in a directory at that depth. Its own entry is e, which the way
-// leads over: it is kept.
-fn directory(e: DirEntry, p: Place, depth: u32) -> Holds
-    requires { depth ≤ path_limit }
-    ensures { holds_says result ≡ hold_at depth e p }
+// The entry of that name in the directory at `dir`, which is not found where there is none.
+pub fn entry_in(v: Volume, dir: Addr, name: &[u8]) -> Result<Placed, Refusal>
+    ensures { says result ≡ on_placed (find_in name.now (walk (area_in v.entry.s) v.entry.img.now dir.0)) accepted }
 {
-    let k = e.kind;
-    match k {
-        Kind::Dir => {
-            let a = e.addr;
-            let deep = depth + 1;
-            Holds::At(Holding {
-                dir: a,
-                own: Own::At(p),
-                depth: deep,
-            })
-        }
-        Kind::File => Holds::Refused(Refusal::WrongKind),
-        Kind::Device => Holds::Refused(Refusal::WrongKind),
+    dir_lookup::lookup(v, dir, name)?.ok_or(Refusal::NotFound)
+}
+
+// The directory that an entry stands for, in a directory at that depth. Its own entry is that entry, which the way
+// leads over: its place is kept.
+fn directory(x: Placed, depth: usize) -> Result<Holding, Refusal>
+    requires { depth < usize.MAX }
+    ensures { says_by hold_of result ≡ hold_at depth x }
+{
+    match x.entry.kind {
+        Kind::Dir => Ok(Holding {
+            dir: x.entry.addr,
+            own: Some(x.place),
+            depth: depth + 1,
+        }),
+        Kind::File | Kind::Device => Err(Refusal::WrongKind),
     }
 }
 
 // The directory of that name in the directory h. An empty name is not found, and nothing is walked for it.
-fn enter(img: &[u8], s: SuperBlock, h: Holding, name: &[u8]) -> Holds
-    requires fit { Fit s img.now }
-    requires depth_le_path_limit { h.depth ≤ path_limit }
-    ensures { holds_says result ≡ entered (area_in s) img.now (hold_of h) name.now }
+fn enter(v: Volume, h: Holding, name: &[u8]) -> Result<Holding, Refusal>
+    requires { h.depth < usize.MAX }
+    ensures { says_by hold_of result ≡ entered (area_in v.entry.s) v.entry.img.now (hold_of h) name.now }
 {
-    if name.len() == 0 {
-        return Holds::Refused(Refusal::NotFound);
+    if name.is_empty() {
+        return Err(Refusal::NotFound);
     }
-    let dir = h.dir;
-    let found = dir_lookup::lookup(img, s, dir, name);
-    match found {
-        Found::At(e, p) => directory(e, p, h.depth),
-        Found::Missing => Holds::Refused(Refusal::NotFound),
-        Found::Damaged => Holds::Refused(Refusal::Damaged),
-    }
+    directory(entry_in(v, h.dir, name)?, h.depth)
 }
 
 // The root of a volume.
-fn root(s: SuperBlock) -> Holding
-    ensures { hold_of result ≡ root_hold s.area.0 }
+fn root(v: Volume) -> Holding
+    ensures { hold_of result ≡ root_hold v.entry.s.area.0 }
 {
-    let d = s.area;
     Holding {
-        dir: d,
-        own: Own::Root,
+        dir: v.s.area,
+        own: None,
         depth: 0,
     }
 }
 
-// Along the pieces of full[first..end], from the root on. The path's limit bounds the depth.
-fn descend(img: &[u8], s: SuperBlock, full: &[u8], first: usize, end: usize) -> Holds
-    requires fit { Fit s img.now }
-    requires first_le_end { first ≤ end }
-    requires end_in_bounds { end ≤ length full.now }
-    requires full_len_bound { length full.now ≤ path_limit }
-    ensures { holds_says result ≡ hold_from (area_in s) img.now (split (drop first (take end full.now)))
-        (root_hold s.area.0) }
+// The directory of that path, by its pieces from the root on. It is no deeper than the path has bytes.
+pub fn hold(v: Volume, dir_path: &[u8]) -> Result<Holding, Refusal>
+    ensures { says_by hold_of result ≡ hold_dir (area_in v.entry.s) v.entry.img.now dir_path.now }
 {
-    let mut at = first;
-    let mut h = root(s);
-    loop {
-        let e = path::piece_end(full, at, end);
-        let r = enter(img, s, h, &full[at..e]);
-        match r {
-            Holds::At(below) => {
-                if e == end {
-                    return Holds::At(below);
-                }
-                h = below;
-                at = e + 1;
-            }
-            Holds::Refused(k) => return Holds::Refused(k),
-        }
+    let mut h = root(v);
+    let mut rest = path::way(dir_path);
+    while let Some(way) = rest {
+        let (name, more) = path::first_piece(way);
+        h = enter(v, h, name)?;
+        rest = more;
     }
+    Ok(h)
 }
 
-// The directory whose path is full[..end].
-pub fn hold(img: &[u8], s: SuperBlock, full: &[u8], end: usize) -> Holds
-    requires fit { Fit s img.now }
-    requires end_in_bounds { end ≤ length full.now }
-    requires full_len_bound { length full.now ≤ path_limit }
-    ensures { holds_says result ≡ hold_dir (area_in s) img.now (take end full.now) }
+// The first address of the directory of that path.
+pub fn open(v: Volume, dir_path: &[u8]) -> Result<Addr, Refusal>
+    ensures { says_by number_of result ≡ open_dir (area_in v.entry.s) v.entry.img.now dir_path.now }
 {
-    if path::is_root(full, end) {
-        let h = root(s);
-        return Holds::At(h);
-    }
-    let first = path::first_piece(full, end);
-    descend(img, s, full, first, end)
+    Ok(hold(v, dir_path)?.dir)
 }
 
-// The first address of the directory whose path is full[..end].
-pub fn open(img: &[u8], s: SuperBlock, full: &[u8], end: usize) -> Opened
-    requires fit { Fit s img.now }
-    requires end_in_bounds { end ≤ length full.now }
-    requires full_len_bound { length full.now ≤ path_limit }
-    ensures { opened_says result ≡ open_dir (area_in s) img.now (take end full.now) }
+// The entry at a full path. An empty last name is not found, and nothing is walked for it.
+pub fn find(v: Volume, full: &[u8]) -> Result<Located, Refusal>
+    ensures { says_by located result ≡ entry_of (area_in v.entry.s) v.entry.img.now full.now }
 {
-    let holds = hold(img, s, full, end);
-    match holds {
-        Holds::At(h) => {
-            let d = h.dir;
-            Opened::At(d)
-        }
-        Holds::Refused(r) => Opened::Refused(r),
+    let parts = path::parts_of(full);
+    if parts.name.is_empty() {
+        return Err(Refusal::NotFound);
     }
-}
-
-// The entry of that name in the directory at `dir`.
-fn find_in(img: &[u8], s: SuperBlock, dir: Addr, name: &[u8]) -> Located
-    requires { Fit s img.now }
-    ensures { located_says result ≡ lookup_in (area_in s) img.now dir.0 name.now
-        (λ e. accepted (held dir.0 e)) }
-{
-    let found = dir_lookup::lookup(img, s, dir, name);
-    match found {
-        Found::At(e, _) => Located::At(dir, e),
-        Found::Missing => Located::Refused(Refusal::NotFound),
-        Found::Damaged => Located::Refused(Refusal::Damaged),
-    }
-}
-
-// The entry at the full path full[..len].
-pub fn find(img: &[u8], s: SuperBlock, full: &[u8], len: usize) -> Located
-    requires fit { Fit s img.now }
-    requires len_in_bounds { len ≤ length full.now }
-    requires full_len_bound { length full.now ≤ path_limit }
-    ensures { located_says result ≡ entry_of (area_in s) img.now (take len full.now) }
-{
-    let parts = path::parts_of(full, len);
-    let from = parts.from;
-    let to = parts.to;
-    if from == to {
-        return Located::Refused(Refusal::NotFound);
-    }
-    let opened = open(img, s, full, parts.dir);
-    match opened {
-        Opened::At(a) => find_in(img, s, a, &full[from..to]),
-        Opened::Refused(r) => Located::Refused(r),
-    }
+    let dir = open(v, parts.dir)?;
+    let found = entry_in(v, dir, parts.name)?;
+    Ok(Located {
+        dir,
+        entry: found.entry,
+    })
 }

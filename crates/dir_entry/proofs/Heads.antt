@@ -1,4 +1,5 @@
 -- The bytes of an entry's fixed part: stored, then read; read, then stored.
+use Rattle.std.specs.Prelude.{Some}
 use mathlib.Core.Path.{◌≡◌, refl, sym, ap, ◌∙◌, subst}
 use mathlib.Core.List.{List, [], ◌∷◌, ◌++◌, append_assoc}
 use Prim.Native.Nat.{ℕ, zero, suc, ◌+◌, ◌-◌, ◌^◌, ◌≤◌, ◌<◌}
@@ -18,7 +19,6 @@ use Rattle.dir_entry.specs.declared.Kind.{Kind}
 use Rattle.dir_entry.specs.declared.Kind.TheVariants.{Dir, File, Device}
 use Rattle.dir_entry.specs.declared.DirEntry.{DirEntry}
 use Rattle.dir_entry.specs.Entry.{kind_at, kind_byte, entry_at, head_bytes, place_at, name_at, slot_at}
-use Rattle.dir_entry.specs.declared.Slot.TheVariants.{Entry}
 use Rattle.dir_entry.proofs.Slots.{slot_entry}
 
 -- ---- kinds
@@ -116,13 +116,13 @@ head_first I at e s = ap (λ (j : ℕ). get_or I j 0) (sym (add-zero at)) ∙ s 
 
 -- Where the image shows it at a place of block a with room for its name, it is the entry of that place.
 pub slot_shown : (B : ℕ) (I : List ℕ) (a o : ℕ) (e : DirEntry) → e.addr.0 < 2 ^ 32 → e.size < 2 ^ 32 → e.time < 2 ^ 64 → 1 ≤ e.len → o + 18 + e.len ≤ B - 5
-    → Shows I (place_at B a o) (head_bytes e) → slot_at B I a o ≡ Entry e
+    → Shows I (place_at B a o) (head_bytes e) → slot_at B I a o ≡ Some e
 unfolding entry_at
 slot_shown B I a o e ha hs ht n l s =
     let q : entry_at I (place_at B a o) ≡ e = entry_shown I (place_at B a o) e ha hs ht s in
     let m : get_or I (place_at B a o + 17) 0 ≡ e.len = ap (λ (x : DirEntry). x.len) q in
     let k : get_or I (place_at B a o) 0 ≡ kind_byte e.kind = head_first I (place_at B a o) e s in
-    slot_entry B I a o (omega arith) (omega (arith, kind_small e.kind)) (omega arith) (omega arith) ∙ ap Entry q
+    slot_entry B I a o (omega arith) (omega (arith, kind_small e.kind)) (omega arith) (omega arith) ∙ ap Some q
 
 -- The name that the image shows there is the name that is read.
 pub name_shown : (I : List ℕ) (at : ℕ) (x : List ℕ) → at + 18 + length x ≤ length I → Shows I (at + 18) x → name_at I at (length x) ≡ x

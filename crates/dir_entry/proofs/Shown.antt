@@ -1,4 +1,5 @@
 -- The entries of the tree as a block shows them: each is read where it stands, and after the last one reading stops.
+use Rattle.std.specs.Prelude.{Some, None}
 use mathlib.Core.Path.{◌≡◌, refl, subst}
 use mathlib.Core.List.{List, [], ◌∷◌, ◌++◌, append_assoc}
 use Prim.Native.Nat.{ℕ, suc, ◌+◌, ◌-◌, ◌*◌, ◌^◌, ◌≤◌, ◌<◌}
@@ -15,7 +16,6 @@ use Rattle.model.proofs.Alike.{length_entry}
 use Rattle.model.proofs.Commit.{shows_one, shows_two}
 use Rattle.model.proofs.Entries.{block_ends}
 use Rattle.model.proofs.Full.{padded-after}
-use Rattle.dir_entry.specs.declared.Slot.TheVariants as slot
 use Rattle.dir_entry.specs.Entry.{kind_byte, header, head_bytes, place_at, name_at, slot_at}
 use Rattle.dir_entry.specs.Shown.{kind_is, head_of}
 use Rattle.dir_entry.proofs.Heads.{length_head, slot_shown, name_shown}
@@ -79,17 +79,17 @@ module _ {X : Type 0} (B : ℕ) (I : List ℕ) (v : View X) (a : ℕ) where
   zero_at o s j i = block_ends v I (place_at B a o) (B - 4 - o) [] j s (omega arith) i
 
   -- and the entries stop
-  pub block_stops : (o : ℕ) → o ≤ B - 5 → Shows I (place_at B a o) (padded (B - 4 - o) (entries_bytes v [])) → slot_at B I a o ≡ slot.Stop
+  pub block_stops : (o : ℕ) → o ≤ B - 5 → Shows I (place_at B a o) (padded (B - 4 - o) (entries_bytes v [])) → slot_at B I a o ≡ None
   block_stops o h s = go (dec_lt o (B - 22))
     where
-      go : Dec (o < B - 22) → slot_at B I a o ≡ slot.Stop
+      go : Dec (o < B - 22) → slot_at B I a o ≡ None
       go (no q) = stop_offset B I a o (omega arith)
       go (yes q) =
           let z : get_or I (place_at B a o) 0 ≡ 0 = rw add-zero at (zero_at o s 0 (omega arith)) in
           stop_empty B I a o q (omega arith) (zero_at o s 17 (omega arith))
 
   -- The entry that a block shows at offset o is the one that is read there,
-  pub slot_is : (o : ℕ) (e : Entry X) → Legible v e → o + weight e ≤ B - 5 → Shows I (place_at B a o) (entry_bytes v e) → slot_at B I a o ≡ slot.Entry (head_of v e)
+  pub slot_is : (o : ℕ) (e : Entry X) → Legible v e → o + weight e ≤ B - 5 → Shows I (place_at B a o) (entry_bytes v e) → slot_at B I a o ≡ Some (head_of v e)
   unfolding weight head_of
   slot_is o e l h s =
       slot_shown B I a o (head_of v e) l.address l.size l.time l.good_name.some_bytes (omega arith)

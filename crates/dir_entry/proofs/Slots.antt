@@ -1,4 +1,5 @@
 -- What stands at an offset of a block: the ways out of `slot_at`, what an entry there tells, and the slot past a store.
+use Rattle.std.specs.Prelude.{Option, Some, None}
 use mathlib.Core.Path.{◌≡◌, refl, sym, ap, ◌∙◌, subst}
 use mathlib.Core.List.{List}
 use Prim.Native.Nat.{ℕ, ◌+◌, ◌-◌, ◌*◌, ◌≤◌, ◌<◌}
@@ -15,54 +16,56 @@ use Rattle.wire.proofs.Numbers.{be_ext}
 use Rattle.wire.proofs.Picks.{pick_case}
 use Rattle.block.specs.Block.{cell, Kept}
 use Rattle.dir_entry.specs.declared.DirEntry.{DirEntry}
-use Rattle.dir_entry.specs.declared.Slot.{Slot}
-use Rattle.dir_entry.specs.declared.Slot.TheVariants.{Entry, Stop}
 use Rattle.dir_entry.specs.Entry.{header, entry_at, place_at, name_at, slot_at}
+
+-- a place in the linked block of an address is one in that block
+pub place_is : {B a z m p : ℕ} (o : ℕ) → z ≡ B → m ≡ a → p ≡ place_at z m o → p ≡ place_at B a o
+place_is o e f h = h ∙ (λ i. place_at (e i) (f i) o)
 
 -- ---- the ways out, each from the tests that lead there
 
 module _ (B : ℕ) (I : List ℕ) (a o : ℕ) where
-  pub stop_offset : B - 22 ≤ o → slot_at B I a o ≡ Stop
+  pub stop_offset : B - 22 ≤ o → slot_at B I a o ≡ None
   unfolding slot_at pick
   stop_offset h = rw (le-leb _ _ h)
 
-  stop_kind : o < B - 22 → 2 < get_or I (place_at B a o) 0 → slot_at B I a o ≡ Stop
+  stop_kind : o < B - 22 → 2 < get_or I (place_at B a o) 0 → slot_at B I a o ≡ None
   unfolding slot_at pick
   stop_kind h k = rw (lt-leb _ _ h, lt-ltb _ _ k)
 
-  pub stop_empty : o < B - 22 → get_or I (place_at B a o) 0 ≤ 2 → get_or I (place_at B a o + 17) 0 ≡ 0 → slot_at B I a o ≡ Stop
+  pub stop_empty : o < B - 22 → get_or I (place_at B a o) 0 ≤ 2 → get_or I (place_at B a o + 17) 0 ≡ 0 → slot_at B I a o ≡ None
   unfolding slot_at pick
   stop_empty h k z = rw (lt-leb _ _ h, le-ltb _ _ k, eq-eqb _ _ z)
 
   stop_long : o < B - 22 → get_or I (place_at B a o) 0 ≤ 2 → (get_or I (place_at B a o + 17) 0 ≡ 0 → ⊥) → B - 5 < o + 18 + get_or I (place_at B a o + 17) 0
-      → slot_at B I a o ≡ Stop
+      → slot_at B I a o ≡ None
   unfolding slot_at pick
   stop_long h k z l = rw (lt-leb _ _ h, le-ltb _ _ k, ne_eqb _ _ z, lt-ltb _ _ l)
 
   pub slot_entry : o < B - 22 → get_or I (place_at B a o) 0 ≤ 2 → (get_or I (place_at B a o + 17) 0 ≡ 0 → ⊥) → o + 18 + get_or I (place_at B a o + 17) 0 ≤ B - 5
-      → slot_at B I a o ≡ Entry (entry_at I (place_at B a o))
+      → slot_at B I a o ≡ Some (entry_at I (place_at B a o))
   unfolding slot_at pick
   slot_entry h k z l = rw (lt-leb _ _ h, le-ltb _ _ k, ne_eqb _ _ z, le-ltb _ _ l)
 
 -- as code has them: k is the block's capacity, `at` the entry's byte and n its length byte
 module _ (B : ℕ) (I : List ℕ) (a o k : ℕ) (c : k ≡ B - 4) where
-  pub code_offset : k - 18 ≤ o → Stop ≡ slot_at B I a o
+  pub code_offset : k - 18 ≤ o → None ≡ slot_at B I a o
   code_offset h = sym (stop_offset B I a o (omega arith))
 
   module _ (at n : ℕ) (e : at ≡ place_at B a o) (h : o < k - 18) where
-    pub code_kind : 2 < get_or I at 0 → Stop ≡ slot_at B I a o
+    pub code_kind : 2 < get_or I at 0 → None ≡ slot_at B I a o
     code_kind l = sym (stop_kind B I a o (omega arith) (rw e at l))
 
-    pub code_empty : get_or I at 0 ≤ 2 → n ≡ get_or I (at + 17) 0 → n ≡ 0 → Stop ≡ slot_at B I a o
+    pub code_empty : get_or I at 0 ≤ 2 → n ≡ get_or I (at + 17) 0 → n ≡ 0 → None ≡ slot_at B I a o
     code_empty l f z = sym (stop_empty B I a o (omega arith) (rw e at l) (rw (f, e) at z))
 
-    pub code_long : get_or I at 0 ≤ 2 → n ≡ get_or I (at + 17) 0 → (n ≡ 0 → ⊥) → k - 1 < o + 18 + n → Stop ≡ slot_at B I a o
+    pub code_long : get_or I at 0 ≤ 2 → n ≡ get_or I (at + 17) 0 → (n ≡ 0 → ⊥) → k - 1 < o + 18 + n → None ≡ slot_at B I a o
     code_long l f z m = let m' : B - 5 < o + 18 + n = omega arith in sym (stop_long B I a o (omega arith) (rw e at l) (rw (f, e) at z) (rw (f, e) at m'))
 
-    pub code_entry : (r : DirEntry) → get_or I at 0 ≤ 2 → n ≡ get_or I (at + 17) 0 → (n ≡ 0 → ⊥) → o + 18 + n ≤ k - 1 → r ≡ entry_at I at → Entry r ≡ slot_at B I a o
+    pub code_entry : (r : DirEntry) → get_or I at 0 ≤ 2 → n ≡ get_or I (at + 17) 0 → (n ≡ 0 → ⊥) → o + 18 + n ≤ k - 1 → r ≡ entry_at I at → Some r ≡ slot_at B I a o
     code_entry r l f z m g =
         let m' : o + 18 + n ≤ B - 5 = omega arith in
-        sym (slot_entry B I a o (omega arith) (rw e at l) (rw (f, e) at z) (rw (f, e) at m') ∙ ap Entry (sym (rw e at g)))
+        sym (slot_entry B I a o (omega arith) (rw e at l) (rw (f, e) at z) (rw (f, e) at m') ∙ ap Some (sym (rw e at g)))
 
 -- ---- what an entry tells
 
@@ -73,9 +76,9 @@ pub record Stands (B : ℕ) (I : List ℕ) (a o : ℕ) (e : DirEntry) : Type 0 w
   pub ends : o + 18 + e.len ≤ B - 5
   pub is : e ≡ entry_at I (place_at B a o)
 
-abbrev StandsIn : ℕ → List ℕ → ℕ → ℕ → Slot → Type 0
-StandsIn B I a o (Entry e) = Stands B I a o e
-StandsIn B I a o Stop = Unit {0}
+abbrev StandsIn : ℕ → List ℕ → ℕ → ℕ → Option DirEntry → Type 0
+StandsIn B I a o (Some e) = Stands B I a o e
+StandsIn B I a o None = Unit {0}
 
 module _ (B : ℕ) (I : List ℕ) (a o : ℕ) where
   stands : o < B - 22 → get_or I (place_at B a o) 0 ≤ 2 → (get_or I (place_at B a o + 17) 0 ≡ 0 → ⊥) → o + 18 + get_or I (place_at B a o + 17) 0 ≤ B - 5
@@ -93,7 +96,7 @@ module _ (B : ℕ) (I : List ℕ) (a o : ℕ) where
       (λ s. stands (leb-false _ _ p) (ltb-false _ _ q) (eqb-false _ _ r) (ltb-false _ _ s)))))
 
   -- An entry at offset o of block a starts before B - 22, has a name, and ends by B - 5.
-  pub slot_stands : (e : DirEntry) → slot_at B I a o ≡ Entry e → Stands B I a o e
+  pub slot_stands : (e : DirEntry) → slot_at B I a o ≡ Some e → Stands B I a o e
   slot_stands e p = subst (StandsIn B I a o) p stands_in
 
 -- ---- two images with the same bytes, and so a store

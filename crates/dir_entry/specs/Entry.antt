@@ -1,13 +1,11 @@
 -- One directory entry: its fixed part, the rules by which a block's entries stop, and its bytes. B is the block size.
 -- Definitions alone.
-use Rattle.std.specs.Prelude.{Bool, true, false, List, [], ◌∷◌, ◌++◌, ℕ, ◌+◌, ◌-◌, ◌*◌, ltb, leb, eqb, get_or, take, drop}
+use Rattle.std.specs.Prelude.{Bool, true, false, List, [], ◌∷◌, ◌++◌, ℕ, ◌+◌, ◌-◌, ◌*◌, ltb, leb, eqb, get_or, take, drop, Option, Some, None}
 use Rattle.wire.specs.Be.{be, bytes}
 use Rattle.wire.specs.Pick.{pick}
 use Rattle.dir_entry.specs.declared.Kind.{Kind}
 use Rattle.dir_entry.specs.declared.Kind.TheVariants.{Dir, File, Device}
 use Rattle.dir_entry.specs.declared.DirEntry.{DirEntry}
-use Rattle.dir_entry.specs.declared.Slot.{Slot}
-use Rattle.dir_entry.specs.declared.Slot.TheVariants.{Entry, Stop}
 
 -- F9: the kind of a byte of at most 2, and the byte of a kind.
 unfoldable pub kind_at : ℕ → Kind
@@ -58,10 +56,10 @@ name_at I at n = take n (drop (at + header) I)
 
 -- F10: what stands at offset o of block a: a test for each reason to stop. By the last, all bytes of an entry are in the
 -- block; by the first, those of its fixed part.
-unfoldable pub slot_at : ℕ → List ℕ → ℕ → ℕ → Slot
+unfoldable pub slot_at : ℕ → List ℕ → ℕ → ℕ → Option DirEntry
 slot_at B I a o =
-    pick (leb (B - 22) o) Stop
-    (pick (ltb 2 (get_or I (place_at B a o) 0)) Stop
-    (pick (eqb (get_or I (place_at B a o + 17) 0) 0) Stop
-    (pick (ltb (B - 5) (o + header + get_or I (place_at B a o + 17) 0)) Stop
-    (Entry (entry_at I (place_at B a o))))))
+    pick (leb (B - 22) o) None
+    (pick (ltb 2 (get_or I (place_at B a o) 0)) None
+    (pick (eqb (get_or I (place_at B a o + 17) 0) 0) None
+    (pick (ltb (B - 5) (o + header + get_or I (place_at B a o + 17) 0)) None
+    (Some (entry_at I (place_at B a o))))))

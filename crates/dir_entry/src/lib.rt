@@ -1,15 +1,15 @@
 // One directory entry: its kind, its fixed part, decoding by the four stop rules, and encoding.
+// (That a block lies in the image is a clause: it ties the block to one image, and stores have another behind them.)
 #![tactic(auto)]
 
 ghost use Rattle.std.specs.Prelude.{◌≡◌, ◌+◌, ◌*◌, ◌≤◌, ◌<◌, length};
 ghost use Rattle.wire.specs.Be.{splice};
-ghost use Rattle.block.specs.Block.{BlockSize};
 ghost use Rattle.dir_entry.specs.Entry.{kind_at, kind_byte, entry_at, head_bytes, place_at, slot_at};
 
 use block::{Addr, LinkedBlock};
 
 // What an entry stands for.
-#[derive(Clone, Copy)]
+#[derive(Clone, Copy, PartialEq, Eq)]
 pub enum Kind {
     Dir,
     File,
@@ -26,50 +26,49 @@ pub struct DirEntry {
     pub len: u8,
 }
 
-// What stands at an offset of a block.
+// A name that an entry may have: its length is a byte.
 #[derive(Clone, Copy)]
-pub enum Slot {
-    Entry(DirEntry),
-    Stop,
+pub struct Name<'a> {
+    pub bytes: &'a [u8],
+    ghost short: { length bytes.now ≤ 255 },
 }
 
-// A byte as a count, with its bound: what a cast in place would leave to the caller.
-fn wide(x: u8) -> usize
-    ensures { (result ≡ x) × (result < 256) }
-{
-    x as usize
+impl Name<'_> {
+    // How many bytes it has.
+    pub fn len(self) -> u8
+        ensures { result ≡ length self.entry.bytes.now }
+    {
+        self.bytes.len() as u8
+    }
 }
 
 // The byte of the image where an offset of a block's data stands.
-pub fn place(size: u32, a: Addr, offset: usize) -> usize
-    requires block_size { BlockSize size }
-    requires offset_le_size { offset ≤ size }
-    ensures { result ≡ place_at size a.0 offset }
+pub fn place(block: LinkedBlock, offset: usize) -> usize
+    requires { offset ≤ block.size }
+    ensures { result ≡ place_at block.size block.addr.0 offset }
 {
-    block::offset(size, a) + (LinkedBlock::LINK as usize) + offset
+    block::offset(block.size, block.addr) + (LinkedBlock::LINK as usize) + offset
 }
 
-impl Kind {
-    // The kind that a byte of at most 2 stands for.
-    pub fn of(b: u8) -> Kind
-        ensures { result ≡ kind_at b }
-    {
+// The kind that a byte of at most 2 stands for.
+impl From<u8> for Kind {
+    ghost from_gives = { λ b k. k ≡ kind_at b };
+
+    fn from(b: u8) -> Kind {
         match b {
             0 => Kind::Dir,
             1 => Kind::File,
             _ => Kind::Device,
         }
     }
+}
 
-    // The byte of a kind.
-    pub fn byte(self) -> u8
-        ensures { result ≡ kind_byte self }
-    {
-        match self {
-            Kind::Dir => 0,
-            Kind::File => 1,
-            Kind::Device => 2,
-        }
+// The byte of a kind.
+impl From<Kind> for u8 {
+    ghost from_gives = { λ k b. b ≡ kind_byte k };
+
+    fn from(k: Kind) -> u8 {
+        k as u8
     }
 }
 
@@ -83,7 +82,7 @@ impl DirEntry {
         ensures { result ≡ entry_at img.now at }
     {
         DirEntry {
-            kind: Kind::of(img[at]),
+            kind: Kind::from(img[at]),
             addr: Addr(wire::get32(img, at + 1)),
             size: wire::get32(img, at + 5),
             time: wire::get(img, at + 9, 8),
@@ -91,29 +90,27 @@ impl DirEntry {
         }
     }
 
-    // What stands at an offset of a block's data, by the four stop rules.
-    pub fn decode(img: &[u8], block: LinkedBlock, offset: usize) -> Slot
-        requires block_size { BlockSize block.size }
-        requires size_in_bounds { block.size * block.addr.0 + block.size ≤ length img.now }
+    // The entry at an offset of a block's data, unless one of the four stop rules says that the block's entries end there.
+    pub fn decode(img: &[u8], block: LinkedBlock, offset: usize) -> Option<DirEntry>
+        requires { block.size * block.addr.0 + block.size ≤ length img.now }
         ensures { result ≡ slot_at block.size img.now block.addr.0 offset }
     {
         let capacity = block.capacity() as usize;
         if capacity - DirEntry::HEADER <= offset {
-            return Slot::Stop;
+            return None;
         }
-        let a = block.addr;
-        let at = place(block.size, a, offset);
+        let at = place(block, offset);
         if 2 < img[at] {
-            return Slot::Stop;
+            return None;
         }
-        let n = wide(img[at + 17]);
+        let n = usize::from(img[at + 17]);
         if n == 0 {
-            return Slot::Stop;
+            return None;
         }
         if capacity - 1 < offset + DirEntry::HEADER + n {
-            return Slot::Stop;
+            return None;
         }
-        Slot::Entry(DirEntry::read(img, at))
+        Some(DirEntry::read(img, at))
     }
 
     // Stores the fixed part at a byte of the image.
@@ -123,7 +120,7 @@ impl DirEntry {
     {
         let k = self.kind;
         let a = self.addr;
-        img[at] = k.byte();
+        img[at] = u8::from(k);
         wire::put(img, at + 1, 4, a.0 as u64);
         wire::put(img, at + 5, 4, self.size as u64);
         wire::put(img, at + 9, 8, self.time);

@@ -1,43 +1,37 @@
 // A directory's entry by its name, read from any image. Entries of other names are passed over by their lengths alone.
+// (A block in the image is a clause and no type: the closures of `pass` get it from the cursor, whose block is tested before.)
 #![tactic(auto)]
 
-ghost use Rattle.std.specs.Prelude.{◌≡◌, ◌+◌, ◌-◌, ◌*◌, ◌≤◌, ◌<◌, length};
+ghost use Rattle.std.specs.Prelude.{◌≡◌, ℕ, true, false, ◌+◌, ◌-◌, ◌*◌, ◌≤◌, ◌<◌, length};
 ghost use Rattle.wire.specs.Pick.{same};
-ghost use Rattle.block.specs.Block.{BlockSize};
 ghost use Rattle.dir_entry.specs.Entry.{header, place_at, name_at, slot_at};
-ghost use Rattle.super_block.specs.Super.{area_in, Fit};
+ghost use Rattle.super_block.specs.Super.{area_in};
 ghost use Rattle.read_dir.specs.Walk.{walk};
-ghost use Rattle.read_dir.specs.Cursor.{len_of, Passed};
+ghost use Rattle.read_dir.specs.Cursor.{len_of, Over};
 ghost use Rattle.read_dir.specs.Finds.{find_in};
 
-use block::{Addr, LinkedBlock};
+use block::Addr;
 use dir_entry::DirEntry;
-use read_dir::{Found, ReadDir, Step};
-use super_block::SuperBlock;
-
-// A byte as a count, with its bound: what a cast in place would leave to the caller.
-fn wide(x: u8) -> usize
-    ensures { (result ≡ x) × (result < 256) }
-{
-    x as usize
-}
+use limits::Damage;
+use read_dir::{Placed, ReadDir};
+use super_block::Volume;
 
 // The length of the name at an offset of a block, 0 where the block's entries stop: all that must be read of an entry to
 // go over it.
-pub fn entry_len(img: &[u8], size: u32, b: Addr, o: usize) -> usize
-    requires block_size { BlockSize size }
-    requires size_in_bounds { size * b.0 + size ≤ length img.now }
-    ensures { result ≡ len_of (slot_at size img.now b.0 o) }
+pub fn entry_len(v: Volume, b: Addr, o: usize) -> usize
+    requires { v.s.size * b.0 + v.s.size ≤ length v.img.now }
+    ensures { result ≡ len_of (slot_at v.entry.s.size v.entry.img.now b.0 o) }
 {
-    let capacity = LinkedBlock::new(size, b).capacity() as usize;
+    let block = v.block(b);
+    let capacity = block.capacity() as usize;
     if capacity - DirEntry::HEADER <= o {
         return 0;
     }
-    let at = dir_entry::place(size, b, o);
-    if 2 < img[at] {
+    let at = dir_entry::place(block, o);
+    if 2 < v.img[at] {
         return 0;
     }
-    let n = wide(img[at + 17]);
+    let n = usize::from(v.img[at + 17]);
     if capacity - 1 < o + DirEntry::HEADER + n {
         return 0;
     }
@@ -45,38 +39,37 @@ pub fn entry_len(img: &[u8], size: u32, b: Addr, o: usize) -> usize
 }
 
 // Whether the name of n bytes at an offset of a block is that one.
-fn named_at(img: &[u8], size: u32, b: Addr, o: usize, n: usize, name: &[u8]) -> bool
-    requires block_size { BlockSize size }
-    requires size_in_bounds { size * b.0 + size ≤ length img.now }
-    requires n_bound { o + header + n ≤ size - 5 }
-    ensures { result ≡ same (name_at img.now (place_at size b.0 o) n) name.now }
+fn named_at(v: Volume, b: Addr, o: usize, n: usize, name: &[u8]) -> bool
+    requires size_in_bounds { v.s.size * b.0 + v.s.size ≤ length v.img.now }
+    requires n_bound { o + header + n ≤ v.s.size - 5 }
+    ensures { result ≡ same (name_at v.entry.img.now (place_at v.entry.s.size b.0 o) n) name.now }
 {
     if n != name.len() {
         return false;
     }
-    wire::same_bytes(img, dir_entry::place(size, b, o) + DirEntry::HEADER, name)
+    wire::same_bytes(
+        v.img,
+        dir_entry::place(v.block(b), o) + DirEntry::HEADER,
+        name,
+    )
 }
 
-// Over the entries of other names in the cursor's block. Neither their address nor their size or time is read.
-fn pass_others(img: &[u8], s: SuperBlock, c: ReadDir, name: &[u8]) -> ReadDir
-    requires { Fit s img.now }
-    ensures { Passed (area_in s) img.now (find_in name.now) c result }
+// Over the entries in the cursor's block, up to the first one that `stops`: that is asked for with the entry's offset and the
+// length of its name, and no more of an entry is read here.
+pub fn pass<F: Fn(usize, usize) -> bool>(v: Volume, c: ReadDir, stops: F) -> ReadDir
+    requires { (o n : ℕ) → v.s.area.0 ≤ c.block.0 → c.block.0 < v.s.blocks → o + header + n ≤ v.s.size - 5 → F.pre stops o n }
+    ensures { Over (area_in v.entry.s) v.entry.img.now (λ o n. F.post stops o n false) (λ o n. F.post stops o n true) c result }
 {
-    let b = c.block;
-    let d = s.area;
-    if b.0 < d.0 {
-        return c;
-    }
-    if s.blocks <= b.0 {
+    if !v.has(c.block) {
         return c;
     }
     let mut o = c.offset;
     loop {
-        let n = entry_len(img, s.size, b, o);
+        let n = entry_len(v, c.block, o);
         if n == 0 {
             return c.at(o);
         }
-        if named_at(img, s.size, b, o, n, name) {
+        if stops(o, n) {
             return c.at(o);
         }
         o = o + DirEntry::HEADER + n;
@@ -84,21 +77,20 @@ fn pass_others(img: &[u8], s: SuperBlock, c: ReadDir, name: &[u8]) -> ReadDir
 }
 
 // The first entry of that name in the directory that begins at block dir.
-pub fn lookup(img: &[u8], s: SuperBlock, dir: Addr, name: &[u8]) -> Found
-    requires { Fit s img.now }
-    ensures { result ≡ find_in name.now (walk (area_in s) img.now dir.0) }
+pub fn lookup(v: Volume, dir: Addr, name: &[u8]) -> Result<Option<Placed>, Damage>
+    ensures { result ≡ find_in name.now (walk (area_in v.entry.s) v.entry.img.now dir.0) }
 {
-    let mut c = ReadDir::new(s, dir);
+    let mut c = ReadDir::new(v, dir);
     loop {
-        match pass_others(img, s, c, name).next(img, s) {
-            Step::Entry(e, p, d) => {
-                if read_dir::named(img, s.size, e, p, name) {
-                    return Found::At(e, p);
+        let b = c.block;
+        c = pass(v, c, |o, n| named_at(v, b, o, n, name));
+        match c.next(v)? {
+            None => return Ok(None),
+            Some(x) => {
+                if x.named(v, name) {
+                    return Ok(Some(x));
                 }
-                c = d;
             }
-            Step::End => return Found::Missing,
-            Step::Damaged => return Found::Damaged,
         }
     }
 }

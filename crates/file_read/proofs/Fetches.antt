@@ -1,15 +1,13 @@
 -- The answer of a read, from what its steps gave.
 use mathlib.Core.Path.{◌≡◌, refl, sym, ap, ◌∙◌, subst}
-use mathlib.Core.Bool.{false}
+use mathlib.Core.Bool.{true, false}
 use mathlib.Core.List.{List, [], ◌∷◌}
-use Prim.Native.Nat.{ℕ, zero, suc, ◌+◌, ◌-◌, ◌%◌, ◌≤◌, ◌<◌}
-use native.Mathlib.Nat.{mod-lt}
+use Prim.Native.Nat.{ℕ, zero, suc, ◌+◌, ◌-◌, ◌%◌, ◌≤◌}
 use native.Mathlib.Omega.{arith}
 use lib.ListN.{length}
-use mir.Syntax.{w32, w64}
+use mir.Syntax.{w32}
 use mir.Val.{Fits}
 use Rattle.wire.specs.Be.{splice}
-use Rattle.block.specs.declared.Addr.{Addr}
 use Rattle.block.specs.Block.{Area}
 use Rattle.model.specs.Answers.{when, first_of}
 use Rattle.limits.specs.Refusals.{refusal_number}
@@ -17,18 +15,14 @@ use Rattle.limits.specs.declared.Refusal.{Refusal}
 use Rattle.model.proofs.Opens.{when_true, when_false, when-none, passed, first_of_head, first_of_tail, first_of_one, first_of_zero}
 use Rattle.limits.proofs.Numbers.{number_some}
 use Rattle.read_dir.specs.Walk.{walk}
-use Rattle.super_block.specs.declared.SuperBlock.{SuperBlock}
-use Rattle.super_block.specs.Super.{Fit}
 use Rattle.handle.specs.declared.Handle.{Handle}
-use Rattle.limits.specs.declared.Answer.{Answer}
-use Rattle.limits.specs.declared.Answer.TheVariants as answer
 use Rattle.handle.specs.declared.CountedOut.{CountedOut}
-use Rattle.file_read.specs.declared.Walked.{Walked}
-use Rattle.file_read.specs.declared.Walked.TheVariants as walked
+use Rattle.std.specs.Prelude.{Result, Ok, Err, IsErrAnd}
+use Rattle.limits.specs.declared.Refusal.TheVariants.{Damaged}
 use Rattle.handle.specs.Handles.{stale_fields, moved, held_in}
 use Rattle.file_read.specs.Read.{to_read, blocks_read, chain_read, missing, bytes_of, read_refusal, bytes_read}
-use Rattle.handle.specs.Post.{answer_number, handle_refusal}
-use Rattle.file_read.specs.Post.{Gives, Keeps, CountedIs, ReadIs, chain_refusal, FetchIs, part_at, Whole, Begins, BeginsIs}
+use Rattle.handle.specs.Post.{handle_refusal}
+use Rattle.file_read.specs.Post.{Gives, CountedIs, ReadIs, chain_refusal, FetchIs, part_at, Begins}
 use Rattle.handle.proofs.Seeks.{fresh}
 
 -- ---- the numbers of a read: k bytes
@@ -44,53 +38,33 @@ module _ (h : Handle) (v : stale_fields h ≡ false) where
     pub fetch_fits : Fits w32 (h.position + k)
     fetch_fits = record { fits = omega (arith, fetch_end) }
 
-    pub fetch_room : k ≤ len
-    fetch_room = omega arith
+-- ---- what the chain gave
 
--- the read begins in a block's data bytes
-module _ (s : SuperBlock) (I : List ℕ) (p : ℕ) (f : Fit s I) where
-  pub fetch_from : p % (s.size - 4) < s.size - 4
-  fetch_from = mod-lt p (omega (arith, f.known.least))
+module _ (A : Area) (I : List ℕ) (h : Handle) (l : List ℕ) (k : ℕ) (e : k ≡ to_read h (length l)) where
+  pub fetch_lost : (vs : List ℕ) (t : Result ℕ Refusal) → IsErrAnd t (λ x. x ≡ Damaged)
+      → missing A I (chain_read A I h.addr.0 (blocks_read A I h.position k)) ≡ true → CountedIs (chain_refusal A I h (length l)) h h vs l l t
+  fetch_lost vs (Ok n) d g = absurd d
+  fetch_lost vs (Err x) d g =
+      record {
+        refused =
+            when_true 17 (ap (λ (y : ℕ). missing A I (chain_read A I h.addr.0 (blocks_read A I h.position y))) (sym e) ∙ g)
+            ∙ ap refusal_number (sym d);
+        handle = refl;
+        kept = refl;
+      }
 
-  pub fetch_cast : Fits w64 (p % (s.size - 4))
-  fetch_cast = record { fits = omega (arith, fetch_from, f.known.most) }
-
--- ---- r is where the read begins
-
-module _ (A : Area) (I : List ℕ) (h : Handle) (l : List ℕ) (k : ℕ) (r : Walked) (w : BeginsIs A I h.addr.0 h.position k r) where
-  begins : (b : Addr) → r ≡ walked.At b → Begins A I h.addr.0 h.position k b.0
-  begins b g = subst (BeginsIs A I h.addr.0 h.position k) g w
-
-  pub fetch_whole : (b : Addr) → r ≡ walked.At b → Whole A I b.0 (h.position % (A.size - 4)) k
-  fetch_whole b g = (begins b g).whole
-
-  module _ (e : k ≡ to_read h (length l)) where
-    pub fetch_lost : r ≡ walked.Damaged → Keeps (chain_refusal A I h (length l)) h h l l 17
-    fetch_lost g =
-        record {
-          refused =
-              when_true 17
-              (ap (λ (x : ℕ). missing A I (chain_read A I h.addr.0 (blocks_read A I h.position x))) (sym e)
-              ∙ subst (BeginsIs A I h.addr.0 h.position k) g w);
-          handle = refl;
-          kept = refl;
-        }
-
-    pub fetch_given : (b : Addr) (m : List ℕ) (g : Handle) → r ≡ walked.At b
-        → m ≡ splice l 0 (part_at A I b.0 (h.position % (A.size - 4)) k) → g ≡ moved h (h.position + k) → Gives (chain_refusal A I h (length l)) h g (bytes_read A I h (length l)) l m k
-    unfolding bytes_read
-    fetch_given b m g q u v =
-        record {
-          good =
-              when_false 17
-              (ap (λ (x : ℕ). missing A I (chain_read A I h.addr.0 (blocks_read A I h.position x))) (sym e) ∙ (begins b q).good);
-          count = e;
-          handle = v;
-          stored =
-              u ∙ ap (splice l 0)
-              (sym (begins b q).bytes
-              ∙ ap (λ (x : ℕ). bytes_of A I (chain_read A I h.addr.0 (blocks_read A I h.position x)) h.position x) e);
-        }
+  pub fetch_given : (b : ℕ) (m : List ℕ) (g : Handle) → Begins A I h.addr.0 h.position k b
+      → m ≡ splice l 0 (part_at A I b (h.position % (A.size - 4)) k) → g ≡ moved h (h.position + k) → Gives (chain_refusal A I h (length l)) h g (bytes_read A I h (length l)) l m k
+  unfolding bytes_read
+  fetch_given b m g w u v =
+      record {
+        good = when_false 17 (ap (λ (x : ℕ). missing A I (chain_read A I h.addr.0 (blocks_read A I h.position x))) (sym e) ∙ w.good);
+        count = e;
+        handle = v;
+        stored =
+            u ∙ ap (splice l 0)
+            (sym w.bytes ∙ ap (λ (x : ℕ). bytes_of A I (chain_read A I h.addr.0 (blocks_read A I h.position x)) h.position x) e);
+      }
 
 -- ---- the first refusal of three, by the first of two
 
@@ -105,29 +79,32 @@ first_third a b c e =
     let p = first_of_zero a (b ∷ []) (sym e) in
     first_of_tail a _ p.0 ∙ first_of_tail b _ (first_of_zero b [] p.1).0 ∙ first_of_one c
 
--- ---- r is what the handle's check gave
+-- ---- what the handle's check gave
 
-module _ (A : Area) (I : List ℕ) (h : Handle) (r : Answer) (w : answer_number r ≡ handle_refusal A I h) where
-  pub read_fresh : r ≡ answer.Success → stale_fields h ≡ false
-  read_fresh g = when-none 11 (stale_fields h) (omega arith) (first_of_zero _ _ (sym w ∙ ap answer_number g)).0
-
-  pub read_refused : (x : Refusal) (l : List ℕ) → r ≡ answer.Refused x → Keeps (read_refusal A I h (length l)) h h l l (refusal_number x)
+module _ (A : Area) (I : List ℕ) (h : Handle) where
+  pub read_refused : (x : Refusal) (l : List ℕ) (t : Result ℕ Refusal) → refusal_number x ≡ handle_refusal A I h → IsErrAnd t (λ y. y ≡ x)
+      → ReadIs A I h l l (record { answer = t; handle = h })
   unfolding read_refusal
-  read_refused x l g =
+  read_refused x l (Ok n) w d = absurd d
+  read_refused x l (Err y) w d =
       record {
         refused =
-            first_two (when 11 (stale_fields h)) (held_in h (walk A I h.dir.0)) (chain_refusal A I h (length l)) (refusal_number x) (number_some x)
-            (sym (ap answer_number g) ∙ w);
+            first_two (when 11 (stale_fields h)) (held_in h (walk A I h.dir.0)) (chain_refusal A I h (length l)) (refusal_number x) (number_some x) w
+            ∙ ap refusal_number (sym d);
         handle = refl;
         kept = refl;
       }
 
-  pub read_fetched : (l m : List ℕ) (out : CountedOut) → r ≡ answer.Success → FetchIs A I h l m out → ReadIs A I h l m out
-  unfolding read_refusal
-  read_fetched l m out g f =
-      let e : read_refusal A I h (length l) ≡ chain_refusal A I h (length l)
-      = first_third (when 11 (stale_fields h)) (held_in h (walk A I h.dir.0)) (chain_refusal A I h (length l)) (sym (ap answer_number g) ∙ w) in
-      subst (λ (k : ℕ). CountedIs k h out.handle (bytes_read A I h (length l)) l m out.answer) (sym e) f
+  module _ (w : 0 ≡ handle_refusal A I h) where
+    pub read_fresh : stale_fields h ≡ false
+    read_fresh = when-none 11 (stale_fields h) (omega arith) (first_of_zero _ _ (sym w)).0
+
+    pub read_fetched : (l m : List ℕ) (out : CountedOut) → FetchIs A I h l m out → ReadIs A I h l m out
+    unfolding read_refusal
+    read_fetched l m out f =
+        let e : read_refusal A I h (length l) ≡ chain_refusal A I h (length l)
+        = first_third (when 11 (stale_fields h)) (held_in h (walk A I h.dir.0)) (chain_refusal A I h (length l)) w in
+        subst (λ (k : ℕ). CountedIs k h out.handle (bytes_read A I h (length l)) l m out.answer) (sym e) f
 
 -- ---- what an accepted read tells
 

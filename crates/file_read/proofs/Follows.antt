@@ -1,50 +1,46 @@
 -- How code follows a chain: block by block, and to the block where a read begins.
 use mathlib.Core.Path.{◌≡◌, refl, sym, ap, ◌∙◌, subst}
-use mathlib.Core.Bool.{true}
+use mathlib.Core.Bool.{Bool, true, false}
 use mathlib.Core.Option.{Option, none, some}
 use mathlib.Core.List.{List, [], ◌++◌}
-use Prim.Native.Nat.{ℕ, suc, ◌+◌, ◌-◌, ◌*◌, ◌^◌, ◌/◌, ◌%◌, ◌≤◌, ◌<◌}
-use native.Mathlib.Nat.{add-zero, div-add-mod, div-le_self, mul-add-div}
+use Prim.Native.Nat.{ℕ, suc, ◌+◌, ◌-◌, ◌*◌, ◌/◌, ◌%◌, ◌≤◌, ◌<◌}
+use native.Mathlib.Nat.{add-zero, div-add-mod, mul-add-div}
 use native.Mathlib.Omega.{arith}
 use lib.ListN.{length, take, drop}
 use lib.Seq.{drop-append-add}
 use Rattle.block.specs.Block.{Area, next}
 use Rattle.block.specs.declared.Addr.{Addr}
-use Rattle.read_dir.proofs.Unroll.{area_in_lem, area_low, area_high}
+use Rattle.read_dir.specs.Walk.{in_area}
 use Rattle.super_block.specs.declared.SuperBlock.{SuperBlock}
 use Rattle.super_block.specs.Super.{area_in, Fit}
 use Rattle.file_read.specs.Read.{chain, blocks_read, chain_read, data_of, missing, bytes_of}
-use Rattle.file_read.specs.Post.{after, Begins, WalkedIs}
-use Rattle.file_read.specs.declared.Walked.{Walked}
-use Rattle.file_read.specs.declared.Walked.TheVariants as walked
+use Rattle.file_read.specs.Post.{after, Begins, BeginsIs}
+use Rattle.std.specs.Prelude.{Result, Ok, Err, is_err}
+use Rattle.limits.specs.declared.Damage.{Damage}
 use Rattle.file_read.proofs.Chains.{missing-none, missing-some, chain-none, chain_read_lem, chain-over, after_none, after_out, after_in, after-split, after_lost, Split, data_append, data_length}
 
--- ---- block by block: b is the block, and left are to be passed
+-- ---- block by block: i are passed, and b is the block
 
-module _ (A : Area) (I : List ℕ) (a k b left : ℕ) (inv : after A I left b ≡ after A I k a) where
-  pub follow_end : left ≤ 0 → after A I k a ≡ some b
+module _ (A : Area) (I : List ℕ) (a k b i : ℕ) (inv : after A I (k - i) b ≡ after A I k a) where
+  pub follow_end : k ≤ i → after A I k a ≡ some b
   follow_end h =
-      let e : left ≡ 0 = omega arith in
+      let e : k - i ≡ 0 = omega arith in
       sym inv ∙ ap (λ (x : ℕ). after A I x b) e ∙ after_none A I b
 
-  module _ (h : 0 < left) where
-    more : (o : Option ℕ) → after A I (suc (left - 1)) b ≡ o → after A I k a ≡ o
+  module _ (h : i < k) where
+    more : (o : Option ℕ) → after A I (suc (k - (i + 1))) b ≡ o → after A I k a ≡ o
     more o g =
-        let e : left ≡ suc (left - 1) = omega arith in
+        let e : k - i ≡ suc (k - (i + 1)) = omega arith in
         sym inv ∙ ap (λ (x : ℕ). after A I x b) e ∙ g
 
-    pub follow_low : b < A.first → after A I k a ≡ none
-    follow_low l = more none (after_out A I (left - 1) b (area_low A I b l))
+    -- t is whether b is one of the area's
+    module _ (t : Bool) (e : t ≡ in_area A I b) where
+      pub follow_out : t ≡ false → after A I k a ≡ none
+      follow_out f = more none (after_out A I (k - (i + 1)) b (sym e ∙ f))
 
-    pub follow_high : A.end ≤ b → after A I k a ≡ none
-    follow_high l = more none (after_out A I (left - 1) b (area_high A I b l))
-
-    -- z and m are the size and the address of the linked block that code makes
-    pub follow_again : (z m to : ℕ) → A.first ≤ b → b < A.end → z ≡ A.size → m ≡ b → to ≡ next z I m
-        → after A I (left - 1) to ≡ after A I k a
-    follow_again z m to p q d e f =
-        let x : to ≡ next A.size I b = f ∙ λ i. next (d i) I (e i) in
-        sym (more (after A I (left - 1) to) (after_in A I (left - 1) b (area_in_lem A I b p q) ∙ ap (after A I (left - 1)) (sym x)))
+      pub follow_again : (to : ℕ) → t ≡ true → to ≡ next A.size I b → after A I (k - (i + 1)) to ≡ after A I k a
+      follow_again to f x =
+          sym (more (after A I (k - (i + 1)) to) (after_in A I (k - (i + 1)) b (sym e ∙ f) ∙ ap (after A I (k - (i + 1))) (sym x)))
 
 -- ---- how many blocks a read walks, and what the bound on them leaves
 
@@ -53,6 +49,12 @@ div-split : (c : ℕ) → 0 < c → (p j : ℕ) → (p + j) / c ≡ p / c + (p %
 div-split c h p j =
     let e : p + j ≡ c * (p / c) + (p % c + j) = omega (arith, div-add-mod p c) in
     ap (λ (x : ℕ). x / c) e ∙ mul-add-div h (p / c) (p % c + j)
+
+-- what code answers where the chain is damaged
+pub lost_begins : (A : Area) (I : List ℕ) (a p k : ℕ) (t : Result Addr Damage) → is_err t ≡ true
+    → missing A I (chain_read A I a (blocks_read A I p k)) ≡ true → BeginsIs A I a p k t
+lost_begins A I a p k (Ok b) e m = cc
+lost_begins A I a p k (Err d) e m = m
 
 module _ (A : Area) (I : List ℕ) where
   pub blocks-none : (p : ℕ) → blocks_read A I p 0 ≡ 0
@@ -76,14 +78,6 @@ module _ (A : Area) (I : List ℕ) where
   after-none-chain m b e = subst (λ (k : ℕ). chain A I k b ≡ none) (add-zero m) (after_lost A I m b e 0)
 
 -- ---- where a read begins
-
--- a count, the last byte's block and j more, is a number of 32 bits,
-pub begin_count : (p k c j : ℕ) → p + k ≤ 2147483647 → j < 2147483648 → (p + (k - 1)) / c + j < 2 ^ 32
-begin_count p k c j h l = omega (arith, div-le_self (p + (k - 1)) c)
-
--- and the blocks before the first byte's are no more
-pub begin_first : (s : SuperBlock) (I : List ℕ) (p k j : ℕ) → Fit s I → p / (s.size - 4) ≤ (p + (k - 1)) / (s.size - 4) + j
-begin_first s I p k j f = omega (arith, div-split (s.size - 4) (omega (arith, f.known.least)) p (k - 1))
 
 pub begin_none : (A : Area) (I : List ℕ) (a p k : ℕ) → k ≡ 0 → Begins A I a p k a
 begin_none A I a p k e = subst (λ (x : ℕ). Begins A I a p x a) (sym e) zero_begins
@@ -133,49 +127,43 @@ module _ (s : SuperBlock) (I : List ℕ) (f : Fit s I) (a p k : ℕ) (z : k ≡ 
     part_count : blocks_read A I (p % c) k ≡ m - p / c
     part_count = blocks-some A I (p % c) k (omega arith) ∙ omega (arith, div-split c some_data p (k - 1))
 
-    -- r is what the walk to the block of byte p gave
-    module _ (r : Walked) (w : WalkedIs (after A I (p / c) a) r) where
-      pub begin_lost : r ≡ walked.Damaged → missing A I (chain_read A I a (blocks_read A I p k)) ≡ true
-      begin_lost e =
+    pub begin_lost : after A I (p / c) a ≡ none → missing A I (chain_read A I a (blocks_read A I p k)) ≡ true
+    begin_lost e =
+        missing-none A I _ (whole_read ∙ ap (λ (x : ℕ). chain A I x a) (sym parts) ∙ after_lost A I (p / c) a e (m - p / c))
+
+    -- b is the block of byte p
+    module _ (b : ℕ) (e : after A I (p / c) a ≡ some b) where
+      cut : Split A I (p / c) a b
+      cut = after-split A I (p / c) a b e
+
+      pub begin_cut : after A I (m - p / c) b ≡ none → missing A I (chain_read A I a (blocks_read A I p k)) ≡ true
+      begin_cut g =
           missing-none A I _
-          (whole_read ∙ ap (λ (x : ℕ). chain A I x a) (sym parts)
-          ∙ after_lost A I (p / c) a (subst (WalkedIs (after A I (p / c) a)) e w) (m - p / c))
+          (whole_read ∙ ap (λ (x : ℕ). chain A I x a) (sym parts) ∙ cut.ends (m - p / c) (after-none-chain A I (m - p / c) b g))
 
-      -- t is what the walk from there on gave
-      module _ (b : Addr) (e : r ≡ walked.At b) (t : Walked) (v : WalkedIs (after A I (m - p / c) b.0) t) where
-        cut : Split A I (p / c) a b.0
-        cut = after-split A I (p / c) a b.0 (subst (WalkedIs (after A I (p / c) a)) e w)
-
-        pub begin_cut : t ≡ walked.Damaged → missing A I (chain_read A I a (blocks_read A I p k)) ≡ true
-        begin_cut g =
-            missing-none A I _
-            (whole_read ∙ ap (λ (x : ℕ). chain A I x a) (sym parts)
-            ∙ cut.ends (m - p / c)
-            (after-none-chain A I (m - p / c) b.0 (subst (WalkedIs (after A I (m - p / c) b.0)) g v)))
-
-        pub begin_found : (x : Addr) → t ≡ walked.At x → Begins A I a p k b.0
-        begin_found x g =
-            let q = after-chain A I (m - p / c) b.0 x.0 (subst (WalkedIs (after A I (m - p / c) b.0)) g v) in
-            let xs : List ℕ = q.0 in
-            let all : chain_read A I a (blocks_read A I p k) ≡ some (cut.front ++ xs)
-            = whole_read ∙ ap (λ (y : ℕ). chain A I y a) (sym parts) ∙ cut.goes (m - p / c) xs q.1 in
-            let part : chain A I (blocks_read A I (p % c) k) b.0 ≡ some xs
-            = ap (λ (y : ℕ). chain A I y b.0) part_count ∙ q.1 in
-            record {
-              good = missing-some A I _ (cut.front ++ xs) all;
-              whole = missing-some A I _ xs part;
-              bytes =
-                  ap (λ (o : Option (List ℕ)). bytes_of A I o p k) all
-                  ∙ ap (take k) (rest xs)
-                  ∙ sym (ap (λ (o : Option (List ℕ)). bytes_of A I o (p % c) k) part);
-            }
-          where
-            rest : (xs : List ℕ) → drop p (data_of A I (cut.front ++ xs)) ≡ drop (p % c) (data_of A I xs)
-            rest xs =
-                let u : length (data_of A I cut.front) ≡ c * length cut.front
-                = data_length A I (omega (arith, f.known.least)) f.inside cut.front cut.inside in
-                let q : p ≡ length (data_of A I cut.front) + p % c
-                = omega (arith, u, ap (λ (y : ℕ). c * y) cut.long, div-add-mod p c) in
-                ap (drop p) (data_append A I cut.front xs)
-                ∙ ap (λ (y : ℕ). drop y (data_of A I cut.front ++ data_of A I xs)) q
-                ∙ drop-append-add (data_of A I cut.front) (data_of A I xs) (p % c)
+      pub begin_found : (x : ℕ) → after A I (m - p / c) b ≡ some x → Begins A I a p k b
+      begin_found x g =
+          let q = after-chain A I (m - p / c) b x g in
+          let xs : List ℕ = q.0 in
+          let all : chain_read A I a (blocks_read A I p k) ≡ some (cut.front ++ xs)
+          = whole_read ∙ ap (λ (y : ℕ). chain A I y a) (sym parts) ∙ cut.goes (m - p / c) xs q.1 in
+          let part : chain A I (blocks_read A I (p % c) k) b ≡ some xs
+          = ap (λ (y : ℕ). chain A I y b) part_count ∙ q.1 in
+          record {
+            good = missing-some A I _ (cut.front ++ xs) all;
+            whole = missing-some A I _ xs part;
+            bytes =
+                ap (λ (o : Option (List ℕ)). bytes_of A I o p k) all
+                ∙ ap (take k) (rest xs)
+                ∙ sym (ap (λ (o : Option (List ℕ)). bytes_of A I o (p % c) k) part);
+          }
+        where
+          rest : (xs : List ℕ) → drop p (data_of A I (cut.front ++ xs)) ≡ drop (p % c) (data_of A I xs)
+          rest xs =
+              let u : length (data_of A I cut.front) ≡ c * length cut.front
+              = data_length A I (omega (arith, f.known.least)) f.inside cut.front cut.inside in
+              let q : p ≡ length (data_of A I cut.front) + p % c
+              = omega (arith, u, ap (λ (y : ℕ). c * y) cut.long, div-add-mod p c) in
+              ap (drop p) (data_append A I cut.front xs)
+              ∙ ap (λ (y : ℕ). drop y (data_of A I cut.front ++ data_of A I xs)) q
+              ∙ drop-append-add (data_of A I cut.front) (data_of A I xs) (p % c)

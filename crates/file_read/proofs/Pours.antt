@@ -11,7 +11,6 @@ use lib.Seq.{take-take, take-add, drop-drop, drop_at, take-append-le, drop-appen
 use Rattle.wire.specs.Be.{splice}
 use Rattle.wire.proofs.Numbers.{splice-append, splice-nil}
 use Rattle.block.specs.Block.{Area, next}
-use Rattle.block.proofs.Blocks.{linked_inside}
 use Rattle.super_block.specs.declared.SuperBlock.{SuperBlock}
 use Rattle.super_block.specs.Super.{area_in, Fit}
 use Rattle.file_read.specs.Read.{chain, blocks_read, data_of, bytes_of}
@@ -191,19 +190,17 @@ module _ (s : SuperBlock) (I buf₀ : List ℕ) (a₀ o₀ k : ℕ) (buf : List 
     inside : s.size * b + s.size ≤ length I
     inside = turn_fits (area_in s) I big f.inside b at (k - i) r p (omega arith) e left.whole
 
-    -- z and m are the size and the address of the linked block that code makes
-    pub pour_block : (z m : ℕ) → z ≡ s.size → m ≡ b → z * m + z ≤ length I
-    pour_block z m x y = linked_inside b x y inside
+    pub pour_block : b < s.blocks
+    pour_block = turn_below (area_in s) I big f.inside b at (k - i) r p (omega arith) e left.whole
 
     pub pour_from : (from : ℕ) → from ≡ s.size * b + 4 + at → from + r ≤ length I
     pour_from from q = omega (arith, inside)
 
-    pub pour_again : (from z m to : ℕ) (now : List ℕ) → length buf ≡ length buf₀ → k ≤ length buf₀
-        → from ≡ s.size * b + 4 + at → now ≡ splice buf i (take r (drop from I)) → z ≡ s.size → m ≡ b → to ≡ next z I m
+    pub pour_again : (from to : ℕ) (now : List ℕ) → length buf ≡ length buf₀ → k ≤ length buf₀
+        → from ≡ s.size * b + 4 + at → now ≡ splice buf i (take r (drop from I)) → to ≡ next s.size I b
         → Left (area_in s) I buf₀ k a₀ o₀ now to 0 (i + r)
-    pour_again from z m to now t l q u d v x =
+    pour_again from to now t l q u y =
         let j : k - (i + r) ≡ k - i - r = omega arith in
-        let y : to ≡ next s.size I b = x ∙ λ n. next (d n) I (v n) in
         record {
           whole = rw (j, y) (turn_whole (area_in s) I big f.inside b at (k - i) r p (omega arith) e left.whole);
           same =

@@ -1,19 +1,18 @@
 -- What the functions give: the answer of a read with the handle that it hands back, and its steps. Definitions alone.
 -- A is the data area: the size of its blocks, its first address and the volume's end.
-use Rattle.std.specs.Prelude.{◌≡◌, true, false, List, ℕ, zero, suc, ◌+◌, ◌-◌, ◌%◌, length}
+use Rattle.std.specs.Prelude.{◌≡◌, true, false, List, ℕ, zero, suc, ◌+◌, ◌-◌, ◌%◌, length, Result, Ok, Err}
 use Rattle.std.proofs.Math.Option.{Option, none, some}
 use Rattle.wire.specs.Be.{splice}
 use Rattle.wire.specs.Pick.{pick}
 use Rattle.block.specs.Block.{Area, next}
 use Rattle.model.specs.Answers.{when}
+use Rattle.block.specs.declared.Addr.{Addr}
 use Rattle.limits.specs.Refusals.{refusal_number}
+use Rattle.limits.specs.declared.Damage.{Damage}
+use Rattle.limits.specs.declared.Refusal.{Refusal}
 use Rattle.read_dir.specs.Walk.{in_area}
 use Rattle.handle.specs.declared.Handle.{Handle}
-use Rattle.handle.specs.declared.Counted.{Counted}
-use Rattle.handle.specs.declared.Counted.TheVariants as counted
 use Rattle.handle.specs.declared.CountedOut.{CountedOut}
-use Rattle.file_read.specs.declared.Walked.{Walked}
-use Rattle.file_read.specs.declared.Walked.TheVariants as walked
 use Rattle.handle.specs.Handles.{moved}
 use Rattle.file_read.specs.Read.{to_read, chain, blocks_read, chain_read, missing, bytes_of, read_refusal, bytes_read}
 
@@ -30,9 +29,9 @@ pub record Keeps (refusal : ℕ) (h g : Handle) (l m : List ℕ) (r : ℕ) : Typ
   pub handle : g ≡ h
   pub kept : m ≡ l
 
-abbrev pub CountedIs : ℕ → Handle → Handle → List ℕ → List ℕ → List ℕ → Counted → Type 0
-CountedIs refusal h g vs l m (counted.Bytes k) = Gives refusal h g vs l m k
-CountedIs refusal h g vs l m (counted.Refused r) = Keeps refusal h g l m (refusal_number r)
+abbrev pub CountedIs : ℕ → Handle → Handle → List ℕ → List ℕ → List ℕ → Result ℕ Refusal → Type 0
+CountedIs refusal h g vs l m (Ok k) = Gives refusal h g vs l m k
+CountedIs refusal h g vs l m (Err r) = Keeps refusal h g l m (refusal_number r)
 
 module _ (A : Area) (I : List ℕ) where
   abbrev pub ReadIs : Handle → List ℕ → List ℕ → CountedOut → Type 0
@@ -65,11 +64,11 @@ module _ (A : Area) (I : List ℕ) where
     pub whole : Whole b (p % (A.size - 4)) k
     pub bytes : bytes_of A I (chain_read A I a (blocks_read A I p k)) p k ≡ part_at b (p % (A.size - 4)) k
 
-  abbrev pub BeginsIs : ℕ → ℕ → ℕ → Walked → Type 0
-  BeginsIs a p k (walked.At b) = Begins a p k b.0
-  BeginsIs a p k walked.Damaged = missing A I (chain_read A I a (blocks_read A I p k)) ≡ true
+  abbrev pub BeginsIs : ℕ → ℕ → ℕ → Result Addr Damage → Type 0
+  BeginsIs a p k (Ok b) = Begins a p k b.0
+  BeginsIs a p k (Err _) = missing A I (chain_read A I a (blocks_read A I p k)) ≡ true
 
 -- A walk along a chain: where it came to, or that it left D..n-1.
-abbrev pub WalkedIs : Option ℕ → Walked → Type 0
-WalkedIs o (walked.At b) = o ≡ some b.0
-WalkedIs o walked.Damaged = o ≡ none
+abbrev pub WalkedIs : Option ℕ → Result Addr Damage → Type 0
+WalkedIs o (Ok b) = o ≡ some b.0
+WalkedIs o (Err _) = o ≡ none

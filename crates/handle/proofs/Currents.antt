@@ -21,12 +21,24 @@ use Rattle.model.proofs.Others.{lookup_here, lookup_there}
 use Rattle.model.proofs.Reached.{lookup_entries, named_entries}
 use Rattle.dir_entry.specs.Entry.{is_file}
 use Rattle.dir_entry.specs.Shown.{kind_is, head_of}
-use Rattle.read_dir.specs.declared.Found.TheVariants as found
+use Rattle.std.specs.Prelude.{Option, Some, None, Result, Ok}
+use Rattle.limits.specs.declared.Damage.{Damage}
+use Rattle.dir_entry.specs.declared.DirEntry.{DirEntry}
+use Rattle.read_dir.specs.declared.Place.{Place}
+use Rattle.read_dir.specs.declared.Placed.{Placed}
 use Rattle.read_dir.specs.Walk.{Walk}
 use Rattle.read_dir.specs.Finds.{placed}
 use Rattle.thm_walk.specs.Shown.{items_of, walk_of, spot_of}
 use Rattle.handle.specs.declared.Handle.{Handle}
 use Rattle.handle.specs.Handles.{name_of, current, current_in}
+
+-- ---- what a walk gives
+
+abbrev pub Found : Type 0
+Found = Result (Option Placed) Damage
+
+abbrev pub found_at : DirEntry → Place → Found
+found_at e p = Ok (Some (record { entry = e; place = p }))
 
 -- ---- tests
 
@@ -88,23 +100,23 @@ module _ {X : Type 0} (v : View X) (h : Handle) where
   -- ---- a directory whose entry of that name is the handle's
 
   items_here : (a : ℕ) (es : List (Entry X)) (o : ℕ) (w : Walk) (e : Entry X) → first (called (name_of h)) es ≡ some e → own e ≡ true
-      → current_in h (items_of v a o es w) ≡ found.At (head_of v e) (placed a (o + offset (name_of h) es))
+      → current_in h (items_of v a o es w) ≡ found_at (head_of v e) (placed a (o + offset (name_of h) es))
   unfolding first items_of current_in offset
   items_here a [] o w e f c = absurd (not_some refl f)
   items_here a (x ∷ es) o w e f c = go (either (called (name_of h) x)) (items_here a es (o + weight x) w e)
     where
       go : (called (name_of h) x ≡ true) ⊎ (called (name_of h) x ≡ false)
-          → (first (called (name_of h)) es ≡ some e → own e ≡ true → current_in h (items_of v a (o + weight x) es w) ≡ found.At (head_of v e) (placed a (o + weight x + offset (name_of h) es)))
-          → current_in h (items_of v a o (x ∷ es) w) ≡ found.At (head_of v e) (placed a (o + offset (name_of h) (x ∷ es)))
+          → (first (called (name_of h)) es ≡ some e → own e ≡ true → current_in h (items_of v a (o + weight x) es w) ≡ found_at (head_of v e) (placed a (o + weight x + offset (name_of h) es)))
+          → current_in h (items_of v a o (x ∷ es) w) ≡ found_at (head_of v e) (placed a (o + offset (name_of h) (x ∷ es)))
       go (inl q) r =
           let both : some x ≡ some e = sym (first_here (called (name_of h)) x es q) ∙ f in
           let k : x ≡ e = cc in
           let z : o ≡ o + offset (name_of h) (x ∷ es) = sym (ap (λ (j : ℕ). o + j) (pick_true 0 (weight x + offset (name_of h) es) q) ∙ add-zero o) in
-          pick_true _ _ (ap own k ∙ c) ∙ λ i. found.At (head_of v (k i)) (placed a (z i))
+          pick_true _ _ (ap own k ∙ c) ∙ λ i. found_at (head_of v (k i)) (placed a (z i))
       go (inr q) r =
           let z : o + weight x + offset (name_of h) es ≡ o + offset (name_of h) (x ∷ es)
           = add_assoc o (weight x) (offset (name_of h) es) ∙ sym (ap (λ (j : ℕ). o + j) (pick_false 0 (weight x + offset (name_of h) es) q)) in
-          pick_false _ _ (not_own x q) ∙ r (sym (first_there (called (name_of h)) x es q) ∙ f) c ∙ λ i. found.At (head_of v e) (placed a (z i))
+          pick_false _ _ (not_own x q) ∙ r (sym (first_there (called (name_of h)) x es q) ∙ f) c ∙ λ i. found_at (head_of v e) (placed a (z i))
 
   items_there : (a : ℕ) (es : List (Entry X)) (o : ℕ) (w : Walk) → any own es ≡ false → current_in h (items_of v a o es w) ≡ current_in h w
   unfolding items_of current_in
@@ -112,21 +124,21 @@ module _ {X : Type 0} (v : View X) (h : Handle) where
   items_there a (x ∷ es) o w e = pick_false _ _ (none_head own x es e) ∙ items_there a es (o + weight x) w (none_tail own x es e)
 
   -- It is found, at its place.
-  pub walk-current : (bs : List (Block X)) (e : Entry X) → lookup (name_of h) bs ≡ some e → own e ≡ true → current_in h (walk_of v bs) ≡ found.At (head_of v e) (spot_of (name_of h) bs)
+  pub walk-current : (bs : List (Block X)) (e : Entry X) → lookup (name_of h) bs ≡ some e → own e ≡ true → current_in h (walk_of v bs) ≡ found_at (head_of v e) (spot_of (name_of h) bs)
   unfolding lookup first then walk_of spot_of
   walk-current [] e l c = absurd (not_some refl l)
   walk-current (b ∷ bs) e l c = go (either (holds (name_of h) b)) (walk-current bs e)
     where
       go : (holds (name_of h) b ≡ true) ⊎ (holds (name_of h) b ≡ false)
-          → (lookup (name_of h) bs ≡ some e → own e ≡ true → current_in h (walk_of v bs) ≡ found.At (head_of v e) (spot_of (name_of h) bs))
-          → current_in h (walk_of v (b ∷ bs)) ≡ found.At (head_of v e) (spot_of (name_of h) (b ∷ bs))
+          → (lookup (name_of h) bs ≡ some e → own e ≡ true → current_in h (walk_of v bs) ≡ found_at (head_of v e) (spot_of (name_of h) bs))
+          → current_in h (walk_of v (b ∷ bs)) ≡ found_at (head_of v e) (spot_of (name_of h) (b ∷ bs))
       go (inl q) r =
           items_here b.at b.entries 0 (walk_of v bs) e (sym (lookup_here (name_of h) b bs q) ∙ l) c
-          ∙ ap (λ (j : ℕ). found.At (head_of v e) (placed b.at j)) (zero-add (offset (name_of h) b.entries))
-          ∙ ap (found.At (head_of v e)) (sym (pick_true (placed b.at (offset (name_of h) b.entries)) (spot_of (name_of h) bs) q))
+          ∙ ap (λ (j : ℕ). found_at (head_of v e) (placed b.at j)) (zero-add (offset (name_of h) b.entries))
+          ∙ ap (found_at (head_of v e)) (sym (pick_true (placed b.at (offset (name_of h) b.entries)) (spot_of (name_of h) bs) q))
       go (inr q) r =
           items_there b.at b.entries 0 (walk_of v bs) (none_own b.entries (unfold holds in q)) ∙ r (sym (lookup_there (name_of h) b bs q) ∙ l) c
-          ∙ ap (found.At (head_of v e)) (sym (pick_false (placed b.at (offset (name_of h) b.entries)) (spot_of (name_of h) bs) q))
+          ∙ ap (found_at (head_of v e)) (sym (pick_false (placed b.at (offset (name_of h) b.entries)) (spot_of (name_of h) bs) q))
 
   -- ---- a directory where it is not
 
@@ -151,7 +163,7 @@ module _ {X : Type 0} (v : View X) (h : Handle) where
           any_there own x es (f x (first_here (called (name_of h)) x es q)) ∙ unnamed_own es (omega (arith, pick_true {A = ℕ} 1 0 q))
       go (inr q) r = any_there own x es (not_own x q) ∙ r (omega arith) (λ e k. f e (first_there (called (name_of h)) x es q ∙ k))
 
-  walk_free : (bs : List (Block X)) → any own (entries_of bs) ≡ false → current_in h (walk_of v bs) ≡ found.Missing
+  walk_free : (bs : List (Block X)) → any own (entries_of bs) ≡ false → current_in h (walk_of v bs) ≡ Ok None
   unfolding walk_of entries_of current_in
   walk_free [] e = refl
   walk_free (b ∷ bs) e =
@@ -160,6 +172,6 @@ module _ {X : Type 0} (v : View X) (h : Handle) where
 
   -- It is missing.
   pub walk-missing : (bs : List (Block X)) → ((m : Name) → named_in m bs ≤ 1) → ((e : Entry X) → lookup (name_of h) bs ≡ some e → own e ≡ false)
-      → current_in h (walk_of v bs) ≡ found.Missing
+      → current_in h (walk_of v bs) ≡ Ok None
   walk-missing bs d f =
       walk_free bs (first_own (entries_of bs) (omega (arith, d (name_of h), named_entries (name_of h) bs)) (λ e k. f e (lookup_entries (name_of h) bs ∙ k)))

@@ -1,123 +1,89 @@
 -- How code finds the entry of a handle along its directory: one law for each answer.
-use mathlib.Core.Path.{◌≡◌, refl, sym, ap, ◌∙◌, subst}
+use mathlib.Core.Path.{◌≡◌, sym, ap, ◌∙◌}
 use mathlib.Core.Bool.{Bool, true, false, ◌&&◌}
 use mathlib.Core.Logic.{◌⊎◌, inl, inr}
 use mathlib.Core.List.{List}
-use Prim.Native.Nat.{ℕ, ◌+◌, ◌-◌, ◌*◌, ◌≤◌, ◌<◌}
-use native.Mathlib.Omega.{arith}
+use Prim.Native.Nat.{ℕ, ◌+◌, ◌≤◌}
 use lib.Dec.{eqb}
 use lib.ListN.{length}
-use borrow.Author.Tests.{eqb-true, eq-eqb, ne_eqb}
+use borrow.Author.Tests.{eqb-true, eq-eqb}
 use Rattle.wire.specs.Be.{be}
 use Rattle.wire.specs.Pick.{same}
 use Rattle.wire.proofs.Picks.{either, not_both, and_both, both_and, same_eq, pick_true, pick_false}
-use Rattle.block.specs.Block.{Area, BlockSize}
+use Rattle.block.specs.Block.{Area}
 use Rattle.dir_entry.specs.declared.DirEntry.{DirEntry}
-use Rattle.dir_entry.specs.Entry.{is_file, entry_at, place_at, name_at, slot_at}
-use Rattle.read_dir.specs.declared.Found.TheVariants as found
-use Rattle.read_dir.specs.declared.Place.{Place}
+use Rattle.dir_entry.specs.Entry.{is_file, entry_at, place_at, name_at}
+use Rattle.std.specs.Prelude.{Option, Some, None, Result, Ok, Err}
+use Rattle.limits.specs.declared.Damage.{Damage}
+use Rattle.read_dir.specs.declared.Placed.{Placed}
 use Rattle.read_dir.specs.declared.ReadDir.{ReadDir}
-use Rattle.read_dir.specs.declared.Step.{Step}
-use Rattle.read_dir.specs.declared.Step.TheVariants as step
 use Rattle.read_dir.specs.Walk.{walk}
-use Rattle.read_dir.specs.Cursor.{start, cursor_walk, on_step, Stepped, at_offset, len_of, Passed}
-use Rattle.super_block.specs.declared.SuperBlock.{SuperBlock}
-use Rattle.super_block.specs.Super.{area_in, Fit}
-use Rattle.super_block.proofs.Fits.{fit_inside}
-use Rattle.read_dir.proofs.Names.{length_name}
-use Rattle.read_dir.proofs.Passes.{len_ends, pass_none, pass_more}
+use Rattle.read_dir.specs.Cursor.{start, cursor_walk, on_step, Stepped, Over, Passed}
+use Rattle.read_dir.proofs.Passes.{over_passed}
 use Rattle.read_dir.proofs.Along.{start-walk}
 use Rattle.handle.specs.declared.Handle.{Handle}
 use Rattle.handle.specs.Handles.{name_of, current, current_in}
-use Rattle.handle.specs.Passing.{PassedUnlike}
 use Rattle.handle.proofs.Handles.{name_long}
 
 -- ---- entries that are not the handle's, by their length or their address
-
-pub alike_length : (n l b a : ℕ) → (n ≡ l → ⊥) → false ≡ (eqb n l && eqb b a)
-alike_length n l b a z = sym (rw (ne_eqb _ _ z))
-
-pub alike_addr : (n l b b' a : ℕ) (t : Bool) → n ≡ l → b ≡ b' → t ≡ eqb b a → t ≡ (eqb n l && eqb b' a)
-alike_addr n l b b' a t z e q = rw (eq-eqb _ _ z) (q ∙ ap (λ (k : ℕ). eqb k a) e)
 
 addr_at : (I : List ℕ) (at : ℕ) (e : DirEntry) → e ≡ entry_at I at → e.addr.0 ≡ be 4 I (at + 1)
 unfolding entry_at
 addr_at I at e u = ap (λ (d : DirEntry). d.addr.0) u
 
--- n is the length of an entry's name, b its address
-not_alike : (n l b a : ℕ) → (eqb n l && eqb b a) ≡ false → (n ≡ l) × (b ≡ a) → ⊥
-not_alike n l b a t p = not_both (both_and (eq-eqb _ _ p.0) (eq-eqb _ _ p.1)) t
-
-pub unlike_none : (A : Area) (I : List ℕ) (l a : ℕ) (c : ReadDir) → PassedUnlike A I l a c c
-unlike_none A I l a c = record { all = λ f v. pass_none A I f c }
-
-pub unlike_at : (A : Area) (I : List ℕ) (l a : ℕ) (c d : ReadDir) (o : ℕ) → d ≡ at_offset c o
-    → PassedUnlike A I l a c (at_offset c o) → PassedUnlike A I l a c d
-unlike_at A I l a c d o e p = subst (PassedUnlike A I l a c) (sym e) p
-
--- over one more, whose n and address code compared at its byte
-pub unlike_again : (s : SuperBlock) (I : List ℕ) (l a : ℕ) (c : ReadDir) (o n at : ℕ) (t : Bool) → Fit s I
-    → PassedUnlike (area_in s) I l a c (at_offset c o) → s.area.0 ≤ c.block.0 → c.block.0 < s.blocks
-    → n ≡ len_of (slot_at s.size I c.block.0 o) → (n ≡ 0 → ⊥) → at ≡ place_at s.size c.block.0 o
-    → t ≡ (eqb n l && eqb (be 4 I (at + 1)) a) → t ≡ false → PassedUnlike (area_in s) I l a c (at_offset c (o + 18 + n))
-unlike_again s I l a c o n at t f p u v r z i y k =
-    let d : s.size * c.block.0 + s.size ≤ length I = fit_inside s I I c.block.0 c.block.0 f refl refl v in
-    let b : o + 18 + n ≤ s.size - 5 = len_ends s.size I c.block.0 o n r z in
-    let j : length (name_at I (place_at s.size c.block.0 o) n) ≡ n
-    = length_name I (place_at s.size c.block.0 o) n (omega arith) in
-    record {
-      all = λ g q.
-          pass_more (area_in s) I g c o n (p.all g q) u v r z
-          (λ e x w w₁ m. q e c.block.0 o x w
-          (λ h. not_alike n l (be 4 I (at + 1)) a (sym y ∙ k)
-          (sym (ap length m ∙ j) ∙ h.0, sym (addr_at I at e (w₁ ∙ ap (entry_at I) (sym i))) ∙ h.1)));
-    }
+-- what code asks of an entry before it looks at the rest
+abbrev alike : Handle → List ℕ → ℕ → ℕ → Bool
+alike h I at n = eqb (length (name_at I at n)) h.len && eqb (be 4 I (at + 1)) h.addr.0
 
 -- an entry that is the handle's has its length and its address
-pub unlike_own : (A : Area) (I : List ℕ) (h : Handle) (c d : ReadDir) → h.len ≤ 255 → length h.name ≡ 255
-    → PassedUnlike A I h.len h.addr.0 c d → Passed A I (current_in h) c d
-unfolding current_in current
-unlike_own A I h c d l q p = p.all (current_in h) (λ e b o x w z. pick_false _ _ (go e x z (either (current h e x))))
+own_alike : (h : Handle) (I : List ℕ) (at n : ℕ) (e : DirEntry) (x : List ℕ) → h.len ≤ 255 → length h.name ≡ 255 → e ≡ entry_at I at → x ≡ name_at I at n
+    → false ≡ alike h I at n → current h e x ≡ false
+unfolding current
+own_alike h I at n e x l q u m z = go (either (current h e x))
   where
-    go : (e : DirEntry) (x : List ℕ) → ((length x ≡ h.len) × (e.addr.0 ≡ h.addr.0) → ⊥)
-        → (current h e x ≡ true) ⊎ (current h e x ≡ false) → current h e x ≡ false
-    go e x z (inr t) = t
-    go e x z (inl t) =
+    go : (current h e x ≡ true) ⊎ (current h e x ≡ false) → current h e x ≡ false
+    go (inr t) = t
+    go (inl t) =
         let y = and_both (is_file e.kind && same x (name_of h)) (eqb e.addr.0 h.addr.0 && eqb e.size h.size) t in
-        let u : x ≡ name_of h = same_eq x (name_of h) (and_both (is_file e.kind) (same x (name_of h)) y.0).1 in
-        let v = (and_both (eqb e.addr.0 h.addr.0) (eqb e.size h.size) y.1).0 in
-        absurd (z (ap length u ∙ sym (name_long h l q), eqb-true _ _ v))
+        let v : x ≡ name_of h = same_eq x (name_of h) (and_both (is_file e.kind) (same x (name_of h)) y.0).1 in
+        let w : length (name_at I at n) ≡ h.len = ap length (sym m ∙ v) ∙ sym (name_long h l q) in
+        let a : be 4 I (at + 1) ≡ h.addr.0 = sym (addr_at I at e u) ∙ eqb-true _ _ (and_both (eqb e.addr.0 h.addr.0) (eqb e.size h.size) y.1).0 in
+        absurd (not_both (both_and (eq-eqb _ _ w) (eq-eqb _ _ a)) (sym z))
 
-pub fit_size : (s : SuperBlock) (I : List ℕ) → Fit s I → BlockSize s.size
-fit_size s I f = f.known
+pub over_alike : (A : Area) (I : List ℕ) (h : Handle) (P Q : ℕ → ℕ → Type 0) (c d : ReadDir) → Over A I P Q c d → h.len ≤ 255 → length h.name ≡ 255
+    → ((o n : ℕ) → P o n → false ≡ alike h I (place_at A.size c.block.0 o) n) → Passed A I (current_in h) c d
+unfolding current_in
+over_alike A I h P Q c d v l q t =
+    over_passed A I (current_in h) P Q c
+    (λ o n e x w p u m. pick_false _ _ (own_alike h I (place_at A.size c.block.0 o) n e x l q u m (t o n p))) d v
 
 -- ---- along the directory
 
--- c is the cursor past entries that are not the handle's, m what its step gave, and what is found from c₁ on, where it was
--- before them, is what is found from c₀ on
-module _ (A : Area) (I : List ℕ) (h : Handle) (c₀ c₁ c : ReadDir) (m : Step) (w : Stepped A I c m)
+-- The step m from c to d is made past entries that are not the handle's, which were passed over from c₁ on. What is found from
+-- c₁ on is what is found from c₀ on.
+module _ (A : Area) (I : List ℕ) (h : Handle) (c₀ c₁ c d : ReadDir) (m : Result (Option Placed) Damage) (w : Stepped A I c d m)
     (v : Passed A I (current_in h) c₁ c) (inv : current_in h (cursor_walk A I c₁) ≡ current_in h (cursor_walk A I c₀)) where
-  finds : (x : Step) → m ≡ x → current_in h (cursor_walk A I c₀) ≡ current_in h (on_step A I x)
-  finds x g = sym inv ∙ sym v.says ∙ ap (current_in h) (w.walked ∙ ap (on_step A I) g)
+  finds : (x : Result (Option Placed) Damage) → m ≡ x → current_in h (cursor_walk A I c₀) ≡ current_in h (on_step A I d x)
+  finds x g = sym inv ∙ sym v.says ∙ ap (current_in h) (w.walked ∙ ap (on_step A I d) g)
 
-  pub entry_again : (e : DirEntry) (p : Place) (d : ReadDir) (t : Bool) → m ≡ step.Entry e p d
-      → t ≡ current h e (name_at I (place_at A.size p.block.0 p.offset) e.len) → t ≡ false → current_in h (cursor_walk A I d) ≡ current_in h (cursor_walk A I c₀)
+  pub entry_again : (y : Placed) (t : Bool) → m ≡ Ok (Some y)
+      → t ≡ current h y.entry (name_at I (place_at A.size y.place.block.0 y.place.offset) y.entry.len) → t ≡ false → current_in h (cursor_walk A I d) ≡ current_in h (cursor_walk A I c₀)
   unfolding current_in
-  entry_again e p d t g q k = sym (finds (step.Entry e p d) g ∙ pick_false _ _ (sym q ∙ k))
+  entry_again y t g q k = sym (finds (Ok (Some y)) g ∙ pick_false _ _ (sym q ∙ k))
 
   module _ (b : c₀ ≡ start A h.dir) where
     whole : current_in h (cursor_walk A I c₀) ≡ current_in h (walk A I h.dir.0)
     whole = ap (current_in h) (start-walk A I c₀ h.dir b)
 
-    pub entry_hit : (e : DirEntry) (p : Place) (d : ReadDir) (t : Bool) → m ≡ step.Entry e p d
-        → t ≡ current h e (name_at I (place_at A.size p.block.0 p.offset) e.len) → t ≡ true → found.At e p ≡ current_in h (walk A I h.dir.0)
+    pub entry_hit : (y : Placed) (t : Bool) → m ≡ Ok (Some y)
+        → t ≡ current h y.entry (name_at I (place_at A.size y.place.block.0 y.place.offset) y.entry.len) → t ≡ true → Ok (Some y) ≡ current_in h (walk A I h.dir.0)
     unfolding current_in
-    entry_hit e p d t g q k = sym (pick_true _ _ (sym q ∙ k)) ∙ sym (finds (step.Entry e p d) g) ∙ whole
+    entry_hit y t g q k = sym (pick_true _ _ (sym q ∙ k)) ∙ sym (finds (Ok (Some y)) g) ∙ whole
 
-    pub entry_none : m ≡ step.End → found.Missing ≡ current_in h (walk A I h.dir.0)
+    pub entry_none : m ≡ Ok None → Ok None ≡ current_in h (walk A I h.dir.0)
     unfolding current_in
-    entry_none g = sym (finds step.End g) ∙ whole
+    entry_none g = sym (finds (Ok None) g) ∙ whole
 
-    pub entry_bad : m ≡ step.Damaged → found.Damaged ≡ current_in h (walk A I h.dir.0)
+    pub entry_bad : (e : Damage) → m ≡ Err e → Err e ≡ current_in h (walk A I h.dir.0)
     unfolding current_in
-    entry_bad g = sym (finds step.Damaged g) ∙ whole
+    entry_bad e g = sym (finds (Err e) g) ∙ whole

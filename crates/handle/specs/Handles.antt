@@ -1,5 +1,30 @@
 -- Handles on any image: their own fields, where a seek goes, and the entry of a handle in its directory. Definitions alone.
-use Rattle.std.specs.Prelude.{Bool, false, not, ◌||◌, ◌&&◌, List, [], ◌∷◌, ℕ, ltb, leb, eqb, ℤ, pos, negsuc, ◌+ℤ◌, length, take}
+use Rattle.std.specs.Prelude.{
+  Bool,
+  false,
+  not,
+  ◌||◌,
+  ◌&&◌,
+  List,
+  [],
+  ◌∷◌,
+  ℕ,
+  ltb,
+  leb,
+  eqb,
+  ℤ,
+  pos,
+  negsuc,
+  ◌+ℤ◌,
+  length,
+  take,
+  Option,
+  Some,
+  None,
+  Result,
+  Ok,
+  Err,
+}
 use Rattle.wire.specs.Pick.{pick, same}
 use Rattle.block.specs.declared.Addr.{Addr}
 use Rattle.model.specs.Answers.{when, first_of}
@@ -11,8 +36,9 @@ use Rattle.read_dir.specs.Walk.{Walk, item, finished, damaged}
 use Rattle.handle.specs.declared.Handle.{Handle}
 use Rattle.handle.specs.declared.SeekFrom.{SeekFrom}
 use Rattle.handle.specs.declared.SeekFrom.TheVariants.{Start, Current, End}
-use Rattle.read_dir.specs.declared.Found.{Found}
-use Rattle.read_dir.specs.declared.Found.TheVariants as found
+use Rattle.limits.specs.Says.{damage}
+use Rattle.limits.specs.declared.Damage.{Damage}
+use Rattle.read_dir.specs.declared.Placed.{Placed}
 use Rattle.read_dir.specs.Finds.{placed}
 
 -- H1: the name is the first len bytes of an array.
@@ -64,7 +90,7 @@ held_in h finished = 11
 held_in h damaged = 17
 
 -- H3: the entry of a handle in a walk
-unfoldable pub current_in : Handle → Walk → Found
-current_in h (item e a o x w) = pick (current h e x) (found.At e (placed a o)) (current_in h w)
-current_in h finished = found.Missing
-current_in h damaged = found.Damaged
+unfoldable pub current_in : Handle → Walk → Result (Option Placed) Damage
+current_in h (item e a o x w) = pick (current h e x) (Ok (Some (record { entry = e; place = placed a o }))) (current_in h w)
+current_in h finished = Ok None
+current_in h damaged = Err damage

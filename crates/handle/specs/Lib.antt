@@ -1,4 +1,3 @@
 pub mod Handles
-pub mod Passing
 pub mod Post
 pub mod OnTree

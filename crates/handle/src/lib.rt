@@ -1,27 +1,26 @@
 // The handle of a file: its own fields, seeking, and its entry in the directory that holds it.
-// A handle goes in by value and comes back advanced; a refusal hands back the very handle that was given.
+// A seek takes a handle by value and hands it back moved; a refusal hands back the very handle that was given.
 #![tactic(auto)]
 
-ghost use Rattle.std.specs.Prelude.{◌≡◌, true, false, ◌&&◌, ◌+◌, ◌-◌, ◌*◌, ◌≤◌, ◌<◌, eqb, length};
+ghost use Rattle.std.specs.Prelude.{◌≡◌, ◌&&◌, ◌+◌, ◌-◌, ◌*◌, ◌≤◌, ◌<◌, eqb, length};
+ghost use Rattle.std.specs.Bool.{then_some};
 ghost use Rattle.wire.specs.Be.{be};
-ghost use Rattle.wire.specs.Pick.{same};
-ghost use Rattle.block.specs.Block.{BlockSize};
-ghost use Rattle.dir_entry.specs.Entry.{is_file, header, place_at, name_at};
+ghost use Rattle.dir_entry.specs.Entry.{header, place_at, name_at};
 ghost use Rattle.model.specs.Render.{padded};
-ghost use Rattle.super_block.specs.Super.{area_in, Fit};
+ghost use Rattle.super_block.specs.Super.{area_in};
 ghost use Rattle.read_dir.specs.Walk.{walk};
 ghost use Rattle.read_dir.specs.Cursor.{Passed};
-ghost use Rattle.handle.specs.Handles.{name_of, new_handle, stale_fields, moved, target, within, place_in, current, held_in, current_in};
-ghost use Rattle.handle.specs.Passing.{PassedUnlike};
-ghost use Rattle.handle.specs.Post.{answer_number, SoughtIs, handle_refusal};
+ghost use Rattle.handle.specs.Handles.{new_handle, stale_fields, moved, target, within, place_in, current, current_in};
+ghost use Rattle.handle.specs.Post.{answer_number, AimedIs, SoughtIs, handle_refusal};
 
 use block::Addr;
-use dir_entry::{DirEntry, Kind};
-use limits::{Answer, Refusal};
-use read_dir::{Found, Place, ReadDir, Step};
-use super_block::SuperBlock;
+use dir_entry::{Kind, Name};
+use limits::{Damage, Refusal};
+use read_dir::{Placed, ReadDir};
+use super_block::Volume;
 
-// What an open file is known by. The name stands in the first len bytes.
+// What an open file is known by. The name stands in the first len bytes: an array and a length, as C keeps them, so that a wrong
+// length can be told (H2), and a clause where it must be right.
 #[derive(Clone, Copy)]
 pub struct Handle {
     pub dir: Addr,
@@ -40,114 +39,45 @@ pub enum SeekFrom {
     End(i32),
 }
 
-// What a seek gives: its answer, and the handle after it.
+// What a seek gives: its answer, and the handle after it. A struct and no Result: by H6 a refused call hands back a handle too.
 #[derive(Clone, Copy)]
 pub struct Sought {
-    pub answer: Answer,
+    pub answer: Result<(), Refusal>,
     pub handle: Handle,
 }
 
-// How many bytes were read or written.
-#[derive(Clone, Copy)]
-pub enum Counted {
-    Bytes(usize),
-    Refused(Refusal),
-}
-
-// What a read or a write gives: its answer, and the handle after it.
+// What a read or a write gives: how many bytes, and the handle after it, which by H6 a refused call hands back too.
 #[derive(Clone, Copy)]
 pub struct CountedOut {
-    pub answer: Counted,
+    pub answer: Result<usize, Refusal>,
     pub handle: Handle,
 }
 
-// Whether a target lies in a file of that size.
-fn inside(size: u32, to: i64) -> bool
-    ensures { result ≡ within size to }
+// The position of a target, where it lies in a file of that size.
+fn position(size: u32, to: i64) -> Option<u32>
+    ensures { result ≡ then_some (within size to) (place_in to) }
 {
-    if to < 0 {
-        return false;
-    }
-    to <= (size as i64)
+    u32::try_from(to).ok().filter(|p| *p <= size)
 }
 
-// The position of a target that lies in a file.
-fn position(size: u32, to: i64) -> u32
-    requires { within size to ≡ true }
-    ensures { result ≡ place_in to }
-{
-    to as u32
-}
-
-// Whether it is the kind of a file.
-fn is_file(k: Kind) -> bool
-    ensures { result ≡ is_file k }
-{
-    match k {
-        Kind::File => true,
-        Kind::Dir => false,
-        Kind::Device => false,
-    }
-}
-
-// A name of at most 255 bytes, in an array of its own.
-pub fn name_array(name: &[u8]) -> [u8; 255]
-    requires { length name.now ≤ 255 }
-    ensures { result ≡ padded 255 name.now }
+// A name in an array of its own.
+pub fn name_array(name: Name) -> [u8; 255]
+    ensures { result ≡ padded 255 name.entry.bytes.now }
 {
     let mut all = [0u8; 255];
-    wire::copy(&mut all, 0, name, 0, name.len());
+    all[..name.bytes.len()].copy_from_slice(name.bytes);
     all
-}
-
-// Whether an entry can be a handle's by the length of its name, n, and its address: all that is read of most others.
-fn alike(img: &[u8], at: usize, n: usize, len: usize, own: Addr) -> bool
-    requires { at + header ≤ length img.now }
-    ensures { result ≡ (eqb n len && eqb (be 4 img.now (at + 1)) own.0) }
-{
-    if n != len {
-        return false;
-    }
-    wire::get32(img, at + 1) == own.0
-}
-
-// Over the entries in the cursor's block that have another length or another address.
-fn pass_unlike(img: &[u8], s: SuperBlock, c: ReadDir, len: usize, own: Addr) -> ReadDir
-    requires { Fit s img.now }
-    ensures { PassedUnlike (area_in s) img.now len own.0 c result }
-{
-    let b = c.block;
-    let d = s.area;
-    if b.0 < d.0 {
-        return c;
-    }
-    if s.blocks <= b.0 {
-        return c;
-    }
-    let mut o = c.offset;
-    loop {
-        let n = dir_lookup::entry_len(img, s.size, b, o);
-        if n == 0 {
-            return c.at(o);
-        }
-        if alike(img, dir_entry::place(s.size, b, o), n, len, own) {
-            return c.at(o);
-        }
-        o = o + DirEntry::HEADER + n;
-    }
 }
 
 impl Handle {
     // At position 0, on the file of that name in the directory at `dir`.
-    pub fn new(dir: Addr, name: &[u8], addr: Addr, size: u32) -> Handle
-        requires { length name.now ≤ 255 }
-        ensures { result ≡ new_handle dir name.now addr size }
+    pub fn new(dir: Addr, name: Name, addr: Addr, size: u32) -> Handle
+        ensures { result ≡ new_handle dir name.entry.bytes.now addr size }
     {
-        let all = name_array(name);
         Handle {
             dir,
-            name: all,
-            len: name.len(),
+            name: name_array(name),
+            len: name.bytes.len(),
             addr,
             size,
             position: 0,
@@ -158,16 +88,10 @@ impl Handle {
     pub fn stale(self) -> bool
         ensures { result ≡ stale_fields self }
     {
-        if self.size < self.position {
-            return true;
-        }
-        if limits::FILE_LIMIT < self.size {
-            return true;
-        }
-        if self.len == 0 {
-            return true;
-        }
-        255 < self.len
+        self.size < self.position
+            || limits::FILE_LIMIT < self.size
+            || self.len == 0
+            || 255 < self.len
     }
 
     // The handle at another position.
@@ -183,125 +107,101 @@ impl Handle {
         ensures { result ≡ target self from }
     {
         match from {
-            SeekFrom::Start(k) => k as i64,
-            SeekFrom::Current(i) => (self.position as i64) + (i as i64),
-            SeekFrom::End(i) => (self.size as i64) + (i as i64),
+            SeekFrom::Start(k) => i64::from(k),
+            SeekFrom::Current(i) => i64::from(self.position) + i64::from(i),
+            SeekFrom::End(i) => i64::from(self.size) + i64::from(i),
         }
+    }
+
+    // The position where a seek goes, or the first of 11 and 12 that refuses it.
+    fn aim(self, from: SeekFrom) -> Result<u32, Refusal>
+        ensures { AimedIs self from result }
+    {
+        if self.stale() {
+            return Err(Refusal::Stale);
+        }
+        position(self.size, self.reach(from)).ok_or(Refusal::BadSeek)
     }
 
     // Refused by 11 or 12, or the handle at its target.
     pub fn seek(self, from: SeekFrom) -> Sought
         ensures { SoughtIs self from result }
     {
-        if self.stale() {
-            return Sought {
-                answer: Answer::Refused(Refusal::Stale),
+        match self.aim(from) {
+            Ok(p) => Sought {
+                answer: Ok(()),
+                handle: self.at(p),
+            },
+            Err(r) => Sought {
+                answer: Err(r),
                 handle: self,
-            };
+            },
         }
-        let to = self.reach(from);
-        if !inside(self.size, to) {
-            return Sought {
-                answer: Answer::Refused(Refusal::BadSeek),
-                handle: self,
-            };
-        }
-        let p = position(self.size, to);
-        Sought {
-            answer: Answer::Success,
-            handle: self.at(p),
-        }
-    }
-
-    // Whether these bytes are the handle's name.
-    fn named(self, x: &[u8]) -> bool
-        requires { self.len ≤ 255 }
-        ensures { result ≡ same x.now (name_of self) }
-    {
-        let n = self.len;
-        if x.len() != n {
-            return false;
-        }
-        let name = self.name;
-        wire::same_bytes(x, 0, &name[..n])
     }
 
     // Whether an entry is the handle's: a file's, with its name, address and size.
-    fn current(self, img: &[u8], size: u32, e: DirEntry, p: Place) -> bool
+    fn current(self, v: Volume, x: Placed) -> bool
         requires len_bound { self.len ≤ 255 }
-        requires block_size { BlockSize size }
-        requires size_in_bounds { size * p.block.0 + size ≤ length img.now }
-        requires len_bound_2 { p.offset + header + e.len ≤ size - 5 }
-        ensures { result ≡ current self e (name_at img.now (place_at size p.block.0 p.offset) e.len) }
+        requires size_in_bounds { v.s.size * x.place.block.0 + v.s.size ≤ length v.img.now }
+        requires len_bound_2 { x.place.offset + header + x.entry.len ≤ v.s.size - 5 }
+        ensures { result ≡ current self x.entry
+            (name_at v.entry.img.now (place_at v.entry.s.size x.place.block.0 x.place.offset) x.entry.len) }
     {
-        let k = e.kind;
-        if !is_file(k) {
-            return false;
-        }
-        let a = e.addr;
-        let b = self.addr;
-        if a.0 != b.0 {
-            return false;
-        }
-        if e.size != self.size {
-            return false;
-        }
-        self.named(read_dir::name_of(img, size, e, p))
+        let e = x.entry;
+        matches!(e.kind, Kind::File)
+            && e.addr == self.addr
+            && e.size == self.size
+            && x.named(v, &self.name[..self.len])
+    }
+
+    // Whether the entry at an offset of a block can be the handle's by the length of its name, n, and its address: all that is
+    // read of most others.
+    fn alike(self, v: Volume, b: Addr, o: usize, n: usize) -> bool
+        requires size_in_bounds { v.s.size * b.0 + v.s.size ≤ length v.img.now }
+        requires n_bound { o + header + n ≤ v.s.size - 5 }
+        ensures { result ≡ (eqb (length (name_at v.entry.img.now (place_at v.entry.s.size b.0 o) n)) self.len
+            && eqb (be 4 v.entry.img.now (place_at v.entry.s.size b.0 o + 1)) self.addr.0) }
+    {
+        n == self.len && wire::get32(v.img, dir_entry::place(v.block(b), o) + 1) == self.addr.0
     }
 
     // Over the entries in the cursor's block that are not the handle's by their length or their address.
-    fn pass_others(self, img: &[u8], s: SuperBlock, c: ReadDir) -> ReadDir
-        requires fit { Fit s img.now }
-        requires len_bound { self.len ≤ 255 }
-        ensures { Passed (area_in s) img.now (current_in self) c result }
+    fn pass_others(self, v: Volume, c: ReadDir) -> ReadDir
+        requires { self.len ≤ 255 }
+        ensures { Passed (area_in v.entry.s) v.entry.img.now (current_in self) c result }
     {
-        let own = self.addr;
-        pass_unlike(img, s, c, self.len, own)
+        let b = c.block;
+        dir_lookup::pass(v, c, |o, n| self.alike(v, b, o, n))
     }
 
     // The handle's entry in its directory, with its place.
-    pub fn entry(self, img: &[u8], s: SuperBlock) -> Found
-        requires fit { Fit s img.now }
-        requires len_bound { self.len ≤ 255 }
-        ensures { result ≡ current_in self (walk (area_in s) img.now self.dir.0) }
+    pub fn entry(self, v: Volume) -> Result<Option<Placed>, Damage>
+        requires { self.len ≤ 255 }
+        ensures { result ≡ current_in self (walk (area_in v.entry.s) v.entry.img.now self.dir.0) }
     {
-        let dir = self.dir;
-        let mut c = ReadDir::new(s, dir);
+        let mut c = ReadDir::new(v, self.dir);
         loop {
-            match self.pass_others(img, s, c).next(img, s) {
-                Step::Entry(e, p, d) => {
-                    if self.current(img, s.size, e, p) {
-                        return Found::At(e, p);
-                    }
-                    c = d;
-                }
-                Step::End => return Found::Missing,
-                Step::Damaged => return Found::Damaged,
+            c = self.pass_others(v, c);
+            let Some(x) = c.next(v)? else {
+                return Ok(None);
+            };
+            if self.current(v, x) {
+                return Ok(Some(x));
             }
         }
     }
 
-    // Whether the handle's directory holds its entry: 11 where it ends without, 17 where it is damaged before.
-    fn held(self, img: &[u8], s: SuperBlock) -> Answer
-        requires fit { Fit s img.now }
-        requires len_bound { self.len ≤ 255 }
-        ensures { answer_number result ≡ held_in self (walk (area_in s) img.now self.dir.0) }
-    {
-        match self.entry(img, s) {
-            Found::At(_, _) => Answer::Success,
-            Found::Missing => Answer::Refused(Refusal::Stale),
-            Found::Damaged => Answer::Refused(Refusal::Damaged),
-        }
-    }
-
-    // Refusal 11 by the handle's own fields, then 11 or 17 by its directory.
-    pub fn check(self, img: &[u8], s: SuperBlock) -> Answer
-        requires { Fit s img.now }
-        ensures { answer_number result ≡ handle_refusal (area_in s) img.now self }
+    // Refusal 11 by the handle's own fields, then 11 where its directory ends without its entry, 17 where it is damaged before.
+    pub fn check(self, v: Volume) -> Result<(), Refusal>
+        ensures { answer_number result ≡ handle_refusal (area_in v.entry.s) v.entry.img.now self }
     {
         if self.stale() {
-            return Answer::Refused(Refusal::Stale);
+            return Err(Refusal::Stale);
         }
-        self.held(img, s)
+        let found = self.entry(v)?;
+        match found {
+            Some(_) => Ok(()),
+            None => Err(Refusal::Stale),
+        }
     }
 }

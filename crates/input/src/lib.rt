@@ -8,9 +8,9 @@ ghost use Rattle.std.specs.Io.KnownBytes.{Consumes, IsAtEnd};
 use std::io;
 use std::io::Read;
 
-// Reads until the buffer is full or the input ends; answers how many bytes were put at the buffer's start. They are those that the
-// input gave, and the input has no more where the buffer has room left. A read that fails, or is interrupted, is answered as its
-// error; what the input gave before that stands at the buffer's start.
+// Reads until the buffer is full or the input ends; answers how many bytes were put at the buffer's start. They are those that
+// the input gave, and the input has no more where the buffer has room left. A read that fails, or is interrupted, is answered as
+// its error; what the input gave before that stands at the buffer's start.
 pub fn read_full<R: Read>(input: &mut R, buf: &mut [u8]) -> io::Result<usize>
     ensures count { ReadsAtMost result buf.new }
     ensures bytes { IfOk result (λ n. Consumes (R.remaining input.old) (R.remaining input.new)

@@ -1,1 +1,4 @@
 pub mod Numbers
+pub mod Passed
+pub mod Exits
+pub mod Said

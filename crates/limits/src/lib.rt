@@ -31,56 +31,62 @@ pub fn run_of(capacity: usize, o: usize, k: usize) -> usize
     requires { o < capacity }
     ensures { result ≡ min k (capacity - o) }
 {
-    let room = capacity - o;
-    if k < room { k } else { room }
+    k.min(capacity - o)
 }
+
+// What a walk over an image meets where it leads out of the data area or never ends: refusal 17 of the call that walks.
+#[derive(Clone, Copy)]
+pub struct Damage;
 
 // Why a call is refused, in the order of the rules R.
 #[derive(Clone, Copy)]
 pub enum Refusal {
     // 1: the image is empty, no multiple of the block size, over the limit, or ends before the bitmap
-    BadImage,
+    BadImage = 1,
     // 2: block K does not begin as a superblock that is known
-    NotMfs,
+    NotMfs = 2,
     // 3: the block count
-    BadCount,
+    BadCount = 3,
     // 4: the path's length or a byte of it; a working directory that does not start with a slash
-    BadPath,
+    BadPath = 4,
     // 5
-    NotFound,
+    NotFound = 5,
     // 6: a part of the path is no directory, open is not on a file, list not on a directory
-    WrongKind,
+    WrongKind = 6,
     // 7
-    Exists,
+    Exists = 7,
     // 8: a create's last name is empty or over 255 bytes
-    BadName,
+    BadName = 8,
     // 9: too few blocks are free in reach
-    NoRoom,
+    NoRoom = 9,
     // 10: the file passes its limit
-    TooLarge,
+    TooLarge = 10,
     // 11: the handle is stale
-    Stale,
+    Stale = 11,
     // 12: the seek target is outside the file
-    BadSeek,
+    BadSeek = 12,
     // 13
-    EmptyWrite,
+    EmptyWrite = 13,
     // 14: it is a directory, and not empty
-    NotEmpty,
+    NotEmpty = 14,
     // 15: one level deeper than directories go
-    TooDeep,
+    TooDeep = 15,
     // 16: the work buffer is too short
-    ShortWork,
+    ShortWork = 16,
     // 17; the number 18 is not used
-    Damaged,
+    Damaged = 17,
     // 19: a patch would end past the file's size
-    PastEnd,
+    PastEnd = 19,
 }
 
-// The answer of a call that gives nothing back but a refusal.
-#[derive(Clone, Copy)]
-pub enum Answer {
-    Success,
-    Refused(Refusal),
+impl From<Damage> for Refusal {
+    ghost use Rattle.limits.specs.declared.Refusal.TheVariants as refusal;
+
+    ghost from_gives = { λ _ r. r ≡ refusal.Damaged };
+
+    fn from(_met: Damage) -> Refusal {
+        Refusal::Damaged
+    }
 }
 
 impl Refusal {
@@ -88,25 +94,6 @@ impl Refusal {
     pub fn number(self) -> u8
         ensures { result ≡ refusal_number self }
     {
-        match self {
-            Refusal::BadImage => 1,
-            Refusal::NotMfs => 2,
-            Refusal::BadCount => 3,
-            Refusal::BadPath => 4,
-            Refusal::NotFound => 5,
-            Refusal::WrongKind => 6,
-            Refusal::Exists => 7,
-            Refusal::BadName => 8,
-            Refusal::NoRoom => 9,
-            Refusal::TooLarge => 10,
-            Refusal::Stale => 11,
-            Refusal::BadSeek => 12,
-            Refusal::EmptyWrite => 13,
-            Refusal::NotEmpty => 14,
-            Refusal::TooDeep => 15,
-            Refusal::ShortWork => 16,
-            Refusal::Damaged => 17,
-            Refusal::PastEnd => 19,
-        }
+        self as u8
     }
 }

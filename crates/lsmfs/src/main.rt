@@ -7,31 +7,26 @@ use std::io::{Read, Write};
 
 const K: u32 = 8;
 
-// Writes the first n bytes.
-fn put<W: Write>(out: &mut W, text: &[u8], n: usize) -> io::Result<()> {
-    if n <= text.len() {
-        out.write_all(&text[..n])?;
-    }
-    Ok(())
-}
-
 // Writes what is to be said from entry number i on; answers the number after it.
 fn put_page<W: Write>(out: &mut W, img: &[u8], more: bool, i: u32) -> io::Result<u32> {
     let mut page = [0u8; 3072];
     let s = lsmfs_pages::say(img, K, more, i, &mut page);
-    put(out, &page, s.len)?;
+    if let Some(text) = page.get(..s.len) {
+        out.write_all(text)?;
+    }
     Ok(s.next)
 }
 
 // Page after page, while they go on.
 fn put_root<W: Write>(out: &mut W, img: &[u8], more: bool) -> io::Result<()> {
     let mut i: u32 = 0;
-    let mut next = put_page(out, img, more, 0)?;
-    while i < next {
+    loop {
+        let next = put_page(out, img, more, i)?;
+        if next <= i {
+            return Ok(());
+        }
         i = next;
-        next = put_page(out, img, more, i)?;
     }
-    Ok(())
 }
 
 // Whether the input goes on.
@@ -44,10 +39,7 @@ fn goes_on<R: Read>(input: &mut R) -> io::Result<bool> {
 // Reads an image into the buffer and writes what there is to say of it.
 fn run<R: Read, W: Write>(input: &mut R, out: &mut W, img: &mut [u8]) -> io::Result<()> {
     let n = input::read_full(input, img)?;
-    let mut more = false;
-    if n == img.len() {
-        more = goes_on(input)?;
-    }
+    let more = n == img.len() && goes_on(input)?;
     put_root(out, &img[..n], more)
 }
 

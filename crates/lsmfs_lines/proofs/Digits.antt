@@ -67,6 +67,10 @@ length_more n h = ap length (digits_more n h) ∙ length-append (digits (n / 10)
 pub digits-some : (n : ℕ) → 1 ≤ length (digits n)
 digits-some = by_tens (λ (n : ℕ). 1 ≤ length (digits n)) (λ n h. omega (arith, length_last n h)) (λ n h i. omega (arith, length_more n h))
 
+pow_some : (k : ℕ) → 1 ≤ 10 ^ k
+pow_some zero = omega arith
+pow_some (suc k) = rw pow-suc (omega (arith, pow_some k))
+
 digits_short : (k n : ℕ) → n < 10 ^ suc k → length (digits n) ≤ suc k
 digits_short zero n h = omega (arith, length_last n (omega arith))
 digits_short (suc k) n h = go (dec_lt n 10) (digits_short k (n / 10))
@@ -77,6 +81,17 @@ digits_short (suc k) n h = go (dec_lt n 10) (digits_short k (n / 10))
     go : Dec (n < 10) → (n / 10 < 10 ^ suc k → length (digits (n / 10)) ≤ suc k) → length (digits n) ≤ suc (suc k)
     go (yes q) i = omega (arith, length_last n q)
     go (no q) i = omega (arith, t, length_more n (omega arith), i (omega (arith, t)))
+
+-- no fewer than the power of ten below it has
+digits_long : (k n : ℕ) → 10 ^ k ≤ n → suc k ≤ length (digits n)
+digits_long zero n h = digits-some n
+digits_long (suc k) n h =
+    let t : 10 ^ k * 10 ≤ n = rw pow-suc at h in
+    omega (arith, length_more n (omega (arith, pow_some k)), digits_long k (n / 10) (omega (arith, t)))
+
+-- between two powers of ten
+pub digits_between : (k n : ℕ) → 10 ^ k ≤ n → n < 10 * 10 ^ k → length (digits n) ≡ suc k
+digits_between k n h q = omega (arith, digits_long k n h, digits_short k n (rw pow-suc (omega (arith, q))))
 
 -- any bound that its digits keep to gives the number, which then can be computed
 pub digits_within_lem : (k n : ℕ) → n < 10 ^ suc k → digits_within (suc k) n ≡ digits n

@@ -2,15 +2,16 @@
 use mathlib.Core.Path.{◌≡◌, refl, sym, ap, ◌∙◌}
 use mathlib.Core.List.{List, [], ◌∷◌, ◌++◌, append_assoc}
 use Prim.Native.Nat.{ℕ, ◌+◌, ◌-◌, ◌/◌, ◌%◌, ◌≤◌, ◌<◌}
+use native.Mathlib.Decide.{dec_lt}
 use native.Mathlib.Omega.{arith}
-use lib.ListN.{length, take, drop, set, length-append}
+use lib.ListN.{length, take, drop, set, length-append, length-set}
 use lib.Seq.{take-length}
 use Rattle.wire.specs.Be.{splice}
 use Rattle.wire.proofs.Numbers.{length-splice, splice-append, splice_comm, set-splice}
 use Rattle.dir_entry.specs.declared.Kind.{Kind}
 use Rattle.dir_entry.proofs.Heads.{splice-then}
 use Rattle.lsmfs_lines.specs.Line.{decimal, digits, space, newline, letter, ended, line_of, refused_word, refused_line}
-use Rattle.lsmfs_lines.proofs.Digits.{digits_last, digits_more, length_more}
+use Rattle.lsmfs_lines.proofs.Digits.{digits_last, digits_more, length_last, length_more, digits-some}
 
 -- a word, and then the byte that ends it
 pub length-ended : (w : List ℕ) (b : ℕ) → length (ended w b) ≡ length w + 1
@@ -24,7 +25,7 @@ ended_stored o o₁ at w b h e =
     set-splice o₁ (at + length w) b (omega arith) ∙ splice-then o o₁ at (at + length w) w (b ∷ []) e refl (omega arith)
 
 -- the last digit first: what is left to store is the digits of n / 10
-pub digit_stored : (o : List ℕ) (at n i : ℕ) → 10 ≤ n → i ≡ length (digits n) → at + i ≤ length o
+digit_stored : (o : List ℕ) (at n i : ℕ) → 10 ≤ n → i ≡ length (digits n) → at + i ≤ length o
     → splice (set o (at + (i - 1)) (decimal (n % 10))) at (digits (n / 10)) ≡ splice o at (digits n)
 digit_stored o at n i h e f =
     let l : length (digits n) ≡ length (digits (n / 10)) + 1 = length_more n h in
@@ -37,8 +38,56 @@ digit_stored o at n i h e f =
     ∙ splice-append d (b ∷ []) o at (omega arith)
     ∙ ap (splice o at) (sym (digits_more n h))
 
-pub first_stored : (o : List ℕ) (at n : ℕ) → n < 10 → at < length o → set o at (decimal n) ≡ splice o at (digits n)
+first_stored : (o : List ℕ) (at n : ℕ) → n < 10 → at < length o → set o at (decimal n) ≡ splice o at (digits n)
 first_stored o at n h f = set-splice o at (decimal n) f ∙ ap (splice o at) (sym (digits_last n h))
+
+-- r digits are still to be stored, those of `rest` where there are any
+pub record Left (o₀ o : List ℕ) (at n rest r : ℕ) : Type 0 where
+  pub same : length o ≡ length o₀
+  pub room : at + r ≤ length o₀
+  pub some : 0 < r → (r ≡ length (digits rest)) × (splice o at (digits rest) ≡ splice o₀ at (digits n))
+  pub none : r ≡ 0 → o ≡ splice o₀ at (digits n)
+
+pub left_all : (o : List ℕ) (at n k : ℕ) → k ≡ length (digits n) → at + k ≤ length o → Left o o at n n k
+left_all o at n k e h = record { same = refl; room = h; some = λ p. (e, refl); none = λ p. absurd (omega (arith, e, p, digits-some n)) }
+
+pub left_less : (o₀ o : List ℕ) (at n rest r j s : ℕ) → 0 < r → j ≡ at + (r - 1) → s ≡ r - 1 → Left o₀ o at n rest r
+    → Left o₀ (set o j (decimal (rest % 10))) at n (rest / 10) s
+left_less o₀ o at n rest r j s p e f l = go (dec_lt rest 10)
+  where
+    w : (r ≡ length (digits rest)) × (splice o at (digits rest) ≡ splice o₀ at (digits n))
+    w = l.some p
+
+    within : at + r ≤ length o
+    within = omega (arith, l.same, l.room)
+
+    kept : length (set o j (decimal (rest % 10))) ≡ length o₀
+    kept = simp length-set (omega (arith, l.same))
+
+    go : Dec (rest < 10) → Left o₀ (set o j (decimal (rest % 10))) at n (rest / 10) s
+    go (yes h) =
+        let q : r ≡ 1 = omega (arith, w.0, length_last rest h) in
+        let i : j ≡ at = omega (arith, e, q) in
+        let d : rest % 10 ≡ rest = omega (arith, h) in
+        record {
+          same = kept;
+          room = omega (arith, l.room, f);
+          some = λ t. absurd (omega (arith, t, f, q));
+          none =
+              λ t. ap (λ (m : ℕ). set o m (decimal (rest % 10))) i ∙ ap (λ (m : ℕ). set o at (decimal m)) d ∙ first_stored o at rest h (omega (arith, within, q)) ∙ w.1;
+        }
+    go (no h) =
+        let q : length (digits rest) ≡ length (digits (rest / 10)) + 1 = length_more rest (omega (arith, h)) in
+        record {
+          same = kept;
+          room = omega (arith, l.room, f);
+          some =
+              λ t. (
+                omega (arith, f, w.0, q),
+                ap (λ (m : ℕ). splice (set o m (decimal (rest % 10))) at (digits (rest / 10))) e ∙ digit_stored o at rest r (omega (arith, h)) w.0 within ∙ w.1,
+              );
+          none = λ t. absurd (omega (arith, t, f, w.0, q, digits-some (rest / 10)));
+        }
 
 -- code copies the whole word, and then stores the byte
 pub word_stored : (o o₁ : List ℕ) (at : ℕ) (w : List ℕ) (b : ℕ) → at + length w < length o → o₁ ≡ splice o at (take (length w) (drop 0 w))

@@ -11,7 +11,8 @@ abbrev pub next_at : List ℕ → ℕ → ℕ
 next_at l at = at + 14 + get_or l (at + 13) 0
 
 unfoldable pub line_at : List ℕ → ℕ → List ℕ
-line_at l at = line_of (kind_at (get_or l at 0)) (be 4 l (at + 1)) (be 8 l (at + 5)) (take (get_or l (at + 13) 0) (drop (at + 14) l))
+line_at l at =
+    line_of (kind_at (get_or l at 0)) (be 4 l (at + 1)) (be 8 l (at + 5)) (take (get_or l (at + 13) 0) (drop (at + 14) l))
 
 -- The lines of the records from byte `at` on, as far as there are whole ones. (The first number bounds them: each has a byte at
 -- least.)

@@ -9,10 +9,6 @@ ghost use Rattle.lsmfs_lines.specs.Text.{next_at, line_at, text_of};
 
 use dir_entry::Kind;
 
-const SPACE: u8 = 32;
-
-const NEWLINE: u8 = 10;
-
 // The fixed part of a listing's record: kind 1, size 4, time 8, length 1.
 const RECORD: usize = read_dir::RECORD;
 
@@ -30,60 +26,72 @@ fn digit(d: u64) -> u8
     requires { d < 10 }
     ensures { result ≡ decimal d }
 {
-    48 + d as u8
+    b'0' + d as u8
 }
 
 // How many digits a number has.
 fn width(n: u64) -> usize
     ensures { (result ≡ length (digits n)) × (result ≤ 20) }
 {
-    let mut rest = n;
-    let mut k: usize = 1;
-    while 10 <= rest {
-        rest = rest / 10;
-        k += 1;
+    match n.checked_ilog10() {
+        Some(k) => k as usize + 1,
+        None => 1,
     }
-    k
 }
 
-// Stores the k digits of a number, the last one first.
+// Stores the k digits of a number, the last one first. `write!` into a lent buffer ensures nothing of its bytes, and out_after of
+// `line` is about each.
 fn put_digits(out: &mut [u8], at: usize, n: u64, k: usize)
     requires k_value { k ≡ length (digits n) }
     requires k_in_bounds { at + k ≤ length out.old }
     ensures { out.new ≡ splice out.old at (digits n) }
 {
     let mut rest = n;
-    let mut i = k;
-    while 10 <= rest {
-        i -= 1;
-        out[at + i] = digit(rest % 10);
-        rest = rest / 10;
+    for i in 0..k {
+        out[at + (k - 1 - i)] = digit(rest % 10);
+        rest /= 10;
     }
-    out[at] = digit(rest);
 }
 
-// Stores a number and the byte that ends it; answers the place after them.
-fn put_number(out: &mut [u8], at: usize, n: u64, end: u8) -> usize
-    requires { at + length (digits n) < length out.old }
-    ensures { (out.new ≡ splice out.old at (ended (digits n) end))
-        × (result ≡ at + length (ended (digits n) end)) }
-{
-    let k = width(n);
-    put_digits(out, at, n, k);
-    out[at + k] = end;
-    at + k + 1
+// A buffer, and the place in it where the next word is stored.
+#[derive(Drop)]
+struct Pen<'a> {
+    out: &'a mut [u8],
+    at: usize,
 }
 
-// Stores a word and the byte that ends it; answers the place after them.
-fn put_word(out: &mut [u8], at: usize, word: &[u8], end: u8) -> usize
-    requires { at + length word.now < length out.old }
-    ensures { (out.new ≡ splice out.old at (ended word.now end))
-        × (result ≡ at + length (ended word.now end)) }
-{
-    let k = word.len();
-    wire::copy(out, at, word, 0, k);
-    out[at + k] = end;
-    at + k + 1
+impl Pen<'_> {
+    // Stores a number and the byte that ends it.
+    fn number(&mut self, n: u64, end: u8)
+        requires { self.old.at + length (digits n) < length self.old.out.now }
+        ensures same_reference { self.new.out.ghost_name ≡ self.old.out.ghost_name }
+        ensures room { length self.new.out.now ≡ length self.old.out.now }
+        ensures stored { (self.new.out.now ≡ splice self.old.out.now self.old.at (ended (digits n) end))
+            × (self.new.at ≡ self.old.at + length (ended (digits n) end)) }
+    {
+        let at = self.at;
+        let k = width(n);
+        let out = &mut *self.out;
+        put_digits(out, at, n, k);
+        out[at + k] = end;
+        self.at = at + k + 1;
+    }
+
+    // Stores a word and the byte that ends it.
+    fn word(&mut self, word: &[u8], end: u8)
+        requires { self.old.at + length word.now < length self.old.out.now }
+        ensures same_reference { self.new.out.ghost_name ≡ self.old.out.ghost_name }
+        ensures room { length self.new.out.now ≡ length self.old.out.now }
+        ensures stored { (self.new.out.now ≡ splice self.old.out.now self.old.at (ended word.now end))
+            × (self.new.at ≡ self.old.at + length (ended word.now end)) }
+    {
+        let at = self.at;
+        let k = word.len();
+        let out = &mut *self.out;
+        wire::copy(out, at, word, 0, k);
+        out[at + k] = end;
+        self.at = at + k + 1;
+    }
 }
 
 // Stores the line of an entry from `to` on; answers the place after it. Beside the name a line has 35 bytes at most.
@@ -94,10 +102,12 @@ pub fn line(out: &mut [u8], to: usize, kind: Kind, size: u32, time: u64, name: &
     ensures upper_bound { result ≤ to + 35 + length name.now }
 {
     let first = [letter(kind)];
-    let a = put_word(out, to, &first, SPACE);
-    let b = put_number(out, a, size as u64, SPACE);
-    let c = put_number(out, b, time, SPACE);
-    put_word(out, c, name, NEWLINE)
+    let mut pen = Pen { out, at: to };
+    pen.word(&first, b' ');
+    pen.number(u64::from(size), b' ');
+    pen.number(time, b' ');
+    pen.word(name, b'\n');
+    pen.at
 }
 
 // Stores the line of a refusal at the buffer's start; answers its length.
@@ -106,15 +116,10 @@ pub fn refused_line(out: &mut [u8], n: u32) -> usize
     ensures out_after { out.new ≡ splice out.old 0 (refused_line n) }
     ensures value { (result ≡ length (refused_line n)) × (result ≤ 19) }
 {
-    let a = put_word(out, 0, b"refused", SPACE);
-    put_number(out, a, n as u64, NEWLINE)
-}
-
-// A byte as a count, with its bound: what a cast in place would leave to the caller.
-fn wide(x: u8) -> usize
-    ensures { (result ≡ x) × (result < 256) }
-{
-    x as usize
+    let mut pen = Pen { out, at: 0 };
+    pen.word(b"refused", b' ');
+    pen.number(u64::from(n), b'\n');
+    pen.at
 }
 
 // Whether a whole record stands at a byte of a listing.
@@ -126,7 +131,7 @@ fn is_whole(records: &[u8], at: usize) -> bool
     if left < RECORD {
         return false;
     }
-    wide(records[at + 13]) <= left - RECORD
+    usize::from(records[at + 13]) <= left - RECORD
 }
 
 // Where the next record begins.
@@ -134,7 +139,7 @@ fn next(records: &[u8], at: usize) -> usize
     requires { next_at records.now at ≤ length records.now }
     ensures { result ≡ next_at records.now at }
 {
-    at + RECORD + wide(records[at + 13])
+    at + RECORD + usize::from(records[at + 13])
 }
 
 // Stores the line of a record from `to` on; answers the place after it.
@@ -145,7 +150,7 @@ fn record_line(out: &mut [u8], to: usize, records: &[u8], at: usize) -> usize
         × (result ≡ to + length (line_at records.now at)) }
     ensures upper_bound { result ≤ to + 3 * (14 + get_or records.now (at + 13) 0) }
 {
-    let kind = Kind::of(records[at]);
+    let kind = Kind::from(records[at]);
     let size = wire::get32(records, at + 1);
     let time = wire::get(records, at + 5, 8);
     let from = at + RECORD;

@@ -4,26 +4,18 @@ use Rattle.wire.specs.Be.{splice}
 use Rattle.model.specs.Geometry.{Mount}
 use Rattle.model.specs.Answers.{Reply, accepted, refused, first_of}
 use Rattle.model.specs.Volume.{WellFormed}
-use Rattle.limits.specs.Refusals.{refusal_number}
-use Rattle.call_read.specs.declared.Listing.{Listing}
-use Rattle.call_read.specs.declared.Listing.TheVariants as listing
 use Rattle.call_volume.specs.Checking.{check_call}
-use Rattle.call_read.specs.Reading.{Counts}
 use Rattle.lsmfs_lines.specs.Line.{refused_line}
 use Rattle.lsmfs_pages.specs.declared.Said.{Said}
 use Rattle.lsmfs_pages.specs.Page.{page_text, page_reply}
+use Rattle.read_dir.specs.declared.Listed.{Listed}
 
 -- A text at the buffer's start, whose rest stays; its length, and the number of the entry after it.
 abbrev pub Told : List ℕ → List ℕ → List ℕ → ℕ → Said → Type 0
 Told buf out text next s = (out ≡ splice buf 0 text) × (s.len ≡ length text) × (s.next ≡ next)
 
--- A page that stands in the buffer is left there; a refused one has its line.
-abbrev pub PageTold : List ℕ → List ℕ → ℕ → Listing → Said → Type 0
-PageTold buf out i (listing.Records n j) s = (out ≡ buf) × (s.len ≡ n) × (s.next ≡ j)
-PageTold buf out i (listing.Refused r) s = Told buf out (refused_line (refusal_number r)) i s
-
 -- What a page's answer makes the program write, where its text is that.
-abbrev pub OnPage : Reply Counts → List ℕ → List ℕ → List ℕ → ℕ → Said → Type 0
+abbrev pub OnPage : Reply Listed → List ℕ → List ℕ → List ℕ → ℕ → Said → Type 0
 OnPage (accepted c) buf out text i s = Told buf out text c.next s
 OnPage (refused n) buf out text i s = Told buf out (refused_line n) i s
 

@@ -27,7 +27,7 @@ use Rattle.model.proofs.Opens.{Marked, code_good, image_good, mark_good, open_2,
 use Rattle.dir_entry.specs.Entry.{head_bytes, slot_at, entry_at, kind_at}
 use Rattle.read_dir.specs.Walk.{on_slot, shown, entries_from, chain_from}
 use Rattle.read_dir.specs.Finds.{find_in, skip, list_from}
-use Rattle.text.specs.Text.{inside, begun, step, text_from}
+use Rattle.text.specs.Text.{in_range, begun, step, text_from}
 use Rattle.path.specs.Path.{dir_part, last_name, trimmed, untrailed, before_name, steps, split, unled, real_path, bad_path, starts_slash, ends_slash}
 use Rattle.dir.specs.Resolve.{resolve, entry_of}
 use Rattle.handle.specs.Handles.{seek_refusal, stale_fields, target}
@@ -142,13 +142,13 @@ opens_old_4106 = open_bad (numbered narrow 1 4106) (record { code = omega arith;
 
 lists_a : refusal_in (list_reply narrow volume_a [] path_a 0 0) ≡ 0
 unfolding list_reply list_on path_call open_refusal first_of when pick bad_code bad_image bad_mark bad_version bad_count version_at code_at count_at be map_blocks data_at super_bytes
-    padded bytes head_bytes same real_path bad_path text_from step begun inside starts_slash ends_slash given and_then steps split unled resolve
+    padded bytes head_bytes same real_path bad_path text_from step begun in_range starts_slash ends_slash given and_then steps split unled resolve
     find_in chain_from entries_from on_slot shown slot_at entry_at kind_at next skip list_from
 lists_a = refl
 
 opens_b : refusal_in (open_reply narrow volume_a [] path_b) ≡ 5
 unfolding open_reply open_on open_entry entry_of path_call open_refusal first_of when pick bad_code bad_image bad_mark bad_version bad_count version_at code_at count_at be map_blocks
-    data_at super_bytes padded bytes head_bytes same real_path bad_path text_from step begun inside starts_slash ends_slash given and_then dir_part
+    data_at super_bytes padded bytes head_bytes same real_path bad_path text_from step begun in_range starts_slash ends_slash given and_then dir_part
     last_name trimmed untrailed before_name steps split unled resolve find_in chain_from entries_from on_slot shown slot_at entry_at
     kind_at next
 opens_b = refl

@@ -115,7 +115,8 @@ marked_examples =
     -- E6: the bit set in four clear bytes
     ∷ (row 6 (with_bit (zeros 4) 0 (24 - 11) 1) (0 ∷ (32 ∷ (0 ∷ (0 ∷ []))))
     -- E7
-    ∷ (row 7 (blocks_for 512 0 ∷ (blocks_for 512 508 ∷ (blocks_for 512 509 ∷ (blocks_for 512 1016 ∷ [])))) (1 ∷ (1 ∷ (2 ∷ (2 ∷ []))))
+    ∷ (row 7 (blocks_for 512 0 ∷ (blocks_for 512 508 ∷ (blocks_for 512 509 ∷ (blocks_for 512 1016 ∷ []))))
+    (1 ∷ (1 ∷ (2 ∷ (2 ∷ []))))
     -- E8
     ∷ (row 8 (seek_to (Current (negsuc 3)) ++ seek_to (Current (negsuc 4))) (0 ∷ (0 ∷ (12 ∷ (4 ∷ []))))
     -- E9

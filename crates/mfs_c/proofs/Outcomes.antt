@@ -9,16 +9,17 @@ use Rattle.handle.specs.declared.Handle.{Handle}
 use Rattle.handle.specs.declared.SeekFrom.{SeekFrom}
 use Rattle.handle.specs.declared.Sought.{Sought}
 use Rattle.handle.specs.declared.CountedOut.{CountedOut}
-use Rattle.write.specs.Written.{counted_says}
 use Rattle.wire.specs.Pick.{pick}
 use Rattle.bitmap_room.specs.declared.Told.{Told}
-use Rattle.call_room.specs.Room.{room_says}
 use Rattle.call_room.proofs.Means.{room_one}
-use Rattle.call_volume.specs.Says.{says, Sizes, space_says}
-use Rattle.call_read.specs.Reading.{About, Counts, open_says, info_says, list_says}
+use Rattle.call_read.specs.declared.About.{About}
+use Rattle.call_read.specs.Reading.{open_says, info_says}
 use Rattle.mfs.proofs.Outcomes.{format_one, usage_one, open_one, info_one, list_one, read_one, seek_one, create_file_one, create_dir_one, delete-one, write_one, patch_one}
 use Rattle.call_volume.proofs.Checked.{check_one}
 use Rattle.mfs_c.specs.Exports.{told, out_of, numbers_of, FormatsC, UsesC, AsksC, ChecksC, HandleOut, OpensC, InformsC, ListsC, CountOut, ReadsC, SeeksC, CreatesFileC, CreatesDirC, DeletesC, WritesC, PatchesC}
+use Rattle.limits.specs.Says.{says}
+use Rattle.read_dir.specs.declared.Listed.{Listed}
+use Rattle.call_volume.specs.declared.Space.{Space}
 
 -- ---- one answer is told in one way
 
@@ -57,11 +58,11 @@ pub usage_c_one : (M : Mount) (I : List ℕ) (size used free c d size' size2 use
     → UsesC M I size used free d size2 used2 free2
     → (c ≡ d) × (size' ≡ size2) × (used' ≡ used2) × (free' ≡ free2)
 usage_c_one M I size used free c d size' size2 used' used2 free' free2 a b =
-    let e = ap space_says (usage_one M I a.answer b.answer a.call b.call) in (
+    let e = ap says (usage_one M I a.answer b.answer a.call b.call) in (
       told_one _ _ c d e a.code b.code,
-      out_one _ _ (λ (s : Sizes). s.size) size size' size2 e a.sizes b.sizes,
-      out_one _ _ (λ (s : Sizes). s.used) used used' used2 e a.useds b.useds,
-      out_one _ _ (λ (s : Sizes). s.free) free free' free2 e a.frees b.frees,
+      out_one _ _ (λ (s : Space). s.size) size size' size2 e a.sizes b.sizes,
+      out_one _ _ (λ (s : Space). s.used) used used' used2 e a.useds b.useds,
+      out_one _ _ (λ (s : Space). s.free) free free' free2 e a.frees b.frees,
     )
 
 pub room_c_one : (M : Mount) (I : List ℕ) (k enough bytes c d enough' enough2 bytes' bytes2 : ℕ)
@@ -69,7 +70,7 @@ pub room_c_one : (M : Mount) (I : List ℕ) (k enough bytes c d enough' enough2 
     → AsksC M I k enough bytes d enough2 bytes2
     → (c ≡ d) × (enough' ≡ enough2) × (bytes' ≡ bytes2)
 room_c_one M I k enough bytes c d enough' enough2 bytes' bytes2 a b =
-    let e = ap room_says (room_one M I k a.answer b.answer a.call b.call) in (
+    let e = ap says (room_one M I k a.answer b.answer a.call b.call) in (
       told_one _ _ c d e a.code b.code,
       out_one _ _ (λ (t : Told). pick t.enough 1 0) enough enough' enough2 e a.enoughs b.enoughs,
       out_one _ _ (λ (t : Told). t.bytes) bytes bytes' bytes2 e a.reads b.reads,
@@ -108,11 +109,11 @@ pub list_c_one : (M : Mount) (I cwd p : List ℕ) (i : ℕ) (buf : List ℕ) (by
     → (c ≡ d) × (out ≡ end) × (bytes' ≡ bytes2) × (next' ≡ next2)
 list_c_one M I cwd p i buf bytes next c d out end bytes' bytes2 next' next2 a b =
     let one = list_one M I cwd p i buf a.answer b.answer out end a.call b.call in
-    let e = ap list_says one.0 in (
+    let e = ap says one.0 in (
       told_one _ _ c d e a.code b.code,
       one.1,
-      out_one _ _ (λ (n : Counts). n.bytes) bytes bytes' bytes2 e a.counts b.counts,
-      out_one _ _ (λ (n : Counts). n.next) next next' next2 e a.nexts b.nexts,
+      out_one _ _ (λ (n : Listed). n.bytes) bytes bytes' bytes2 e a.counts b.counts,
+      out_one _ _ (λ (n : Listed). n.next) next next' next2 e a.nexts b.nexts,
     )
 
 pub read_c_one : (M : Mount) (I ns x : List ℕ) (len : ℕ) (buf : List ℕ) (bytes c d : ℕ) (ns' ns2 out end : List ℕ) (bytes' bytes2 : ℕ)
@@ -121,8 +122,8 @@ pub read_c_one : (M : Mount) (I ns x : List ℕ) (len : ℕ) (buf : List ℕ) (b
     → (c ≡ d) × (ns' ≡ ns2) × (out ≡ end) × (bytes' ≡ bytes2)
 read_c_one M I ns x len buf bytes c d ns' ns2 out end bytes' bytes2 a b =
     let one = read_one M I _ buf out end a.answer b.answer a.call b.call in
-    let says = ap (λ (o : CountedOut). counted_says o.answer) one.0 in
-    let e = count_out_one _ _ _ _ ns bytes c d ns' ns2 bytes' bytes2 says (ap (λ (o : CountedOut). o.handle) one.0) a.told b.told in
+    let said = ap (λ (o : CountedOut). says o.answer) one.0 in
+    let e = count_out_one _ _ _ _ ns bytes c d ns' ns2 bytes' bytes2 said (ap (λ (o : CountedOut). o.handle) one.0) a.told b.told in
     (e.0, e.1, one.1, e.2)
 
 pub seek_c_one : (ns x : List ℕ) (len : ℕ) (from : SeekFrom) (c d : ℕ) (ns' ns2 : List ℕ)
@@ -160,8 +161,8 @@ pub write_c_one : (M : Mount) (I W ns x : List ℕ) (len : ℕ) (buf : List ℕ)
     → (c ≡ d) × (J ≡ L) × (Z ≡ Y) × (ns' ≡ ns2) × (bytes' ≡ bytes2)
 write_c_one M I W ns x len buf time bytes c d J L Z Y ns' ns2 bytes' bytes2 a b =
     let one = write_one M I W _ buf time a.answer b.answer J L Z Y a.call b.call in
-    let says = ap (λ (o : CountedOut). counted_says o.answer) one.0 in
-    let e = count_out_one _ _ _ _ ns bytes c d ns' ns2 bytes' bytes2 says (ap (λ (o : CountedOut). o.handle) one.0) a.told b.told in
+    let said = ap (λ (o : CountedOut). says o.answer) one.0 in
+    let e = count_out_one _ _ _ _ ns bytes c d ns' ns2 bytes' bytes2 said (ap (λ (o : CountedOut). o.handle) one.0) a.told b.told in
     (e.0, one.1, one.2, e.1, e.2)
 
 pub patch_c_one : (M : Mount) (I W ns x : List ℕ) (len : ℕ) (buf : List ℕ) (time bytes c d : ℕ) (J L Z Y ns' ns2 : List ℕ) (bytes' bytes2 : ℕ)
@@ -170,6 +171,6 @@ pub patch_c_one : (M : Mount) (I W ns x : List ℕ) (len : ℕ) (buf : List ℕ)
     → (c ≡ d) × (J ≡ L) × (Z ≡ Y) × (ns' ≡ ns2) × (bytes' ≡ bytes2)
 patch_c_one M I W ns x len buf time bytes c d J L Z Y ns' ns2 bytes' bytes2 a b =
     let one = patch_one M I W _ buf time a.answer b.answer J L Z Y a.call b.call in
-    let says = ap (λ (o : CountedOut). counted_says o.answer) one.0 in
-    let e = count_out_one _ _ _ _ ns bytes c d ns' ns2 bytes' bytes2 says (ap (λ (o : CountedOut). o.handle) one.0) a.told b.told in
+    let said = ap (λ (o : CountedOut). says o.answer) one.0 in
+    let e = count_out_one _ _ _ _ ns bytes c d ns' ns2 bytes' bytes2 said (ap (λ (o : CountedOut). o.handle) one.0) a.told b.told in
     (e.0, one.1, one.2, e.1, e.2)

@@ -12,23 +12,20 @@ use Rattle.limits.proofs.Numbers.{number_some}
 use Rattle.dir_entry.specs.Entry.{kind_byte}
 use Rattle.handle.specs.declared.Handle.{Handle}
 use Rattle.handle.specs.declared.SeekFrom.{SeekFrom}
-use Rattle.handle.specs.declared.Counted.{Counted}
-use Rattle.handle.specs.declared.Counted.TheVariants as counted
 use Rattle.file_read.specs.Post.{CountedIs}
-use Rattle.write.specs.Written.{counted_says}
 use Rattle.wire.specs.Pick.{pick}
 use Rattle.bitmap_room.specs.declared.Told.{Told}
-use Rattle.call_room.specs.Room.{room_says}
-use Rattle.limits.specs.declared.Answer.{Answer}
-use Rattle.limits.specs.declared.Answer.TheVariants as answer
-use Rattle.call_read.specs.declared.Listing.{Listing}
-use Rattle.call_read.specs.declared.Listing.TheVariants as listing
-use Rattle.call_volume.specs.Says.{says, on_answer, Sizes, space_says}
+use Rattle.call_read.specs.Says.{on_answer}
 use Rattle.call_volume.specs.Format.{Formats}
-use Rattle.call_read.specs.Reading.{About, Counts, info_says, list_says, ListIs}
+use Rattle.call_read.specs.declared.About.{About}
+use Rattle.call_read.specs.Reading.{info_says, ListIs}
 use Rattle.thm_calls.proofs.Changing.{create_file_kept, create_dir_kept, delete_kept, write_kept}
 use Rattle.thm_calls.proofs.Patching.{patch_kept}
 use Rattle.mfs_c.specs.Exports.{told, out_of, numbers_of, FormatsC, UsesC, AsksC, HandleOut, OpensC, InformsC, ListsC, CountOut, ReadsC, SeeksC, CreatesFileC, CreatesDirC, DeletesC, WritesC, PatchesC}
+use Rattle.std.specs.Prelude.{Result, Ok, Err}
+use Rattle.limits.specs.Says.{says}
+use Rattle.read_dir.specs.declared.Listed.{Listed}
+use Rattle.call_volume.specs.declared.Space.{Space}
 
 -- ---- a number that is not 0 tells a refusal, and 0 tells none
 
@@ -38,17 +35,13 @@ kept (accepted a) f old new c e n h = absurd (n e)
 kept (refused k) f old new c e n h = h
 
 -- an answer with a value beside it, and one without
-on_answer_lem : {A : Type 0} (x : A) (a : Answer) (c : ℕ) → c ≡ told (on_answer a x) → (c ≡ 0 → ⊥) → (r : Refusal) × (a ≡ answer.Refused r)
-on_answer_lem x answer.Success c e n = absurd (n e)
-on_answer_lem x (answer.Refused r) c e n = (r, refl)
+on_answer_lem : {A : Type 0} (x : A) (a : Result (Unit {0}) Refusal) (c : ℕ) → c ≡ told (on_answer a x) → (c ≡ 0 → ⊥) → (r : Refusal) × (a ≡ Err r)
+on_answer_lem x (Ok u) c e n = absurd (n e)
+on_answer_lem x (Err r) c e n = (r, refl)
 
-plain : (a : Answer) (c : ℕ) → c ≡ told (says a) → (c ≡ 0 → ⊥) → (r : Refusal) × (a ≡ answer.Refused r)
-plain answer.Success c e n = absurd (n e)
-plain (answer.Refused r) c e n = (r, refl)
-
-counts : (a : Counted) (c : ℕ) → c ≡ told (counted_says a) → (c ≡ 0 → ⊥) → (r : Refusal) × (a ≡ counted.Refused r)
-counts (counted.Bytes k) c e n = absurd (n e)
-counts (counted.Refused r) c e n = (r, refl)
+plain : {A : Type 0} (a : Result A Refusal) (c : ℕ) → c ≡ told (says a) → (c ≡ 0 → ⊥) → (r : Refusal) × (a ≡ Err r)
+plain (Ok u) c e n = absurd (n e)
+plain (Err r) c e n = (r, refl)
 
 not_zero : (r : Refusal) → 0 ≡ refusal_number r → ⊥
 not_zero r e = omega (arith, number_some r)
@@ -77,23 +70,23 @@ format_image (suc k) j x y e = refl
 pub format_c_kept : (M : Mount) (I : List ℕ) (c : ℕ) (J : List ℕ) → FormatsC M I c J → (c ≡ 0 → ⊥) → J ≡ I
 format_c_kept M I c J a n = go a.answer a.code a.call
   where
-    go : (r : Answer) → c ≡ told (says r) → Formats M I r J → J ≡ I
-    go answer.Success e f = absurd (n e)
-    go (answer.Refused x) e f = f.image ∙ format_image _ (refusal_number x) _ I f.answer
+    go : (r : Result (Unit {0}) Refusal) → c ≡ told (says r) → Formats M I r J → J ≡ I
+    go (Ok u) e f = absurd (n e)
+    go (Err x) e f = f.image ∙ format_image _ (refusal_number x) _ I f.answer
 
 pub usage_c_kept : (M : Mount) (I : List ℕ) (size used free c size' used' free' : ℕ)
     → UsesC M I size used free c size' used' free' → (c ≡ 0 → ⊥) → (size' ≡ size) × (used' ≡ used) × (free' ≡ free)
 usage_c_kept M I size used free c size' used' free' a n =
-    let r = space_says a.answer in (
-      kept r (λ (s : Sizes). s.size) size size' c a.code n a.sizes,
-      kept r (λ (s : Sizes). s.used) used used' c a.code n a.useds,
-      kept r (λ (s : Sizes). s.free) free free' c a.code n a.frees,
+    let r = says a.answer in (
+      kept r (λ (s : Space). s.size) size size' c a.code n a.sizes,
+      kept r (λ (s : Space). s.used) used used' c a.code n a.useds,
+      kept r (λ (s : Space). s.free) free free' c a.code n a.frees,
     )
 
 pub room_c_kept : (M : Mount) (I : List ℕ) (k enough bytes c enough' bytes' : ℕ)
     → AsksC M I k enough bytes c enough' bytes' → (c ≡ 0 → ⊥) → (enough' ≡ enough) × (bytes' ≡ bytes)
 room_c_kept M I k enough bytes c enough' bytes' a n =
-    let r = room_says a.answer in (
+    let r = says a.answer in (
       kept r (λ (t : Told). pick t.enough 1 0) enough enough' c a.code n a.enoughs,
       kept r (λ (t : Told). t.bytes) bytes bytes' c a.code n a.reads,
     )
@@ -115,24 +108,24 @@ info_c_kept M I cwd p kind size time x len c kind' size' time' x' len' a n =
       kept r (λ (s : About). s.len) len len' c a.code n a.long,
     )
 
-list_buffer : (r : Reply Counts) (rs buf out : List ℕ) (q : Listing) (c : ℕ) → ListIs r rs buf out q → c ≡ told (list_says q) → (c ≡ 0 → ⊥) → out ≡ buf
-list_buffer r rs buf out (listing.Records b i) c h e n = absurd (n e)
-list_buffer (accepted m) rs buf out (listing.Refused x) c h e n = let z : ◌≡◌ {A = ℕ} 0 1 = cc h.answer in absurd (omega arith)
-list_buffer (refused k) rs buf out (listing.Refused x) c h e n = h.buffer
+list_buffer : (r : Reply Listed) (rs buf out : List ℕ) (q : Result Listed Refusal) (c : ℕ) → ListIs r rs buf out q → c ≡ told (says q) → (c ≡ 0 → ⊥) → out ≡ buf
+list_buffer r rs buf out (Ok l) c h e n = absurd (n e)
+list_buffer (accepted m) rs buf out (Err x) c h e n = let z : ◌≡◌ {A = ℕ} 0 1 = cc h.answer in absurd (omega arith)
+list_buffer (refused k) rs buf out (Err x) c h e n = h.buffer
 
 pub list_c_kept : (M : Mount) (I cwd p : List ℕ) (i : ℕ) (buf : List ℕ) (bytes next c : ℕ) (out : List ℕ) (bytes' next' : ℕ)
     → ListsC M I cwd p i buf bytes next c out bytes' next' → (c ≡ 0 → ⊥) → (out ≡ buf) × (bytes' ≡ bytes) × (next' ≡ next)
 list_c_kept M I cwd p i buf bytes next c out bytes' next' a n =
-    let r = list_says a.answer in (
+    let r = says a.answer in (
       list_buffer _ _ buf out a.answer c a.call a.code n,
-      kept r (λ (m : Counts). m.bytes) bytes bytes' c a.code n a.counts,
-      kept r (λ (m : Counts). m.next) next next' c a.code n a.nexts,
+      kept r (λ (m : Listed). m.bytes) bytes bytes' c a.code n a.counts,
+      kept r (λ (m : Listed). m.next) next next' c a.code n a.nexts,
     )
 
-read_buffer : (k : ℕ) (h g : Handle) (vs buf out : List ℕ) (a : Counted) (c : ℕ)
-    → CountedIs k h g vs buf out a → c ≡ told (counted_says a) → (c ≡ 0 → ⊥) → out ≡ buf
-read_buffer k h g vs buf out (counted.Bytes j) c r e n = absurd (n e)
-read_buffer k h g vs buf out (counted.Refused x) c r e n = r.kept
+read_buffer : (k : ℕ) (h g : Handle) (vs buf out : List ℕ) (a : Result ℕ Refusal) (c : ℕ)
+    → CountedIs k h g vs buf out a → c ≡ told (says a) → (c ≡ 0 → ⊥) → out ≡ buf
+read_buffer k h g vs buf out (Ok j) c r e n = absurd (n e)
+read_buffer k h g vs buf out (Err x) c r e n = r.kept
 
 pub read_c_kept : (M : Mount) (I ns x : List ℕ) (len : ℕ) (buf : List ℕ) (bytes c : ℕ) (ns' out : List ℕ) (bytes' : ℕ)
     → ReadsC M I ns x len buf bytes c ns' out bytes' → (c ≡ 0 → ⊥) → (ns' ≡ ns) × (out ≡ buf) × (bytes' ≡ bytes)
@@ -167,7 +160,7 @@ pub write_c_kept : (M : Mount) (I W ns x : List ℕ) (len : ℕ) (buf : List ℕ
     → WritesC M I W ns x len buf time bytes c J Z ns' bytes' → (c ≡ 0 → ⊥) → (J ≡ I) × (ns' ≡ ns) × (bytes' ≡ bytes)
 write_c_kept M I W ns x len buf time bytes c J Z ns' bytes' a n =
     let o = a.answer in
-    let r = counts o.answer c a.told.code n in
+    let r = plain o.answer c a.told.code n in
     let k = count_out_kept _ _ ns bytes c ns' bytes' a.told n in
     ((write_kept M I W _ buf time o J Z a.call r.0 r.1).0, k.0, k.1)
 
@@ -175,6 +168,6 @@ pub patch_c_kept : (M : Mount) (I W ns x : List ℕ) (len : ℕ) (buf : List ℕ
     → PatchesC M I W ns x len buf time bytes c J Z ns' bytes' → (c ≡ 0 → ⊥) → (J ≡ I) × (ns' ≡ ns) × (bytes' ≡ bytes)
 patch_c_kept M I W ns x len buf time bytes c J Z ns' bytes' a n =
     let o = a.answer in
-    let r = counts o.answer c a.told.code n in
+    let r = plain o.answer c a.told.code n in
     let k = count_out_kept _ _ ns bytes c ns' bytes' a.told n in
     ((patch_kept M I W _ buf time o J Z a.call r.0 r.1).0, k.0, k.1)

@@ -1,6 +1,6 @@
 -- C15: what each export tells its caller: a call of `mfs` was made, and 0 with its values in the out parameters, or its refusal
 -- with every out parameter as it was. Definitions alone.
-use Rattle.std.specs.Prelude.{◌≡◌, List, [], ◌∷◌, ℕ, get_or}
+use Rattle.std.specs.Prelude.{◌≡◌, List, [], ◌∷◌, ℕ, get_or, Result}
 use Rattle.wire.specs.Pick.{pick}
 use Rattle.model.specs.Geometry.{Mount}
 use Rattle.model.specs.Answers.{Reply, accepted, refused}
@@ -10,21 +10,20 @@ use Rattle.handle.specs.declared.SeekFrom.{SeekFrom}
 use Rattle.handle.specs.declared.Sought.{Sought}
 use Rattle.handle.specs.declared.CountedOut.{CountedOut}
 use Rattle.handle.specs.Post.{SoughtIs}
-use Rattle.write.specs.Written.{counted_says}
 use Rattle.bitmap_room.specs.declared.Told.{Told}
-use Rattle.call_room.specs.declared.RoomOut.{RoomOut}
-use Rattle.call_room.specs.Room.{room_says, Asks}
-use Rattle.limits.specs.declared.Answer.{Answer}
+use Rattle.call_room.specs.Room.{Asks}
 use Rattle.call_volume.specs.declared.Space.{Space}
 use Rattle.call_read.specs.declared.OpenOut.{OpenOut}
 use Rattle.call_read.specs.declared.InfoOut.{InfoOut}
-use Rattle.call_read.specs.declared.Listing.{Listing}
-use Rattle.call_volume.specs.Says.{says, Sizes, space_says}
 use Rattle.call_volume.specs.Format.{Formats, Uses}
-use Rattle.call_read.specs.Reading.{About, Counts, open_says, Opens, info_says, Informs, list_says, Lists, Reads}
+use Rattle.call_read.specs.declared.About.{About}
+use Rattle.call_read.specs.Reading.{open_says, Opens, info_says, Informs, Lists, Reads}
 use Rattle.call_volume.specs.Checking.{Checks}
 use Rattle.call_change.specs.Changing.{CreatesFile, CreatesDir, Deletes, Writes}
 use Rattle.call_patch.specs.Patches.{Patches}
+use Rattle.limits.specs.Says.{says}
+use Rattle.limits.specs.declared.Refusal.{Refusal}
+use Rattle.read_dir.specs.declared.Listed.{Listed}
 
 -- C17: the version of the exports: names, parameters and what these mean. It goes up by one where a program that was compiled
 -- against the exports as they were could no longer call them as they are.
@@ -63,28 +62,28 @@ numbers_of h = h.dir.0 ∷ (h.addr.0 ∷ (h.size ∷ (h.position ∷ [])))
 -- ---- the exports: c is the number answered, J the image afterwards, Z the work buffer; an out parameter x is x' afterwards
 
 pub record FormatsC (M : Mount) (I : List ℕ) (c : ℕ) (J : List ℕ) : Type 0 where
-  pub answer : Answer
+  pub answer : Result (Unit {0}) Refusal
   pub call : Formats M I answer J
   pub code : c ≡ told (says answer)
 
 pub record UsesC (M : Mount) (I : List ℕ) (size used free c size' used' free' : ℕ) : Type 0 where
-  pub answer : Space
+  pub answer : Result Space Refusal
   pub call : Uses M I answer
-  pub code : c ≡ told (space_says answer)
-  pub sizes : size' ≡ out_of (space_says answer) (λ (s : Sizes). s.size) size
-  pub useds : used' ≡ out_of (space_says answer) (λ (s : Sizes). s.used) used
-  pub frees : free' ≡ out_of (space_says answer) (λ (s : Sizes). s.free) free
+  pub code : c ≡ told (says answer)
+  pub sizes : size' ≡ out_of (says answer) (λ (s : Space). s.size) size
+  pub useds : used' ≡ out_of (says answer) (λ (s : Space). s.used) used
+  pub frees : free' ≡ out_of (says answer) (λ (s : Space). s.free) free
 
 -- yes is 1, no is 0
 pub record AsksC (M : Mount) (I : List ℕ) (k enough bytes c enough' bytes' : ℕ) : Type 0 where
-  pub answer : RoomOut
+  pub answer : Result Told Refusal
   pub call : Asks M I k answer
-  pub code : c ≡ told (room_says answer)
-  pub enoughs : enough' ≡ out_of (room_says answer) (λ (t : Told). pick t.enough 1 0) enough
-  pub reads : bytes' ≡ out_of (room_says answer) (λ (t : Told). t.bytes) bytes
+  pub code : c ≡ told (says answer)
+  pub enoughs : enough' ≡ out_of (says answer) (λ (t : Told). pick t.enough 1 0) enough
+  pub reads : bytes' ≡ out_of (says answer) (λ (t : Told). t.bytes) bytes
 
 pub record ChecksC (M : Mount) (I W : List ℕ) (c : ℕ) (Z : List ℕ) : Type 0 where
-  pub answer : Answer
+  pub answer : Result (Unit {0}) Refusal
   pub call : Checks M I W answer Z
   pub code : c ≡ told (says answer)
 
@@ -113,11 +112,11 @@ pub record InformsC (M : Mount) (I cwd p : List ℕ) (kind size time : ℕ) (x :
 
 pub record ListsC (M : Mount) (I cwd p : List ℕ) (i : ℕ) (buf : List ℕ) (bytes next c : ℕ) (out : List ℕ)
     (bytes' next' : ℕ) : Type 0 where
-  pub answer : Listing
+  pub answer : Result Listed Refusal
   pub call : Lists M I cwd p i buf answer out
-  pub code : c ≡ told (list_says answer)
-  pub counts : bytes' ≡ out_of (list_says answer) (λ (n : Counts). n.bytes) bytes
-  pub nexts : next' ≡ out_of (list_says answer) (λ (n : Counts). n.next) next
+  pub code : c ≡ told (says answer)
+  pub counts : bytes' ≡ out_of (says answer) (λ (n : Listed). n.bytes) bytes
+  pub nexts : next' ≡ out_of (says answer) (λ (n : Listed). n.next) next
 
 -- the byte count and the new handle's numbers: its name is the one given
 pub record CountOut (r : Reply ℕ) (h : Handle) (ns : List ℕ) (bytes c : ℕ) (ns' : List ℕ) (bytes' : ℕ) : Type 0 where
@@ -129,7 +128,7 @@ pub record ReadsC (M : Mount) (I ns x : List ℕ) (len : ℕ) (buf : List ℕ) (
     (bytes' : ℕ) : Type 0 where
   pub answer : CountedOut
   pub call : Reads M I (handle_of ns x len) buf out answer
-  pub told : CountOut (counted_says answer.answer) answer.handle ns bytes c ns' bytes'
+  pub told : CountOut (says answer.answer) answer.handle ns bytes c ns' bytes'
 
 pub record SeeksC (ns x : List ℕ) (len : ℕ) (from : SeekFrom) (c : ℕ) (ns' : List ℕ) : Type 0 where
   pub answer : Sought
@@ -144,12 +143,12 @@ pub record CreatesFileC (M : Mount) (I W cwd p : List ℕ) (time : ℕ) (ns x : 
   pub out : HandleOut (open_says answer) ns x len c ns' x' len'
 
 pub record CreatesDirC (M : Mount) (I W cwd p : List ℕ) (time c : ℕ) (J Z : List ℕ) : Type 0 where
-  pub answer : Answer
+  pub answer : Result (Unit {0}) Refusal
   pub call : CreatesDir M I W cwd p time answer J Z
   pub code : c ≡ told (says answer)
 
 pub record DeletesC (M : Mount) (I W cwd p : List ℕ) (time c : ℕ) (J Z : List ℕ) : Type 0 where
-  pub answer : Answer
+  pub answer : Result (Unit {0}) Refusal
   pub call : Deletes M I W cwd p time answer J Z
   pub code : c ≡ told (says answer)
 
@@ -157,11 +156,11 @@ pub record WritesC (M : Mount) (I W ns x : List ℕ) (len : ℕ) (buf : List ℕ
     (bytes' : ℕ) : Type 0 where
   pub answer : CountedOut
   pub call : Writes M I W (handle_of ns x len) buf time answer J Z
-  pub told : CountOut (counted_says answer.answer) answer.handle ns bytes c ns' bytes'
+  pub told : CountOut (says answer.answer) answer.handle ns bytes c ns' bytes'
 
 -- C19
 pub record PatchesC (M : Mount) (I W ns x : List ℕ) (len : ℕ) (buf : List ℕ) (time bytes c : ℕ) (J Z ns' : List ℕ)
     (bytes' : ℕ) : Type 0 where
   pub answer : CountedOut
   pub call : Patches M I W (handle_of ns x len) buf time answer J Z
-  pub told : CountOut (counted_says answer.answer) answer.handle ns bytes c ns' bytes'
+  pub told : CountOut (says answer.answer) answer.handle ns bytes c ns' bytes'

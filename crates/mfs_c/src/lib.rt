@@ -4,21 +4,20 @@
 #![tactic(auto)]
 
 ghost use Rattle.std.specs.Prelude.{◌≡◌};
-ghost use Rattle.wire.specs.Pick.{pick};
 ghost use Rattle.model.specs.Geometry.{mount};
 ghost use Rattle.limits.specs.Refusals.{refusal_number};
 ghost use Rattle.handle.specs.declared.SeekFrom.TheVariants as from;
-ghost use Rattle.write.specs.Written.{counted_says};
-ghost use Rattle.call_volume.specs.Says.{says};
+ghost use Rattle.limits.specs.Says.{says};
 ghost use Rattle.call_read.specs.Reading.{open_says};
-ghost use Rattle.mfs_c.specs.Exports.{abi_version, told, handle_of, numbers_of, FormatsC, UsesC, ChecksC, HandleOut, OpensC, InformsC, ListsC, CountOut, ReadsC, SeeksC, CreatesFileC, CreatesDirC, DeletesC, WritesC, PatchesC, AsksC};
+ghost use Rattle.mfs_c.specs.Exports.{abi_version, told, handle_of, numbers_of, FormatsC, UsesC, ChecksC, HandleOut, OpensC};
+ghost use Rattle.mfs_c.specs.Exports.{InformsC, ListsC, CountOut, ReadsC, SeeksC, CreatesFileC, CreatesDirC, DeletesC};
+ghost use Rattle.mfs_c.specs.Exports.{WritesC, PatchesC, AsksC};
 
 use block::Addr;
-use call_read::{Listing, OpenOut};
-use call_room::RoomOut;
-use call_volume::Space;
-use handle::{Counted, Handle, SeekFrom};
-use limits::{Answer, Refusal};
+use call_read::OpenOut;
+use handle::{CountedOut, Handle, SeekFrom};
+use limits::Refusal;
+use super_block::Mount;
 
 // The version of these exports, for callers that were compiled against another one to find out.
 #[unsafe(no_mangle)]
@@ -32,16 +31,16 @@ pub extern "C" fn mfs_c_version() -> u32
 fn refusal(r: Refusal) -> u32
     ensures { result ≡ refusal_number r }
 {
-    r.number() as u32
+    u32::from(r.number())
 }
 
 // The number of an answer without values: 0 is success.
-fn answer_of(a: Answer) -> u32
+fn answer_of(a: Result<(), Refusal>) -> u32
     ensures { result ≡ told (says a) }
 {
     match a {
-        Answer::Success => 0,
-        Answer::Refused(r) => refusal(r),
+        Ok(()) => 0,
+        Err(r) => refusal(r),
     }
 }
 
@@ -63,9 +62,7 @@ fn handle_of(number: &[u32; 4], name: &[u8; 255], len: usize) -> Handle
 fn numbers_of(h: Handle) -> [u32; 4]
     ensures { result ≡ numbers_of h }
 {
-    let d = h.dir;
-    let a = h.addr;
-    [d.0, a.0, h.size, h.position]
+    [h.dir.0, h.addr.0, h.size, h.position]
 }
 
 // Hands over the handle of an open or a create: its numbers, its name and the name's length; nothing where the call is refused.
@@ -73,29 +70,27 @@ fn give_handle(out: OpenOut, number: &mut [u32; 4], name: &mut [u8; 255], len: &
     ensures { HandleOut (open_says out) number.old name.old len.old result number.new
         name.new len.new }
 {
-    let answer = out.answer;
-    match answer {
-        Answer::Refused(r) => refusal(r),
-        Answer::Success => {
-            let h = out.handle;
-            *number = numbers_of(h);
-            let n = h.name;
-            *name = n;
-            *len = h.len;
+    match out.answer {
+        Err(r) => refusal(r),
+        Ok(()) => {
+            *number = numbers_of(out.handle);
+            let own = out.handle.name;
+            *name = own;
+            *len = out.handle.len;
             0
         }
     }
 }
 
 // Hands over the byte count and the moved handle's numbers; nothing where the call is refused.
-fn give_count(answer: Counted, h: Handle, number: &mut [u32; 4], bytes: &mut usize) -> u32
-    ensures { CountOut (counted_says answer) h number.old bytes.old result number.new
-        bytes.new }
+fn give_count(out: CountedOut, number: &mut [u32; 4], bytes: &mut usize) -> u32
+    ensures { CountOut (says out.answer) out.handle number.old bytes.old result
+        number.new bytes.new }
 {
-    match answer {
-        Counted::Refused(r) => refusal(r),
-        Counted::Bytes(b) => {
-            *number = numbers_of(h);
+    match out.answer {
+        Err(r) => refusal(r),
+        Ok(b) => {
+            *number = numbers_of(out.handle);
             *bytes = b;
             0
         }
@@ -107,7 +102,7 @@ fn give_count(answer: Counted, h: Handle, number: &mut [u32; 4], bytes: &mut usi
 pub extern "C" fn mfs_c_format(img: &mut [u8], k: u32, code: u32) -> u32
     ensures { FormatsC (mount k code) img.old result img.new }
 {
-    answer_of(mfs::format(img, k, code))
+    answer_of(mfs::format(img, Mount { k, code }))
 }
 
 // Bytes of the volume, of its used blocks, and the rest. Refusals: 1, 2, 3, 17.
@@ -123,30 +118,18 @@ pub extern "C" fn mfs_c_usage(
     ensures { UsesC (mount k code) img.now size.old used.old free.old result
         size.new used.new free.new }
 {
-    let space = mfs::usage(img, k, code);
-    match space {
-        Space::Refused(r) => refusal(r),
-        Space::Bytes {
-            size: s,
-            used: u,
-            free: f,
-        } => {
-            *size = s;
-            *used = u;
-            *free = f;
+    match mfs::usage(img, Mount { k, code }) {
+        Err(r) => refusal(r),
+        Ok(space) => {
+            *size = space.size;
+            *used = space.used;
+            *free = space.free;
             0
         }
     }
 }
 
-// Yes is 1, no is 0.
-fn flag(b: bool) -> u32
-    ensures { result ≡ pick b 1 0 }
-{
-    if b { 1 } else { 0 }
-}
-
-// Whether so many blocks are free, and the bytes of the bitmap that were read to tell. Refusals: 1, 2, 3.
+// Whether so many blocks are free (yes is 1, no is 0), and the bytes of the bitmap that were read to tell. Refusals: 1, 2, 3.
 #[unsafe(no_mangle)]
 pub extern "C" fn mfs_c_room(
     img: &[u8],
@@ -159,12 +142,11 @@ pub extern "C" fn mfs_c_room(
     ensures { AsksC (mount k code) img.now count enough.old bytes.old result
         enough.new bytes.new }
 {
-    let known = mfs::room(img, k, code, count);
-    match known {
-        RoomOut::Refused(r) => refusal(r),
-        RoomOut::Known(t) => {
-            *enough = flag(t.enough);
-            *bytes = t.bytes;
+    match mfs::room(img, Mount { k, code }, count) {
+        Err(r) => refusal(r),
+        Ok(told) => {
+            *enough = u32::from(told.enough);
+            *bytes = told.bytes;
             0
         }
     }
@@ -175,7 +157,7 @@ pub extern "C" fn mfs_c_room(
 pub extern "C" fn mfs_c_check(img: &[u8], k: u32, code: u32, work: &mut [u8]) -> u32
     ensures { ChecksC (mount k code) img.now work.old result work.new }
 {
-    answer_of(mfs::check(img, k, code, work))
+    answer_of(mfs::check(img, Mount { k, code }, work))
 }
 
 // Opens the file at a path. Refusals: 1, 2, 3, 4, 5, 6, 17, 10.
@@ -193,7 +175,12 @@ pub extern "C" fn mfs_c_open(
     ensures { OpensC (mount k code) img.now cwd.now path.now number.old
         name.old len.old result number.new name.new len.new }
 {
-    give_handle(mfs::open(img, k, code, cwd, path), number, name, len)
+    give_handle(
+        mfs::open(img, Mount { k, code }, cwd, path),
+        number,
+        name,
+        len,
+    )
 }
 
 // Kind (0 directory, 1 file, 2 device), size, time and name of what stands at a path. Refusals: 1, 2, 3, 4, 5, 6, 17.
@@ -214,17 +201,15 @@ pub extern "C" fn mfs_c_info(
         size.old time.old name.old len.old result kind.new size.new
         time.new name.new len.new }
 {
-    let out = mfs::info(img, k, code, cwd, path);
-    let answer = out.answer;
-    match answer {
-        Answer::Refused(r) => refusal(r),
-        Answer::Success => {
-            let what = out.kind;
-            *kind = what.byte();
+    let out = mfs::info(img, Mount { k, code }, cwd, path);
+    match out.answer {
+        Err(r) => refusal(r),
+        Ok(()) => {
+            *kind = u8::from(out.kind);
             *size = out.size;
             *time = out.time;
-            let n = out.name;
-            *name = n;
+            let own = out.name;
+            *name = own;
             *len = out.len;
             0
         }
@@ -247,12 +232,11 @@ pub extern "C" fn mfs_c_list(
     ensures { ListsC (mount k code) img.now cwd.now path.now i buf.old
         bytes.old next.old result buf.new bytes.new next.new }
 {
-    let listed = mfs::list(img, k, code, cwd, path, i, buf);
-    match listed {
-        Listing::Refused(r) => refusal(r),
-        Listing::Records(b, n) => {
-            *bytes = b;
-            *next = n;
+    match mfs::list(img, Mount { k, code }, cwd, path, i, buf) {
+        Err(r) => refusal(r),
+        Ok(listed) => {
+            *bytes = listed.bytes;
+            *next = listed.next;
             0
         }
     }
@@ -274,10 +258,8 @@ pub extern "C" fn mfs_c_read(
         bytes.old result number.new buf.new bytes.new }
 {
     let given = handle_of(number, name, len);
-    let out = mfs::read(img, k, code, given, buf);
-    let answer = out.answer;
-    let moved = out.handle;
-    give_count(answer, moved, number, bytes)
+    let out = mfs::read(img, Mount { k, code }, given, buf);
+    give_count(out, number, bytes)
 }
 
 // Moves the handle's position.
@@ -286,12 +268,10 @@ fn seek(number: &mut [u32; 4], name: &[u8; 255], len: usize, from: SeekFrom) -> 
 {
     let given = handle_of(number, name, len);
     let out = mfs::seek(given, from);
-    let answer = out.answer;
-    match answer {
-        Answer::Refused(r) => refusal(r),
-        Answer::Success => {
-            let h = out.handle;
-            *number = numbers_of(h);
+    match out.answer {
+        Err(r) => refusal(r),
+        Ok(()) => {
+            *number = numbers_of(out.handle);
             0
         }
     }
@@ -355,7 +335,7 @@ pub extern "C" fn mfs_c_create_file(
         work.new number.new name.new len.new }
 {
     give_handle(
-        mfs::create_file(img, k, code, cwd, path, time, work),
+        mfs::create_file(img, Mount { k, code }, cwd, path, time, work),
         number,
         name,
         len,
@@ -376,7 +356,7 @@ pub extern "C" fn mfs_c_create_dir(
     ensures { CreatesDirC (mount k code) img.old work.old cwd.now
         path.now time result img.new work.new }
 {
-    answer_of(mfs::create_dir(img, k, code, cwd, path, time, work))
+    answer_of(mfs::create_dir(img, Mount { k, code }, cwd, path, time, work))
 }
 
 // Deletes the file, the device or the empty directory at a path. Refusals: 1, 2, 3, 16, 17, 4, 5, 6, 14.
@@ -393,7 +373,7 @@ pub extern "C" fn mfs_c_delete(
     ensures { DeletesC (mount k code) img.old work.old cwd.now path.now time result
         img.new work.new }
 {
-    answer_of(mfs::delete(img, k, code, cwd, path, time, work))
+    answer_of(mfs::delete(img, Mount { k, code }, cwd, path, time, work))
 }
 
 // Writes buf at the handle's position; the file ends there. Refusals: 1, 2, 3, 16, 17, 13, 11, 10, 9.
@@ -415,10 +395,8 @@ pub extern "C" fn mfs_c_write(
         bytes.new }
 {
     let given = handle_of(number, name, len);
-    let out = mfs::write(img, k, code, given, buf, time, work);
-    let answer = out.answer;
-    let grown = out.handle;
-    give_count(answer, grown, number, bytes)
+    let out = mfs::write(img, Mount { k, code }, given, buf, time, work);
+    give_count(out, number, bytes)
 }
 
 // Puts buf over the file's bytes from the handle's position on; the file keeps its size. Refusals: 1, 2, 3, 16, 17, 13, 11, 19.
@@ -440,8 +418,6 @@ pub extern "C" fn mfs_c_patch(
         bytes.new }
 {
     let given = handle_of(number, name, len);
-    let out = mfs::patch(img, k, code, given, buf, time, work);
-    let answer = out.answer;
-    let patched = out.handle;
-    give_count(answer, patched, number, bytes)
+    let out = mfs::patch(img, Mount { k, code }, given, buf, time, work);
+    give_count(out, number, bytes)
 }

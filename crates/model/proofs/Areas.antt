@@ -1,6 +1,6 @@
 -- What sound numbers give: the areas of a volume in order, and a bit for each index in reach. Only this file, `Versions` and the
 -- port of super_block.rs read the formulas of D and reach.
-use mathlib.Core.Path.{◌≡◌, sym, subst}
+use mathlib.Core.Path.{◌≡◌, sym, ap, subst}
 use mathlib.Core.Logic.{inl, inr}
 use mathlib.Core.List.{List}
 use Prim.Native.Nat.{ℕ, zero, suc, ◌+◌, ◌-◌, ◌*◌, ◌^◌, ◌≤◌, ◌<◌}
@@ -13,7 +13,7 @@ use Rattle.bits.specs.Bit.{bit}
 use Rattle.block.specs.Block.{BlockSize}
 use Rattle.model.specs.Tree.{Tree}
 use Rattle.model.specs.Render.{blocks, count}
-use Rattle.model.specs.Geometry.{Geo, block_size, map_size, map_at, rest, map_blocks, data_at, reach, map_bits, bit_end, set_bits, Known, Sound}
+use Rattle.model.specs.Geometry.{Geo, code_size, block_size, map_size, map_at, rest, map_blocks, data_at, reach, map_bits, bit_end, set_bits, Known, Sound}
 use Rattle.model.specs.Volume.{Laid, Volume}
 use Rattle.model.proofs.Counts.{ones-length}
 
@@ -28,7 +28,7 @@ pub by_known : (P : Geo → Type 0) → ((K n : ℕ) → 4097 ≤ n - (K + 2) �
     → (g : Geo) → Known g → 2 ≤ rest g → (g.version ≡ 1 → map_size g + 1 ≤ rest g) → P g
 by_known P one two large g (inl k) h o =
     let e : geometry g.K g.n 1 0 ≡ g = λ i. geometry g.K g.n (sym k.0 i) (sym k.1 i) in
-    let m : 4097 ≤ rest g = subst (λ (c : ℕ). 8 * (512 * 2 ^ c) + 1 ≤ rest g) k.1 (o k.0) in
+    let m : 4097 ≤ rest g = omega (arith, o k.0, ap code_size k.1) in
     subst P e (one g.K g.n m)
 by_known P one two large g (inr k) h o =
     let e : geometry g.K g.n 2 g.code ≡ g = λ i. geometry g.K g.n (sym k.0 i) g.code in

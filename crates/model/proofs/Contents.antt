@@ -7,14 +7,14 @@ use native.Mathlib.Nat.{add_comm, mul-zero, mul-suc, mul-add, mul_comm, mul-le-m
 use native.Mathlib.Decide.{dec_lt}
 use native.Mathlib.Omega.{arith}
 use lib.ListN.{length, get_or, take, drop, length-append, length-drop, get_or-replicate, get_or-append, get_or-eq_default}
-use lib.Seq.{length-take-le, take-append-le, take_at, take-add, take-take, get_or-take, get_or-append-add}
+use lib.Seq.{length-take-le, take-append-le, take_at, take-add, take-take, take_all, get_or-take, get_or-append-add}
 use Rattle.wire.specs.Be.{splice, zeros}
 use Rattle.wire.proofs.Numbers.{length-splice, splice-after}
 use Rattle.block.specs.Block.{BlockSize}
 use Rattle.block.proofs.Blocks.{block_below}
 use Rattle.model.specs.Tree.{Name, Cell, Node, file, device, sub, Entry, Block, Tree, then, lookup, change, Edit, renewed, renew, at_end, edit, inside}
 use Rattle.model.specs.Volume.{All, file_limit, blocks_for, GoodCell, GoodFile}
-use Rattle.model.specs.Calls.{file_of, file_at, stream, contents, places, chop, rewrite, refiled, rewritten}
+use Rattle.model.specs.Calls.{file_of, file_at, stream, contents, places, chop, rewrite, refiled, rewritten, overlaid}
 use Rattle.model.proofs.Lists.{not_some, then_some}
 use Rattle.model.proofs.Grown.{grown_bytes, length-grown_bytes}
 use Rattle.model.proofs.Dirs.{Keeps, lookup-change}
@@ -60,6 +60,20 @@ pub length-places : (cs : List Cell) → length (places cs) ≡ length cs
 unfolding places
 length-places [] = refl
 length-places (c ∷ cs) = ap suc (length-places cs)
+
+-- C19: the blocks of a patch are where they were,
+pub places-overlaid : (B c : ℕ) (buf : List ℕ) (cs : List Cell) → places (overlaid B c buf cs) ≡ places cs
+unfolding overlaid
+places-overlaid B c buf cs = search places-chop
+
+-- and their bytes are the old ones with the buffer over them.
+pub stream-overlaid : (B c : ℕ) (buf : List ℕ) (cs : List Cell) → length (stream cs) ≡ (B - 4) * length cs → c + length buf ≤ (B - 4) * length cs
+    → stream (overlaid B c buf cs) ≡ splice (stream cs) c buf
+unfolding overlaid
+stream-overlaid B c buf cs long inside =
+    search (stream-chop (B - 4) (places cs) (splice (stream cs) c buf)
+    ∙ take_all ((B - 4) * length (places cs)) (splice (stream cs) c buf)
+    (omega (arith, length-splice (stream cs) c buf (omega (arith, long)), long, ap (λ (k : ℕ). (B - 4) * k) (length-places cs))))
 
 -- ---- how many blocks a size needs
 

@@ -194,7 +194,7 @@ module _ (g : Geo) (d : ℕ) (p : List Name) (n : Name) (b : ℕ) (not_super : b
   unfolding cell
   makes_leaves I J t u m = record {
     wiped = m.wiped b;
-    same = λ x y i h. m.frame.at b i (record { not_super = not_super; not_map = not_map; not_reached = y }, x) h;
+    same = λ x y i h. m.frame.at b i (record { not_super = not_super; not_map = not_map; not_reached = omega (arith, y) }, x) h;
   }
 
   leaves : (I J : List ℕ) (t u : Tree d) → Step g d p n I t J u → Leaves I t J u
@@ -261,8 +261,8 @@ demand3 g d p n I I' t t' b b' w v r u =
       reached = λ c i m h x.
           shown_near P B I I' (render B d t) (render B d (edit d p z.0 (λ e bs. bs) t)) a
           (whole_tree B (omega (arith, size_large g)) d t w.laid.good) w.laid.shown w'.laid.shown c i m h x;
-      given_back = λ c h y. wiped c h y;
-      never_used = λ c i o h l. kept c o h i l;
+      given_back = λ c h y. wiped c h (omega (arith, y));
+      never_used = λ c i o h l. kept c o (search h) i (omega (arith, l));
     }
   where
     -- what the first tree doesn't reach the last doesn't

@@ -24,9 +24,11 @@ pub hash_fits : (x : List ℕ) → hash_of x < 4294967296
 hash_fits x = hash_from_fits x 0 (omega arith)
 
 module _ (x : List ℕ) (i h : ℕ) (v : hash_from h (drop i x) ≡ hash_of x) where
-  pub hash_again : i < length x → hash_from ((h + get_or x i 0) * 2654435761 % 4294967296) (drop (i + 1) x) ≡ hash_of x
+  pub hash_again : i < length x → hash_from ((h + get_or x i 0) % 4294967296 * 2654435761 % 4294967296) (drop (i + 1) x) ≡ hash_of x
   unfolding hash_from stirred
-  hash_again l = ap (hash_from h) (sym (next_byte x i l)) ∙ v
+  hash_again l =
+      let e : (h + get_or x i 0) % 4294967296 * 2654435761 % 4294967296 ≡ (h + get_or x i 0) * 2654435761 % 4294967296 = omega arith in
+      rw e (ap (hash_from h) (sym (next_byte x i l)) ∙ v)
 
   pub hash_done : length x ≤ i → h ≡ hash_of x
   unfolding hash_from

@@ -18,13 +18,13 @@ use Rattle.name_filter.specs.Bits.{filter_bytes, low_bit, high_bit, turned, pair
 -- ---- what code tests, sets and makes zero
 
 module _ (F : List ℕ) (h a : ℕ) (e : a ≡ bit F 0 (h % 131072)) where
-  pub pair_low : a ≡ 0 → false ≡ pair_in F h
+  pub pair_low : (a ≡ 1 → ⊥) → false ≡ pair_in F h
   unfolding pair_in
-  pair_low z = sym (ap (λ (b : Bool). b && eqb (bit F 0 (high_bit h)) 1) (ne_eqb (bit F 0 (low_bit h)) 1 (λ o. omega arith)))
+  pair_low z = sym (ap (λ (b : Bool). b && eqb (bit F 0 (high_bit h)) 1) (ne_eqb (bit F 0 (low_bit h)) 1 (λ o. z (e ∙ o))))
 
-  pub pair_both : (b : ℕ) → a < 2 → (a ≡ 0 → ⊥) → b ≡ bit F 0 (h / 32768) → eqb b 1 ≡ pair_in F h
+  pub pair_both : (b : ℕ) → a ≡ 1 → b ≡ bit F 0 (h / 32768) → eqb b 1 ≡ pair_in F h
   unfolding pair_in
-  pair_both b l z f =
+  pair_both b z f =
       let o : bit F 0 (low_bit h) ≡ 1 = omega arith in
       ap (λ (y : ℕ). eqb y 1) f ∙ sym (ap (λ (t : Bool). t && eqb (bit F 0 (high_bit h)) 1) (eq-eqb (bit F 0 (low_bit h)) 1 o))
 

@@ -25,14 +25,14 @@ use Rattle.model.proofs.Paths.{sub_in}
 use Rattle.bitmap_block.specs.Bitmap.{mark}
 use Rattle.bitmap_block.proofs.Stores.{mark_is, mark_kept}
 use Rattle.dir_entry.specs.Entry.{place_at}
-use Rattle.read_dir.specs.declared.Summed.{Summed}
+use Rattle.std.specs.Prelude.{Result}
+use Rattle.std.specs.declared.option.Option.TheVariants as option
+use Rattle.limits.specs.declared.Damage.{Damage}
 use Rattle.read_dir.specs.Walk.{walk}
 use Rattle.read_dir.specs.Finds.{sum_from}
 use Rattle.thm_walk.proofs.Parts.{Part}
 use Rattle.thm_walk.proofs.Walks.{part_sum}
-use Rattle.own_entry.specs.declared.Own.{Own}
-use Rattle.own_entry.specs.declared.Own.TheVariants.{Root, At}
-use Rattle.own_entry.specs.Own.{own_renewed, own_summed, sum_renewed, OwnOf}
+use Rattle.own_entry.specs.Own.{Own, own_renewed, own_summed, sum_renewed, OwnOf}
 
 -- What is so of J, in which all is stored but the directory's own entry: s is the directory, and u what it becomes.
 pub record Made (g : Geo) (I J : List ℕ) (d : ℕ) (t : Tree d) (e : ℕ) (s u : Tree e) : Type 0 where
@@ -163,16 +163,16 @@ renewed_makes : (g : Geo) (I J : List ℕ) (d : ℕ) (t : Tree d) (p : List Name
     → Made g I J d t s.0 s.1 (f s.0 s.1) → OwnOf (block_size g) d p t own → now < 2 ^ 64
     → Makes g d t (edit d p (λ _. now) f t) I (own_renewed (block_size g) J own (sum (f s.0 s.1)) now)
 unfolding find edit own_time
-renewed_makes g I J zero t [] now f s Root v h m o small =
+renewed_makes g I J zero t [] now f s option.None v h m o small =
     let k : (zero, t) ≡ s = cc in
     root_makes g I J zero t (f zero t) v (subst (λ (z : Some). Made g I J zero t z.0 z.1 (f z.0 z.1)) (sym k) m)
-renewed_makes g I J (suc d) t [] now f s Root v h m o small =
+renewed_makes g I J (suc d) t [] now f s option.None v h m o small =
     let k : (suc d, t) ≡ s = cc in
     root_makes g I J (suc d) t (f (suc d) t) v (subst (λ (z : Some). Made g I J (suc d) t z.0 z.1 (f z.0 z.1)) (sym k) m)
-renewed_makes g I J zero t [] now f s (At q) v h m o small = absurd (not_some refl o)
-renewed_makes g I J (suc d) t [] now f s (At q) v h m o small = absurd (not_some refl o)
-renewed_makes g I J d t (n ∷ p) now f s Root v h m o small = let z : suc (length p) ≡ 0 = ap length o in absurd (omega arith)
-renewed_makes g I J d t (n ∷ p) now f s (At q) v h m o small =
+renewed_makes g I J zero t [] now f s (option.Some q) v h m o small = absurd (not_some refl o)
+renewed_makes g I J (suc d) t [] now f s (option.Some q) v h m o small = absurd (not_some refl o)
+renewed_makes g I J d t (n ∷ p) now f s option.None v h m o small = let z : suc (length p) ≡ 0 = ap length o in absurd (omega arith)
+renewed_makes g I J d t (n ∷ p) now f s (option.Some q) v h m o small =
     let c = own_cut (block_size g) d n p (λ _. now) f t s h in
     let e : c.place + 9 ≡ place_at (block_size g) q.block.0 q.offset + 9 = some_one _ _ (own_time (block_size g) d (n ∷ p) t) c.own o in
     let k : c.place ≡ place_at (block_size g) q.block.0 q.offset = omega arith in
@@ -191,5 +191,5 @@ sum_makes g I J d t p now f s own v h m o small =
       good = c.good;
     } in
     let e = ap (λ (a : ℕ). sum_from 0 (walk (area_of g) J a)) (sym c.first) ∙ part_sum g J s.0 (f s.0 s.1) q in
-    subst (λ (z : Summed). Makes g d t (edit d p (λ _. now) f t) I (own_summed (block_size g) J own now z)) (sym e)
+    subst (λ (z : Result ℕ Damage). Makes g d t (edit d p (λ _. now) f t) I (own_summed (block_size g) J own now z)) (sym e)
     (renewed_makes g I J d t p now f s own v h m o small)

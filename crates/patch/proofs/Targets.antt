@@ -3,7 +3,7 @@ use mathlib.Core.Path.{◌≡◌, refl, sym, ap, ◌∙◌, subst}
 use mathlib.Core.Bool.{true, false}
 use mathlib.Core.Logic.{◌⊎◌, inl, inr}
 use mathlib.Core.List.{List, ◌++◌}
-use Prim.Native.Nat.{ℕ, ◌+◌, ◌-◌, ◌^◌, ◌≤◌, ◌<◌}
+use Prim.Native.Nat.{ℕ, ◌+◌, ◌^◌, ◌≤◌, ◌<◌}
 use native.Mathlib.Decide.{dec_lt}
 use native.Mathlib.Omega.{arith}
 use lib.ListN.{length, length-append}
@@ -42,20 +42,20 @@ module _ (g : Geo) (I : List ℕ) (t : Tree max_depth) (v : Volume g I max_depth
 
     stale_target : Stale max_depth t h → patch_target g I h len ≡ refused 11
     unfolding and_then
-    stale_target s = aim_then g I h len nonzero ∙ ap (λ (x : Reply Target). and_then x (λ t. ends_at h len t.entry t.place)) (stale_held g I t v h s)
+    stale_target s = aim_then g I h len nonzero ∙ ap (λ (x : Reply Target). and_then x (ends_at h len)) (stale_held g I t v h s)
 
     module _ (fields : stale_fields h ≡ false) (q : OnFile max_depth t h) where
-      on_file : patch_target g I h len ≡ ends_at h len (aimed g I t v h q).entry (aimed g I t v h q).place
+      on_file : patch_target g I h len ≡ ends_at h len (aimed g I t v h q)
       unfolding and_then
-      on_file = aim_then g I h len nonzero ∙ ap (λ (x : Reply Target). and_then x (λ t. ends_at h len t.entry t.place)) (on_held g I t v h fields q)
+      on_file = aim_then g I h len nonzero ∙ ap (λ (x : Reply Target). and_then x (ends_at h len)) (on_held g I t v h fields q)
 
       past-target : h.size < h.position + len → patch_target g I h len ≡ refused 19
       unfolding past_end
-      past-target l = on_file ∙ sym (ends-past h len (aimed g I t v h q).entry (aimed g I t v h q).place true (sym (lt-ltb h.size (h.position + len) l)) refl)
+      past-target l = on_file ∙ sym (ends-past h len (aimed g I t v h q) true (sym (lt-ltb h.size (h.position + len) l)) refl)
 
       pub good_patch : h.position + len ≤ h.size → patch_target g I h len ≡ accepted (aimed g I t v h q)
       unfolding past_end aimed
-      good_patch l = on_file ∙ sym (ends_in h len (aimed g I t v h q).entry (aimed g I t v h q).place false (sym (le-ltb h.size (h.position + len) l)) refl)
+      good_patch l = on_file ∙ sym (ends_in h len (aimed g I t v h q) false (sym (le-ltb h.size (h.position + len) l)) refl)
 
   -- Every patch has one of four answers.
   pub patch_cases : (len : ℕ) (P : Reply Target → Type 0) → (len ≡ 0 → P (refused 13)) → (1 ≤ len → Stale max_depth t h → P (refused 11))

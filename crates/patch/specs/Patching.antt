@@ -3,8 +3,6 @@
 use Rattle.std.specs.Prelude.{◌≡◌, Bool, List, ℕ, ◌+◌, ltb, eqb, length}
 use Rattle.model.specs.Answers.{Reply, accepted, refused, when, given}
 use Rattle.model.specs.Geometry.{Geo}
-use Rattle.dir_entry.specs.declared.DirEntry.{DirEntry}
-use Rattle.read_dir.specs.declared.Place.{Place}
 use Rattle.handle.specs.declared.Handle.{Handle}
 use Rattle.handle.specs.declared.CountedOut.{CountedOut}
 use Rattle.handle.specs.Handles.{moved}
@@ -16,13 +14,13 @@ use Rattle.patch_store.specs.Patch.{patched}
 unfoldable pub past_end : Handle → ℕ → Bool
 past_end h len = ltb h.size (h.position + len)
 
-abbrev pub ends_at : Handle → ℕ → DirEntry → Place → Reply Target
-ends_at h len e p = given (when 19 (past_end h len)) (accepted (record { entry = e; place = p }))
+abbrev pub ends_at : Handle → ℕ → Target → Reply Target
+ends_at h len t = given (when 19 (past_end h len)) (accepted t)
 
 module _ (g : Geo) (I : List ℕ) where
   -- O14, R13: a patch of len bytes: 13, 11, 19, or where it goes.
   unfoldable pub patch_target : Handle → ℕ → Reply Target
-  patch_target h len = given (when 13 (eqb len 0)) (where_held g I h (λ e p. ends_at h len e p))
+  patch_target h len = given (when 13 (eqb len 0)) (where_held g I h (λ t. ends_at h len t))
 
   -- The image afterwards: the buffer lies over the file's bytes, or all is as it was.
   abbrev pub patched_at : Handle → List ℕ → ℕ → Reply Target → List ℕ

@@ -1,85 +1,54 @@
 // Patching by a handle, on a checked volume: the refusals in order, then the stores of `patch_store`.
-// A refusal hands back the very handle that was given.
+// A refusal leaves the handle as it was.
+// (Image and numbers are lent apart, as bitmap_block says.)
 #![tactic(auto)]
 
-ghost use Rattle.std.specs.Prelude.{◌≡◌, ◌+◌, ◌≤◌};
-ghost use Rattle.super_block.specs.Super.{geo_of, Fit, Ready};
-ghost use Rattle.handle.specs.Handles.{moved};
-ghost use Rattle.write.specs.Written.{targeted_says};
-ghost use Rattle.patch.specs.Patching.{past_end, ends_at, patch_target, PatchIs};
+ghost use Rattle.std.specs.Prelude.{◌≡◌};
+ghost use Rattle.super_block.specs.Super.{geo_of, Ready};
+ghost use Rattle.limits.specs.Says.{says};
+ghost use Rattle.patch.specs.Patching.{past_end, patch_target, PatchIs};
 
-use dir_entry::DirEntry;
-use handle::{Counted, CountedOut, Handle};
+use handle::Handle;
 use limits::Refusal;
-use read_dir::Place;
-use super_block::SuperBlock;
-use write::Targeted;
+use read_dir::Placed;
+use super_block::{SuperBlock, Volume};
 
 // Whether len bytes at the position would end past the file's size. A length that passes it alone is told before the sum.
 fn past_end(h: Handle, len: usize) -> bool
     ensures { result ≡ past_end h len }
 {
     let size = h.size as usize;
-    if size < len {
-        return true;
-    }
-    let end = (h.position as usize) + len;
-    size < end
-}
-
-// Refusal 19 of a patch of len bytes to the file of entry e, which stands at p.
-fn ends(h: Handle, len: usize, e: DirEntry, p: Place) -> Targeted
-    ensures { targeted_says result ≡ ends_at h len e p }
-{
-    if past_end(h, len) {
-        return Targeted::Refused(Refusal::PastEnd);
-    }
-    Targeted::At(e, p)
+    size < len || size < (h.position as usize) + len
 }
 
 // Where a patch of len bytes goes, or the first of 13, 11, 19 that refuses it.
-fn target_of(h: Handle, img: &[u8], s: SuperBlock, len: usize) -> Targeted
-    requires { Fit s img.now }
-    ensures { targeted_says result ≡ patch_target (geo_of s) img.now h len }
+fn target_of(h: Handle, v: Volume, len: usize) -> Result<Placed, Refusal>
+    ensures { says result ≡ patch_target (geo_of v.entry.s) v.entry.img.now h len }
 {
     if len == 0 {
-        return Targeted::Refused(Refusal::EmptyWrite);
+        return Err(Refusal::EmptyWrite);
     }
-    match write::held(h, img, s) {
-        Targeted::At(e, p) => ends(h, len, e, p),
-        Targeted::Refused(r) => Targeted::Refused(r),
+    let at = write::held(h, v)?;
+    if past_end(h, len) {
+        return Err(Refusal::PastEnd);
     }
+    Ok(at)
 }
 
-// The handle behind len bytes of its file.
-fn behind(mut h: Handle, len: u32) -> Handle
-    requires { h.position + len ≤ 2147483647 }
-    ensures { result ≡ moved h (h.position + len) }
-{
-    let from = h.position;
-    let end = from + len;
-    h.position = end;
-    h
-}
-
-// The buffer lies over the file's bytes from the position on. Refused by 13, 11 or 19, or the handle past what was patched.
-pub fn patch(h: Handle, img: &mut [u8], s: SuperBlock, buf: &[u8], time: u64) -> CountedOut
+// The buffer lies over the file's bytes from the position on. Refused by 13, 11 or 19, or the handle is past what was patched.
+pub fn patch(
+    handle: &mut Handle,
+    img: &mut [u8],
+    s: SuperBlock,
+    buf: &[u8],
+    time: u64,
+) -> Result<usize, Refusal>
     requires { Ready s img.old }
-    ensures { PatchIs (geo_of s) h buf.now time img.old img.new result }
+    ensures { PatchIs (geo_of s) handle.old buf.now time img.old img.new (record { answer = result; handle = handle.new }) }
 {
-    let targeted = target_of(h, img, s, buf.len());
-    match targeted {
-        Targeted::Refused(r) => CountedOut {
-            answer: Counted::Refused(r),
-            handle: h,
-        },
-        Targeted::At(e, p) => {
-            let c = h.position;
-            patch_store::patch(img, s, e, p, c, buf, time);
-            CountedOut {
-                answer: Counted::Bytes(buf.len()),
-                handle: behind(h, buf.len() as u32),
-            }
-        }
-    }
+    let at = target_of(*handle, Volume { img, s }, buf.len())?;
+    let c = handle.position;
+    patch_store::patch(img, s, at, c, buf, time);
+    handle.position = c + (buf.len() as u32);
+    Ok(buf.len())
 }

@@ -3,18 +3,17 @@ use mathlib.Core.Path.{◌≡◌, refl, sym, ap, ◌∙◌, subst}
 use mathlib.Core.Logic.{◌⊎◌, inl, inr}
 use mathlib.Core.List.{List, [], ◌∷◌, ◌++◌}
 use Prim.Native.Nat.{ℕ, suc, ◌+◌, ◌-◌, ◌*◌, ◌≤◌, ◌<◌}
-use native.Mathlib.Nat.{add_comm, mul-zero, mul-suc}
 use native.Mathlib.Decide.{dec_lt, ℕ_discrete}
 use native.Mathlib.Omega.{arith}
 use lib.ListN.{length, get_or, take, drop, length-append, length-drop, get_or-append}
-use lib.Seq.{length-take-le, take-add, take_all, get_or-take, get_or-drop, get_or-append-add, ext_get_or}
+use lib.Seq.{length-take-le, get_or-take, get_or-drop, get_or-append-add, ext_get_or}
 use Rattle.wire.specs.Be.{bytes, splice}
 use Rattle.wire.proofs.Numbers.{length_bytes, length-splice, splice_before, splice_in, splice-after}
 use Rattle.model.specs.Tree.{Cell}
 use Rattle.model.specs.Render.{cells_at, cell_pieces, count, Shows, ShowsAll}
 use Rattle.model.specs.Volume.{All, GoodCell}
 use Rattle.model.specs.Calls.{stream, places, chop, overlaid}
-use Rattle.model.proofs.Contents.{length-stream, length-places}
+use Rattle.model.proofs.Contents.{length-stream, length-places, stream-overlaid}
 use Rattle.model.proofs.Counts.{count_none, count_other}
 use Rattle.write_store.proofs.Chops.{chop_same}
 use Rattle.patch_store.specs.Torn.{BlockAs, Mixture}
@@ -28,12 +27,6 @@ first_place (c ∷ cs) = refl
 
 pub same_first : (cs ds : List Cell) → places cs ≡ places ds → cells_at cs ≡ cells_at ds
 same_first cs ds e = first_place cs ∙ ap (λ (l : List ℕ). get_or l 0 0) e ∙ sym (first_place ds)
-
--- The blocks hold as many of the bytes as they have room for.
-stream-chop : (w : ℕ) (xs l : List ℕ) → stream (chop w xs l) ≡ take (w * length xs) l
-unfolding stream chop
-stream-chop w [] l = rw mul-zero
-stream-chop w (a ∷ xs) l = rw (mul-suc, add_comm (w * length xs) w, take-add w (w * length xs) l, stream-chop w xs (drop w l))
 
 -- ---- the links
 
@@ -84,7 +77,7 @@ module _ (B : ℕ) (large : 4 ≤ B) (I J L : List ℕ) (each : (b : ℕ) → Bl
       let lm : length (bytes 4 y ++ m) ≡ B = length-append (bytes 4 y) m ∙ omega (arith, length_bytes 4 y) in
       let behind : (z : ℕ) (n : List ℕ) → get_or (bytes 4 z ++ n) (4 + i) 0 ≡ get_or n i 0
       = λ z n. ap (λ (j : ℕ). get_or (bytes 4 z ++ n) (j + i) 0) (sym (length_bytes 4 z)) ∙ get_or-append-add (bytes 4 z) n i 0 in
-      sym (behind x l) ∙ sym (s (4 + i) (omega arith)) ∙ q (4 + i) k ∙ r (4 + i) (omega arith) ∙ behind y m)
+      sym (behind x l) ∙ sym (s (4 + i) (omega arith)) ∙ q (4 + i) (omega (arith, k)) ∙ r (4 + i) (omega arith) ∙ behind y m)
 
   pub mixed : (cs ds : List Cell) → places ds ≡ places cs → All (GoodCell B) cs → All (GoodCell B) ds → ShowsAll B I (cell_pieces cs) → ShowsAll B J (cell_pieces ds)
       → Mixed B I J L cs ds
@@ -117,8 +110,8 @@ module _ (B : ℕ) (large : 4 ≤ B) (I J L : List ℕ) (each : (b : ℕ) → Bl
             shown = (x, m.shown);
             mixture = (
               (
-                body_one I c.at (cells_at m.cells) (cells_at cs) l c.body k g.0.whole x s.0,
-                body_one J c.at (cells_at m.cells) (cells_at ds) l d.body k h.0.whole x J-shows,
+                λ q. search (body_one I c.at (cells_at m.cells) (cells_at cs) l c.body k g.0.whole x s.0 q),
+                λ q. search (body_one J c.at (cells_at m.cells) (cells_at ds) l d.body k h.0.whole x J-shows q),
               ),
               m.mixture,
             );
@@ -183,11 +176,7 @@ module _ (B : ℕ) (cs es : List Cell) (c : ℕ) (buf : List ℕ) (spots : place
   long_mixed = length-take-le (length buf) (drop c (stream es)) (omega (arith, length-drop c (stream es), long_new))
 
   over_is : stream (overlaid B c buf cs) ≡ splice (stream cs) c buf
-  unfolding overlaid
-  over_is =
-      stream-chop (B - 4) (places cs) (splice (stream cs) c buf)
-      ∙ take_all ((B - 4) * length (places cs)) (splice (stream cs) c buf)
-      (omega (arith, length-splice (stream cs) c buf (omega (arith, long_old)), long_old, ap (λ (k : ℕ). (B - 4) * k) (length-places cs)))
+  over_is = stream-overlaid B c buf cs long_old inside
 
   -- outside the buffer's place they are the old ones
   outside : (i : ℕ) → get_or (splice (stream cs) c buf) i 0 ≡ get_or (stream cs) i 0 → get_or (stream es) i 0 ≡ get_or (stream cs) i 0

@@ -16,7 +16,7 @@ use Rattle.dir_entry.specs.declared.DirEntry.{DirEntry}
 use Rattle.dir_entry.specs.Shown.{head_of}
 use Rattle.read_dir.specs.declared.Place.{Place}
 use Rattle.thm_walk.specs.Shown.{spot_of}
-use Rattle.own_entry.specs.declared.Own.TheVariants as own
+use Rattle.std.specs.declared.option.Option.TheVariants as option
 use Rattle.own_entry.specs.Own.{own_renewed}
 use Rattle.write_store.specs.Write.{resized, spread, wrote, HeldCells, CanWrite}
 use Rattle.write_store.proofs.Resizes.{resized_same}
@@ -79,6 +79,10 @@ module _ (g : Geo) (I : List ℕ) (t : Tree max_depth) (p : List Name) (n : Name
 
   -- ---- the image
 
+  -- An entry is renewed alike with the same size over the same bytes.
+  renewed_as : (now : ℕ) (X Y : List ℕ) (y z : ℕ) → X ≡ Y → y ≡ z → own_renewed (block_size g) X (option.Some at) y now ≡ own_renewed (block_size g) Y (option.Some at) z now
+  renewed_as now X Y y z a b = λ i. own_renewed (block_size g) (a i) (option.Some at) (b i) now
+
   -- The stores of a patch are those of a write of the buffer and of the file's own bytes behind it.
   pub patched-wrote : (now : ℕ) → patched g I e at c buf now ≡ wrote g I e at c (buf ++ tail_from z cs (c + length buf)) now
   unfolding patched wrote
@@ -91,8 +95,8 @@ module _ (g : Geo) (I : List ℕ) (t : Tree max_depth) (p : List Name) (n : Name
       = ap (λ (a : ℕ). spread B I a c buf (blocks_for B (c + length buf))) head_addr
       ∙ sym (tail-spread g I v.laid.sound z cs good held c buf some_bytes inside)
       ∙ ap (λ (a : ℕ). spread B I a c vs m) (sym head_addr) in
-      (λ i. own_renewed B (bytes i) (own.At at) ((head_size ∙ sym whole_end) i) now)
-      ∙ ap (λ (J : List ℕ). own_renewed B (spread B J e.addr.0 c vs m) (own.At at) (c + length vs) now) old
+      renewed_as now _ _ _ _ bytes (omega (arith, head_size, whole_end))
+      ∙ ap (λ (J : List ℕ). own_renewed B (spread B J e.addr.0 c vs m) (option.Some at) (c + length vs) now) old
 
   -- C19: for every well-formed volume and every file in it, the image that `patch` leaves (its contract) is that of `TreePatches`.
   pub patched_is : (now : ℕ) → now < 2 ^ 64 → TreePatches g max_depth p n now c buf t I (patched g I e at c buf now)

@@ -16,7 +16,7 @@ use Rattle.model.specs.Volume.{All, blocks_for, GoodCell, GoodFile}
 use Rattle.model.specs.Calls.{contents, stream, places, chop, rewrite, overlaid}
 use Rattle.model.proofs.Alike.{alike_refl}
 use Rattle.model.proofs.Areas.{size_large}
-use Rattle.model.proofs.Contents.{blocks-some, blocks_enough, blocks_least, length-stream, length-places, rewrite-places, rewrite_good, contents-rewrite}
+use Rattle.model.proofs.Contents.{blocks-some, blocks_enough, blocks_least, length-stream, length-places, rewrite_good, contents-rewrite, places-overlaid}
 use Rattle.model.proofs.Counts.{ats_cells}
 use Rattle.model.proofs.Demand.{shown_near}
 use Rattle.model.proofs.Full.{whole_cells}
@@ -103,10 +103,7 @@ module _ (B z : ℕ) (cs : List Cell) (five : 5 ≤ B) (good : GoodFile B z cs) 
     whole_room = omega (arith, ap (blocks_for B) tail_end, good.long)
 
     pub overlaid-places : places (overlaid B c buf cs) ≡ places cs
-    overlaid-places =
-        let m : blocks_for B (c + length whole) ≡ length cs = ap (blocks_for B) tail_end ∙ sym good.long in
-        ap places (sym (tail-chain [])) ∙ rewrite-places B z c [] whole cs five good (omega arith) whole_room
-        ∙ ap (λ (k : ℕ). take k (places cs ++ [])) m ∙ take_at (places cs) [] (length cs) (length-places cs)
+    overlaid-places = places-overlaid B c buf cs
 
     pub overlaid_good : GoodFile B z (overlaid B c buf cs)
     overlaid_good =

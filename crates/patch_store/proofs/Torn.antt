@@ -327,7 +327,7 @@ module _ (g : Geo) (I : List ℕ) (t : Tree max_depth) (p : List Name) (n : Name
           go (no m) (no d) (inr w) = w i h ∙ elsewhere buf some_bytes inside now b i (omega arith) d h ∙ sym (elsewhere vs some_vs ends_vs τ b i (omega arith) d h)
 
       whole_image : L ≡ patched g I e at c vs τ
-      whole_image = ext_get_or 0 L _ (r.long ∙ sym (patched_long vs some_vs ends_vs τ)) (λ j h.
+      whole_image = ext_get_or 0 L _ (omega (arith, r.long, patched_long vs some_vs ends_vs τ)) (λ j h.
           let a : B * (j / B) + j % B ≡ j = div-add-mod j B in
           ap (λ (y : ℕ). get_or L y 0) (sym a) ∙ at_block (j / B) (j % B) (mod-lt j (omega (arith, size_large g))) ∙ ap (λ (y : ℕ). get_or (patched g I e at c vs τ) y 0) a)
 

@@ -4,7 +4,7 @@ use Rattle.model.specs.Geometry.{Geo, block_size}
 use Rattle.model.specs.Volume.{file_limit, blocks_for}
 use Rattle.dir_entry.specs.declared.DirEntry.{DirEntry}
 use Rattle.read_dir.specs.declared.Place.{Place}
-use Rattle.own_entry.specs.declared.Own.TheVariants as own
+use Rattle.std.specs.declared.option.Option.TheVariants as option
 use Rattle.own_entry.specs.Own.{own_renewed}
 use Rattle.write_store.specs.Write.{spread, Chained, Stands}
 
@@ -14,7 +14,7 @@ unfoldable pub patched : Geo → List ℕ → DirEntry → Place → ℕ → Lis
 patched g I e p c vs time =
     own_renewed (block_size g)
     (spread (block_size g) I e.addr.0 c vs (blocks_for (block_size g) (c + length vs)))
-    (own.At p) e.size time
+    (option.Some p) e.size time
 
 -- The other side of refusals 13, 11 and 19, and a file as the check leaves it.
 pub record CanPatch (g : Geo) (I : List ℕ) (e : DirEntry) (p : Place) (c len : ℕ) : Type 0 where

@@ -1,161 +1,154 @@
--- The laws of `untrailed`, `trimmed`, `before_name`, `last_name` and `dir_part`, by the last byte, as a loop from the end meets them.
-use mathlib.Core.Path.{◌≡◌, refl, sym, ap, ◌∙◌, subst}
-use mathlib.Core.List.{List, [], ◌∷◌, ◌++◌}
-use Prim.Native.Nat.{ℕ, zero, suc, ◌-◌, ◌≤◌, ◌<◌}
-use native.Mathlib.Nat.{sub-zero, zero-sub, suc-sub-suc}
+-- The laws of `untrailed`, `before_name`, `unled` and `split` by where the first or the last byte is that is a slash, or that is none.
+use mathlib.Core.Path.{◌≡◌, refl, sym, ap, ◌∙◌}
+use mathlib.Core.List.{List, [], ◌∷◌}
+use Prim.Native.Nat.{ℕ, zero, suc, ◌+◌, ◌-◌, ◌≤◌, ◌<◌}
+use native.Mathlib.Numerals.{add-one}
 use native.Mathlib.Omega.{arith}
-use lib.ListN.{length, get_or, take, drop, length-drop}
-use lib.Seq.{take-suc, take-nil, take-take, length-take-le}
-use borrow.Author.Tests.{lt-ltb, le-ltb, ne_eqb}
+use lib.ListN.{length, get_or, take, drop}
+use borrow.Author.Tests.{eq-eqb, ne_eqb, lt-ltb, le-ltb}
+use Rattle.std.proofs.lemmas.Slice.{between_to_end}
 use Rattle.wire.proofs.Picks.{pick_true, pick_false}
-use Rattle.path.specs.Path.{slash, untrailed, trimmed, before_name, last_name, dir_part}
-use Rattle.path.specs.Post.{between, PartsIs}
-use Rattle.path.specs.declared.Parts.{Parts}
+use Rattle.path.specs.Path.{slash, untrailed, trimmed, before_name, last_name, dir_part, unled, split}
+use Rattle.path.proofs.Pieces.{front, split-none, split-slash, split_other}
 
--- ---- one byte more at the end
+-- what holds of the bytes of a list holds of those behind the first
+module _ (P : ℕ → Type 0) (c : ℕ) (l : List ℕ) where
+  all_less : ((k : ℕ) → k < length (c ∷ l) → P (get_or (c ∷ l) k 0)) → (k : ℕ) → k < length l → P (get_or l k 0)
+  all_less f k h = f (suc k) (omega arith)
 
-untrailed-slash : (l : List ℕ) → untrailed (l ++ slash ∷ []) ≡ untrailed l
-unfolding untrailed
-untrailed-slash [] = refl
-untrailed-slash (c ∷ l) = rw (untrailed-slash l)
+  all_after : ((k : ℕ) → 0 < k → k < length (c ∷ l) → P (get_or (c ∷ l) k 0)) → (k : ℕ) → k < length l → P (get_or l k 0)
+  all_after f k h = f (suc k) (omega arith) (omega arith)
 
-untrailed_other : (l : List ℕ) (d : ℕ) → (d ≡ slash → ⊥) → untrailed (l ++ d ∷ []) ≡ suc (length l)
-unfolding untrailed
-untrailed_other [] d h = rw (ne_eqb d slash h)
-untrailed_other (c ∷ l) d h = rw (untrailed_other l d h)
+  less_after : (i : ℕ) → ((k : ℕ) → suc i < k → k < length (c ∷ l) → P (get_or (c ∷ l) k 0))
+      → (k : ℕ) → i < k → k < length l → P (get_or l k 0)
+  less_after i f k g h = f (suc k) (omega arith) (omega arith)
 
-before_slash : (l : List ℕ) → before_name (l ++ slash ∷ []) ≡ suc (length l)
+  less_before : (i : ℕ) → ((k : ℕ) → k < suc i → P (get_or (c ∷ l) k 0)) → (k : ℕ) → k < i → P (get_or l k 0)
+  less_before i f k h = f (suc k) (omega arith)
+
+abbrev IsSlash : ℕ → Type 0
+IsSlash x = x ≡ slash
+
+abbrev IsOther : ℕ → Type 0
+IsOther x = x ≡ slash → ⊥
+
+-- ---- the last name
+
+before_all : (s : List ℕ) → ((k : ℕ) → k < length s → get_or s k 0 ≡ slash → ⊥) → before_name s ≡ 0
 unfolding before_name
-before_slash [] = refl
-before_slash (c ∷ l) = rw (before_slash l)
+before_all [] f = refl
+before_all (c ∷ l) f =
+    let d : c ≡ slash → ⊥ = f 0 (omega arith) in
+    rw (before_all l (all_less IsOther c l f), ne_eqb c slash d)
 
-before_other : (l : List ℕ) (d : ℕ) → (d ≡ slash → ⊥) → before_name (l ++ d ∷ []) ≡ before_name l
+before_last : (s : List ℕ) (i : ℕ) → i < length s → get_or s i 0 ≡ slash
+    → ((k : ℕ) → i < k → k < length s → get_or s k 0 ≡ slash → ⊥) → before_name s ≡ suc i
 unfolding before_name
-before_other [] d h = rw (ne_eqb d slash h)
-before_other (c ∷ l) d h = rw (before_other l d h)
+before_last [] i h e f = absurd (omega arith)
+before_last (c ∷ l) zero h e f = rw (before_all l (all_after IsOther c l f), eq-eqb c slash e)
+before_last (c ∷ l) (suc i) h e f = rw (before_last l i (omega arith) e (less_after IsOther c l i f))
 
--- ---- the first n bytes, from the last of them down
+-- ---- the slashes at the end
 
-module _ (full : List ℕ) (n : ℕ) (some : 0 < n) (inside : n ≤ length full) where
-  last_byte : take n full ≡ take (n - 1) full ++ (get_or full (n - 1) 0 ∷ [])
-  last_byte =
-      let e : suc (n - 1) ≡ n = omega arith in
-      subst (λ (m : ℕ). take m full ≡ take (n - 1) full ++ (get_or full (n - 1) 0 ∷ [])) e (take-suc full (n - 1) 0 (omega arith))
-
-  last_long : suc (length (take (n - 1) full)) ≡ n
-  last_long = let e = length-take-le (n - 1) full (omega arith) in omega arith
-
-  untrailed_on : get_or full (n - 1) 0 ≡ slash → untrailed (take n full) ≡ untrailed (take (n - 1) full)
-  untrailed_on e = ap untrailed last_byte ∙ rw e (untrailed-slash (take (n - 1) full))
-
-  untrailed_stop : (get_or full (n - 1) 0 ≡ slash → ⊥) → untrailed (take n full) ≡ n
-  untrailed_stop h = ap untrailed last_byte ∙ untrailed_other (take (n - 1) full) (get_or full (n - 1) 0) h ∙ last_long
-
-  before_on : (get_or full (n - 1) 0 ≡ slash → ⊥) → before_name (take n full) ≡ before_name (take (n - 1) full)
-  before_on h = ap before_name last_byte ∙ before_other (take (n - 1) full) (get_or full (n - 1) 0) h
-
-  before_stop : get_or full (n - 1) 0 ≡ slash → before_name (take n full) ≡ n
-  before_stop e = ap before_name last_byte ∙ rw e (before_slash (take (n - 1) full)) ∙ last_long
-
-untrailed-none : (full : List ℕ) (n : ℕ) → n ≤ 0 → untrailed (take n full) ≡ n
+untrailed_all : (s : List ℕ) → ((k : ℕ) → k < length s → get_or s k 0 ≡ slash) → untrailed s ≡ 0
 unfolding untrailed
-untrailed-none full zero h = refl
-untrailed-none full (suc n) h = absurd (omega arith)
+untrailed_all [] f = refl
+untrailed_all (c ∷ l) f =
+    let d : c ≡ slash = f 0 (omega arith) in
+    rw (untrailed_all l (all_less IsSlash c l f), eq-eqb c slash d)
 
-before_none : (full : List ℕ) (n : ℕ) → n ≤ 0 → before_name (take n full) ≡ n
-unfolding before_name
-before_none full zero h = refl
-before_none full (suc n) h = absurd (omega arith)
+untrailed_last : (s : List ℕ) (i : ℕ) → i < length s → (get_or s i 0 ≡ slash → ⊥)
+    → ((k : ℕ) → i < k → k < length s → get_or s k 0 ≡ slash) → untrailed s ≡ suc i
+unfolding untrailed
+untrailed_last [] i h e f = absurd (omega arith)
+untrailed_last (c ∷ l) zero h e f = rw (untrailed_all l (all_after IsSlash c l f), ne_eqb c slash e)
+untrailed_last (c ∷ l) (suc i) h e f = rw (untrailed_last l i (omega arith) e (less_after IsSlash c l i f))
 
--- ---- where the trailing slashes begin, with those after n known
-
-module _ (full : List ℕ) (len : ℕ) (inside : len ≤ length full) where
-  pub trim_short : len ≤ 1 → take len full ≡ trimmed (take len full)
+module _ (l : List ℕ) where
+  pub trim_short : length l ≤ 1 → l ≡ trimmed l
   unfolding trimmed
-  trim_short h = sym (pick_false _ _ (rw (length-take-le len full inside) (le-ltb 1 len h)))
+  trim_short h = sym (pick_false _ _ (le-ltb 1 (length l) h))
 
-  module _ (n : ℕ) (below : n ≤ len) (i : untrailed (take n full) ≡ untrailed (take len full)) where
-    trim_at : 1 < len → untrailed (take n full) ≡ n → take n full ≡ trimmed (take len full)
-    unfolding trimmed
-    trim_at h e =
-        let u : untrailed (take len full) ≡ n = sym i ∙ e in
-        sym (pick_true _ _ (rw (length-take-le len full inside) (lt-ltb 1 len h)) ∙ rw u (take-take n len full below))
+  pub trim_all : 1 < length l → ((k : ℕ) → k < length l → get_or l k 0 ≡ slash) → [] ≡ trimmed l
+  unfolding trimmed
+  trim_all h f = sym (pick_true _ _ (lt-ltb 1 (length l) h) ∙ rw (untrailed_all l f))
 
-    pub trim_stop : 1 < len → 0 < n → (get_or full (n - 1) 0 ≡ slash → ⊥) → take n full ≡ trimmed (take len full)
-    trim_stop h p d = trim_at h (untrailed_stop full n p (omega arith) d)
+  pub trim_last : (i : ℕ) → 1 < length l → i < length l → (get_or l i 0 ≡ slash → ⊥)
+      → ((k : ℕ) → i < k → k < length l → get_or l k 0 ≡ slash) → take (i + 1) l ≡ trimmed l
+  unfolding trimmed
+  trim_last i h g e f = sym (pick_true _ _ (lt-ltb 1 (length l) h) ∙ rw (untrailed_last l i g e f, add-one))
 
-    pub trim_done : 1 < len → n ≤ 0 → take n full ≡ trimmed (take len full)
-    trim_done h p = trim_at h (untrailed-none full n p)
+-- ---- the parts of l, by what is left of it without the slashes at its end
 
-    pub trim_on : 0 < n → get_or full (n - 1) 0 ≡ slash → untrailed (take (n - 1) full) ≡ untrailed (take len full)
-    trim_on p e = sym (untrailed_on full n p (omega arith) e) ∙ i
+module _ (l m : List ℕ) (t : m ≡ trimmed l) where
+  module _ (f : (k : ℕ) → k < length m → get_or m k 0 ≡ slash → ⊥) where
+    pub dir_none : [] ≡ dir_part l
+    unfolding dir_part
+    dir_none = rw (← t, before_all m f)
 
--- ---- where the last name begins, with the bytes after n known
+    pub name_whole : m ≡ last_name l
+    unfolding last_name
+    name_whole = rw (← t, before_all m f)
 
-module _ (full : List ℕ) (end n : ℕ) (inside : end ≤ length full) (below : n ≤ end) (i : before_name (take n full) ≡ before_name (take end full)) where
-  pub name_stop : 0 < n → get_or full (n - 1) 0 ≡ slash → n ≡ before_name (take end full)
-  name_stop p e = sym (before_stop full n p (omega arith) e) ∙ i
+  module _ (i : ℕ) (h : i < length m) (e : get_or m i 0 ≡ slash) (f : (k : ℕ) → i < k → k < length m → get_or m k 0 ≡ slash → ⊥) where
+    pub dir_first : i ≡ 0 → take 1 m ≡ dir_part l
+    unfolding dir_part
+    dir_first z = rw (← t, before_last m i h e f, z)
 
-  pub name_done : n ≤ 0 → n ≡ before_name (take end full)
-  name_done p = sym (before_none full n p) ∙ i
+    pub dir_later : (i ≡ 0 → ⊥) → take i m ≡ dir_part l
+    unfolding dir_part
+    dir_later d = go i refl
+      where
+        go : (j : ℕ) → i ≡ j → take i m ≡ dir_part l
+        go zero z = absurd (d z)
+        go (suc j) z = rw (← t, before_last m i h e f, z)
 
-  pub name_on : 0 < n → (get_or full (n - 1) 0 ≡ slash → ⊥) → before_name (take (n - 1) full) ≡ before_name (take end full)
-  name_on p d = sym (before_on full n p (omega arith) d) ∙ i
+    pub name_first : i ≡ 0 → take (length m - 1) (drop 1 m) ≡ last_name l
+    unfolding last_name
+    name_first z = between_to_end m 1 (length m) (omega arith) ∙ rw (← t, before_last m i h e f, z)
 
--- ---- the parts
+    pub name_after : take (length m - (i + 1)) (drop (i + 1) m) ≡ last_name l
+    unfolding last_name
+    name_after =
+        between_to_end m (i + 1) (length m) (omega arith)
+        ∙ rw (← t, before_last m i h e f, add-one)
 
--- what is taken first and then dropped
-drop-take : (a e : ℕ) (l : List ℕ) → drop a (take e l) ≡ between l a e
-drop-take zero e l = rw sub-zero
-drop-take (suc a) zero l = rw zero-sub
-drop-take (suc a) (suc e) [] = sym (take-nil (suc e - suc a))
-drop-take (suc a) (suc e) (x ∷ l) = rw suc-sub-suc (drop-take a e l)
+-- ---- the slashes in front
 
-module _ (full : List ℕ) (len to from : ℕ) (inside : len ≤ length full) (to_in : to ≤ len) (below : from ≤ to)
-    (t : take to full ≡ trimmed (take len full)) (f : from ≡ before_name (take to full)) where
-  name_is : between full from to ≡ last_name (take len full)
-  unfolding last_name
-  name_is = rw (← t, ← f) (sym (drop-take from to full))
+pub unled_all : (s : List ℕ) → ((k : ℕ) → k < length s → get_or s k 0 ≡ slash) → unled s ≡ []
+unfolding unled
+unled_all [] f = refl
+unled_all (c ∷ l) f =
+    pick_true (unled l) (c ∷ l) (eq-eqb c slash (f 0 (omega arith))) ∙ unled_all l (all_less IsSlash c l f)
 
-  dir_short : from ≤ 1 → take from full ≡ dir_part (take len full)
-  unfolding dir_part
-  dir_short h = go from refl
-    where
-      go : (m : ℕ) → from ≡ m → take from full ≡ dir_part (take len full)
-      go zero e = rw (← t, ← f, e)
-      go (suc zero) e = rw (← t, ← f, e) (sym (take-take 1 to full (omega arith)))
-      go (suc (suc m)) e = absurd (omega arith)
+pub unled_first : (s : List ℕ) (i : ℕ) → i < length s → (get_or s i 0 ≡ slash → ⊥) → ((k : ℕ) → k < i → get_or s k 0 ≡ slash)
+    → unled s ≡ drop i s
+unfolding unled
+unled_first [] i h e f = absurd (omega arith)
+unled_first (c ∷ l) zero h e f = pick_false (unled l) (c ∷ l) (ne_eqb c slash e)
+unled_first (c ∷ l) (suc i) h e f =
+    pick_true (unled l) (c ∷ l) (eq-eqb c slash (f 0 (omega arith)))
+    ∙ unled_first l i (omega arith) e (less_before IsSlash c l i f)
 
-  dir_long : 1 < from → take (from - 1) full ≡ dir_part (take len full)
-  unfolding dir_part
-  dir_long h = go from refl
-    where
-      go : (m : ℕ) → from ≡ m → take (from - 1) full ≡ dir_part (take len full)
-      go zero e = absurd (omega arith)
-      go (suc zero) e = absurd (omega arith)
-      go (suc (suc m)) e =
-          let q : from - 1 ≡ suc m = omega arith in
-          rw (← t, ← f, q, e) (sym (take-take (suc m) to full (omega arith)))
+-- ---- the first piece
 
-  parts_at : (d : ℕ) → d ≤ from → take d full ≡ dir_part (take len full) → PartsIs full len (record { dir = d; from = from; to = to })
-  parts_at d h e =
-      record {
-        dir_in = omega arith;
-        from_in = below;
-        to_in = to_in;
-        from_is = f ∙ ap before_name t;
-        to_is = sym (length-take-le to full (omega arith)) ∙ ap length t;
-        dir = e;
-        name = name_is;
-      }
+pub split_whole : (s : List ℕ) → ((k : ℕ) → k < length s → get_or s k 0 ≡ slash → ⊥) → split s ≡ s ∷ []
+unfolding front
+split_whole [] f = split-none
+split_whole (c ∷ l) f =
+    split_other c l (f 0 (omega arith)) ∙ ap (front (c ∷ [])) (split_whole l (all_less IsOther c l f))
 
-  pub parts_short : from ≤ 1 → PartsIs full len (record { dir = from; from = from; to = to })
-  parts_short h = parts_at from (omega arith) (dir_short h)
+split_first : (s : List ℕ) (i : ℕ) → i < length s → get_or s i 0 ≡ slash → ((k : ℕ) → k < i → get_or s k 0 ≡ slash → ⊥)
+    → split s ≡ take i s ∷ split (drop (suc i) s)
+unfolding front
+split_first [] i h e f = absurd (omega arith)
+split_first (c ∷ l) zero h e f = split-slash c l e
+split_first (c ∷ l) (suc i) h e f =
+    split_other c l (f 0 (omega arith))
+    ∙ ap (front (c ∷ [])) (split_first l i (omega arith) e (less_before IsOther c l i f))
 
-  pub parts_long : 1 < from → PartsIs full len (record { dir = from - 1; from = from; to = to })
-  parts_long h = parts_at (from - 1) (omega arith) (dir_long h)
-
--- The last name's length, by its places.
-pub name_long : (full : List ℕ) (len : ℕ) (p : Parts) → len ≤ length full → PartsIs full len p → length (last_name (take len full)) ≡ p.to - p.from
-name_long full len p h i =
-    ap length (sym i.name) ∙ length-take-le (p.to - p.from) (drop p.from full) (rw length-drop (omega (arith, i.from_in, i.to_in)))
+pub split_at : (s : List ℕ) (i : ℕ) → i < length s → get_or s i 0 ≡ slash → ((k : ℕ) → k < i → get_or s k 0 ≡ slash → ⊥)
+    → split s ≡ take i s ∷ split (take (length s - (i + 1)) (drop (i + 1) s))
+split_at s i h e f =
+    split_first s i h e f
+    ∙ ap (λ (l : List ℕ). take i s ∷ split l) (sym (between_to_end s (i + 1) (length s) (omega arith) ∙ rw add-one))

@@ -1,27 +1,26 @@
 -- What callers need of paths: an accepted full path, the names that a path is split into, its last name and its directory part.
-use mathlib.Core.Path.{◌≡◌, refl, sym, ap, ◌∙◌, subst}
+use mathlib.Core.Path.{◌≡◌, refl, sym, ◌∙◌, subst}
 use mathlib.Core.Bool.{Bool, true, false, not, ◌||◌, ◌&&◌}
 use mathlib.Core.Logic.{◌⊎◌, inl, inr}
-use mathlib.Core.List.{List, [], ◌∷◌, ◌++◌}
-use Prim.Native.Nat.{ℕ, zero, suc, ◌≤◌}
+use mathlib.Core.List.{List, [], ◌∷◌}
+use Prim.Native.Nat.{ℕ, zero, suc}
 use native.Mathlib.Omega.{arith}
 use lib.Dec.{ltb, eqb}
-use lib.ListN.{length, take, drop, length-take}
+use lib.ListN.{length, take, drop}
 use lib.Seq.{take_at}
 use borrow.Author.Tests.{eqb-true, eqb-false, not-false}
 use Rattle.wire.specs.Be.{splice}
 use Rattle.wire.specs.Pick.{pick, same}
-use Rattle.wire.proofs.Numbers.{length-splice}
-use Rattle.wire.proofs.Picks.{either, not_both, pick_true, pick_false, and_both}
+use Rattle.wire.proofs.Picks.{either, pick_true, pick_false, and_both}
 use Rattle.model.specs.Render.{count}
-use Rattle.text.specs.Text.{Range, inside, begun, step, text_from, is_text, has_byte, is_name}
+use Rattle.text.specs.Text.{Range, in_range, begun, step, text_from, is_text, has_byte, is_name}
 use Rattle.text.proofs.Laws.{NoSlash, step_slash, from_slash}
 use Rattle.model.specs.Volume.{All}
 use Rattle.model.proofs.Counts.{count_same, count_other, count_none}
 use Rattle.model.proofs.Opens.{or_false}
 use Rattle.path.specs.Path.{slash, path_limit, starts_slash, real_path, bad_path, trimmed, untrailed, before_name, last_name}
-use Rattle.path.specs.Path.{dir_part, split, unled, steps}
-use Rattle.path.specs.Post.{Stores, FirstIs}
+use Rattle.path.specs.Path.{split, unled, steps}
+use Rattle.path.specs.Post.{Stores}
 use Rattle.path.proofs.Pieces.{front, split-none, split-slash, split_other}
 
 -- whether these bytes are a name, but for their length
@@ -47,11 +46,6 @@ behind_slash rs c l n e h =
 
 -- ---- an accepted full path
 
-starts_append : (a b : List ℕ) → starts_slash a ≡ true → starts_slash (a ++ b) ≡ true
-unfolding starts_slash
-starts_append [] b e = absurd (not_both e refl)
-starts_append (c ∷ a) b e = e
-
 module _ (cwd p : List ℕ) (h : bad_path cwd p ≡ false) where
   real_rest : (ltb path_limit (length (real_path cwd p)) || not (is_text (real_path cwd p))) ≡ false
   unfolding bad_path
@@ -62,14 +56,11 @@ module _ (cwd p : List ℕ) (h : bad_path cwd p ≡ false) where
 
 -- `/` is a good path in any working directory
 pub root_good : (cwd : List ℕ) → bad_path cwd (slash ∷ []) ≡ false
-unfolding bad_path starts_slash real_path text_from step begun inside pick
+unfolding bad_path starts_slash real_path text_from step begun in_range pick
 root_good cwd = refl
 
 -- what a buffer then holds
 module _ (bad : Bool) (q l m : List ℕ) (n : ℕ) (h : Stores bad q l m n) (long : length l ≡ path_limit) where
-  pub stores_length : length m ≡ path_limit
-  stores_length = let f = h.fits in let e = h.long in rw h.stored (length-splice l 0 q (omega arith) ∙ long)
-
   pub stores_take : take n m ≡ q
   unfolding splice
   stores_take = rw h.stored (take_at q _ n (sym h.long))
@@ -129,19 +120,6 @@ split_count (c ∷ l) = go (either (eqb c slash)) (split l) refl (split_count l)
         rw (split_other c l x, count_other slash c l (λ y. x (sym y)), e, length_front) (rw e at r)
 
 -- ---- the names on the way
-
-pub steps_is_root : (d : List ℕ) (b : Bool) → b ≡ same d (slash ∷ []) → b ≡ true → steps d ≡ []
-unfolding steps
-steps_is_root d b e t = pick_true _ _ (sym e ∙ t)
-
-steps_else : (d : List ℕ) (b : Bool) → b ≡ same d (slash ∷ []) → b ≡ false → steps d ≡ split (unled d)
-unfolding steps
-steps_else d b e f = pick_false _ _ (sym e ∙ f)
-
--- from where the leading slashes end
-pub steps_from : (full : List ℕ) (end r : ℕ) (b : Bool) → b ≡ same (take end full) (slash ∷ []) → b ≡ false → FirstIs full end r
-    → steps (take end full) ≡ split (drop r (take end full))
-steps_from full end r b e f u = steps_else (take end full) b e f ∙ ap split (sym u.rest)
 
 unled_text : (l : List ℕ) → is_text l ≡ true → is_text (unled l) ≡ true
 unfolding unled
@@ -215,14 +193,6 @@ trimmed_text l h = go (either (ltb 1 (length l)))
     go (inl t) = rw (pick_true (take (untrailed l) l) l t) (untrailed_text [] l tt h)
     go (inr f) = rw (pick_false (take (untrailed l) l) l f) h
 
-trimmed_short : (l : List ℕ) → length (trimmed l) ≤ length l
-unfolding trimmed
-trimmed_short l = go (either (ltb 1 (length l)))
-  where
-    go : (ltb 1 (length l) ≡ true) ⊎ (ltb 1 (length l) ≡ false) → length (trimmed l) ≤ length l
-    go (inl t) = rw (pick_true _ _ t, length-take) (omega arith)
-    go (inr f) = rw (pick_false _ _ f) (omega arith)
-
 -- the last name of text is a name, but for its length
 pub last_name_lem : (l : List ℕ) → is_text l ≡ true → is_name (last_name l) ≡ true
 unfolding last_name is_name
@@ -234,14 +204,3 @@ last_name_lem l h =
     whole : (k : ℕ) → text_from (behind k []) (drop k (trimmed l)) ≡ true → is_text (drop k (trimmed l)) ≡ true
     whole zero r = r
     whole (suc k) r = r
-
-dir_take : (l : List ℕ) → (d : ℕ) × (dir_part l ≡ take d (trimmed l))
-unfolding dir_part
-dir_take l = go (before_name (trimmed l)) refl
-  where
-    go : (k : ℕ) → before_name (trimmed l) ≡ k → (d : ℕ) × (dir_part l ≡ take d (trimmed l))
-    go zero e = (0, rw e)
-    go (suc zero) e = (1, rw e)
-    go (suc (suc k)) e = (suc k, rw e)
-
--- ---- parts of the first bytes

@@ -1,125 +1,92 @@
-// Paths: the full path of a call, its directory part and its last name as places in the bytes, and the pieces of a
-// directory part.
+// Paths: the full path of a call, its directory part and its last name, and the pieces of a directory part.
 // Everything is tested before the first byte is written, so a refusal leaves the buffer as it was.
 #![tactic(auto)]
 
-ghost use Rattle.std.specs.Prelude.{◌≡◌, false, not, ◌||◌, [], ◌∷◌, ◌++◌, ◌+◌, ◌≤◌, ltb, leb, length, take, replicate};
+ghost use Rattle.std.specs.Prelude.{◌≡◌, ◌≢◌, false, not, ◌||◌, [], ◌∷◌, ◌++◌, ℕ, ◌+◌, ◌≤◌, ◌<◌, ltb, length, slice_index};
+ghost use Rattle.std.specs.Prelude.{EachIndex, MatchOption, IfSome, option_copied};
 ghost use Rattle.wire.specs.Be.{splice};
 ghost use Rattle.wire.specs.Pick.{pick, same};
 ghost use Rattle.text.specs.Text.{is_text};
-ghost use Rattle.path.specs.Path.{slash, path_limit, starts_slash, ends_slash, trimmed, before_name};
-ghost use Rattle.path.specs.Post.{PathIs, RealIs, PartsIs, FirstIs, PieceIs};
+ghost use Rattle.path.specs.Path.{slash, path_limit, starts_slash, ends_slash, trimmed, last_name, dir_part, split, steps};
+ghost use Rattle.path.specs.Post.{PathIs, RealIs, pieces};
+
+use limits::Refusal;
 
 // The longest full path.
 pub const PATH_LIMIT: usize = 1024;
 
 const SLASH: u8 = b'/';
 
-// How long a full path is, or refusal 4.
+// The parts of a full path: its directory part and its last name.
 #[derive(Clone, Copy)]
-pub enum Real {
-    Len(usize),
-    Refused,
-}
-
-// Of a full path: where its directory part ends, and where its last name begins and ends.
-#[derive(Clone, Copy)]
-pub struct Parts {
-    pub dir: usize,
-    pub from: usize,
-    pub to: usize,
+pub struct Parts<'a> {
+    pub dir: &'a [u8],
+    pub name: &'a [u8],
 }
 
 fn starts_slash(s: &[u8]) -> bool
     ensures { result ≡ starts_slash s.now }
 {
-    let n = s.len();
-    if n == 0 {
-        return false;
-    }
-    s[0] == SLASH
+    s.starts_with(b"/")
 }
 
-// How many slashes go between a working directory and a path: none where it ends in one.
-fn gap(cwd: &[u8]) -> usize
-    ensures { (result ≤ 1) × (replicate result slash ≡ pick (ends_slash cwd.now) [] (slash ∷ [])) }
+// What goes between a working directory and a path: a slash, but nothing where it ends in one.
+fn gap(cwd: &[u8]) -> &'static [u8]
+    ensures value { result.now ≡ pick (ends_slash cwd.now) [] (slash ∷ []) }
+    ensures short { length result.now ≤ 1 }
 {
-    let n = cwd.len();
-    if n == 0 {
-        return 1;
-    }
-    if cwd[n - 1] == SLASH { 0 } else { 1 }
-}
-
-// Whether a path of these parts is short enough. Each length is tested by itself first: a sum of two lengths could wrap.
-fn fits(a: usize, gap: usize, b: usize) -> bool
-    requires { gap ≤ 1 }
-    ensures { result ≡ leb (a + (gap + b)) path_limit }
-{
-    if PATH_LIMIT < a {
-        return false;
-    }
-    if PATH_LIMIT < b {
-        return false;
-    }
-    a + (gap + b) <= PATH_LIMIT
+    if cwd.ends_with(b"/") { b"" } else { b"/" }
 }
 
 // A path that starts with a slash is full as it stands.
-fn plain(full: &mut [u8], path: &[u8]) -> Real
-    requires { length full.old ≡ path_limit }
+fn plain(full: &mut [u8; PATH_LIMIT], path: &[u8]) -> Result<usize, Refusal>
     ensures { PathIs (ltb path_limit (length path.now) || not (is_text path.now))
         path.now full.old full.new result }
 {
     let n = path.len();
-    if PATH_LIMIT < n {
-        return Real::Refused;
+    if PATH_LIMIT < n || !text::text(path) {
+        return Err(Refusal::BadPath);
     }
-    if !text::text(path) {
-        return Real::Refused;
-    }
-    wire::copy(full, 0, path, 0, n);
-    Real::Len(n)
+    full[..n].copy_from_slice(path);
+    Ok(n)
 }
 
-// The working directory, the slashes and the path, one after the other.
-fn join(full: &mut [u8], cwd: &[u8], gap: usize, path: &[u8])
-    requires { length cwd.now + (gap + length path.now) ≤ length full.old }
-    ensures { full.new ≡ splice full.old 0
-        (cwd.now ++ (replicate gap slash ++ path.now)) }
+// The working directory, what is between, and the path, one after the other; answers where they end.
+fn join(full: &mut [u8; PATH_LIMIT], cwd: &[u8], gap: &[u8], path: &[u8])
+    requires { length cwd.now + (length gap.now + length path.now) ≤ path_limit }
+    ensures { full.new ≡ splice full.old 0 (cwd.now ++ (gap.now ++ path.now)) }
 {
-    let n = cwd.len();
-    wire::copy(full, 0, cwd, 0, n);
-    wire::fill(full, n, gap, SLASH);
-    wire::copy(full, n + gap, path, 0, path.len());
+    let (first, rest) = full.split_at_mut(cwd.len());
+    first.copy_from_slice(cwd);
+    rest[..gap.len()].copy_from_slice(gap);
+    rest[gap.len()..gap.len() + path.len()].copy_from_slice(path);
 }
 
 // A path that doesn't start with a slash, from the working directory.
-fn joined(full: &mut [u8], cwd: &[u8], path: &[u8]) -> Real
-    requires full_len { length full.old ≡ path_limit }
-    requires path_value { starts_slash path.now ≡ false }
+fn joined(full: &mut [u8; PATH_LIMIT], cwd: &[u8], path: &[u8]) -> Result<usize, Refusal>
+    requires { starts_slash path.now ≡ false }
     ensures { RealIs cwd.now path.now full.old full.new result }
 {
     if !starts_slash(cwd) {
-        return Real::Refused;
+        return Err(Refusal::BadPath);
     }
-    let k = gap(cwd);
-    if !fits(cwd.len(), k, path.len()) {
-        return Real::Refused;
+    let gap = gap(cwd);
+    let n = cwd.len() + (gap.len() + path.len());
+    if PATH_LIMIT < n {
+        return Err(Refusal::BadPath);
     }
     if !text::text(cwd) {
-        return Real::Refused;
+        return Err(Refusal::BadPath);
     }
     if !text::text(path) {
-        return Real::Refused;
+        return Err(Refusal::BadPath);
     }
-    join(full, cwd, k, path);
-    Real::Len(cwd.len() + (k + path.len()))
+    join(full, cwd, gap, path);
+    Ok(n)
 }
 
 // The full path of a call goes to the start of `full`; nothing is written where it is refused.
-pub fn realpath(full: &mut [u8], cwd: &[u8], path: &[u8]) -> Real
-    requires { length full.old ≡ path_limit }
+pub fn realpath(full: &mut [u8; PATH_LIMIT], cwd: &[u8], path: &[u8]) -> Result<usize, Refusal>
     ensures { RealIs cwd.now path.now full.old full.new result }
 {
     if starts_slash(path) {
@@ -128,99 +95,103 @@ pub fn realpath(full: &mut [u8], cwd: &[u8], path: &[u8]) -> Real
     joined(full, cwd, path)
 }
 
-// Where a path of len bytes ends without the slashes at its end; a slash alone stays (P3).
-fn trim(full: &[u8], len: usize) -> usize
-    requires { len ≤ length full.now }
-    ensures { (result ≤ len) × (take result full.now ≡ trimmed (take len full.now)) }
+// Where the first slash is.
+fn first_slash(s: &[u8]) -> Option<usize>
+    ensures { MatchOption result (EachIndex s.now (λ k. slice_index s.now k ≢ slash))
+        (λ i. (i < length s.now) × (slice_index s.now i ≡ slash) × ((k : ℕ) → k < i → slice_index s.now k ≢ slash)) }
 {
-    if len <= 1 {
-        return len;
-    }
-    let mut n = len;
-    while 0 < n {
-        if full[n - 1] != SLASH {
-            return n;
-        }
-        n -= 1;
-    }
-    n
+    s.iter().position(|c| *c == SLASH)
 }
 
-// Where the last name of the first `end` bytes begins.
-fn name_from(full: &[u8], end: usize) -> usize
-    requires { end ≤ length full.now }
-    ensures { (result ≤ end) × (result ≡ before_name (take end full.now)) }
+// Where the last slash is.
+fn last_slash(s: &[u8]) -> Option<usize>
+    ensures { MatchOption result (EachIndex s.now (λ k. slice_index s.now k ≢ slash))
+        (λ i. (i < length s.now) × (slice_index s.now i ≡ slash)
+        × ((k : ℕ) → i < k → k < length s.now → slice_index s.now k ≢ slash)) }
 {
-    let mut n = end;
-    while 0 < n {
-        if full[n - 1] == SLASH {
-            return n;
-        }
-        n -= 1;
-    }
-    n
+    s.iter().rposition(|c| *c == SLASH)
 }
 
-// The parts of the full path that is the first len bytes.
-pub fn parts_of(full: &[u8], len: usize) -> Parts
-    requires { len ≤ length full.now }
-    ensures { PartsIs full.now len result }
+// Where the first byte that is no slash is.
+fn first_other(s: &[u8]) -> Option<usize>
+    ensures { MatchOption result (EachIndex s.now (λ k. slice_index s.now k ≡ slash))
+        (λ i. (i < length s.now) × (slice_index s.now i ≢ slash) × ((k : ℕ) → k < i → slice_index s.now k ≡ slash)) }
 {
-    let to = trim(full, len);
-    let from = name_from(full, to);
-    if from <= 1 {
-        return Parts {
-            dir: from,
-            from,
-            to,
-        };
+    s.iter().position(|c| *c != SLASH)
+}
+
+// Where the last byte that is no slash is.
+fn last_other(s: &[u8]) -> Option<usize>
+    ensures { MatchOption result (EachIndex s.now (λ k. slice_index s.now k ≡ slash))
+        (λ i. (i < length s.now) × (slice_index s.now i ≢ slash)
+        × ((k : ℕ) → i < k → k < length s.now → slice_index s.now k ≡ slash)) }
+{
+    s.iter().rposition(|c| *c != SLASH)
+}
+
+// A path without the slashes at its end; a slash alone stays (P3).
+fn trim(path: &[u8]) -> &[u8]
+    ensures { result.now ≡ trimmed path.now }
+{
+    if path.len() <= 1 {
+        return path;
     }
-    // the slash before the last name goes too
-    Parts {
-        dir: from - 1,
-        from,
-        to,
+    match last_other(path) {
+        Some(last) => &path[..last + 1],
+        None => &path[..0],
     }
 }
 
-// Whether the first `end` bytes are `/`, which is the root.
-pub fn is_root(full: &[u8], end: usize) -> bool
-    requires { end ≤ length full.now }
-    ensures { result ≡ same (take end full.now) (slash ∷ []) }
+// The parts of a full path. The slash between them is neither's, but one that is the first byte is the directory part's.
+pub fn parts_of(full: &[u8]) -> Parts<'_>
+    ensures dir_is { result.dir.now ≡ dir_part full.now }
+    ensures name_is { result.name.now ≡ last_name full.now }
 {
-    if end != 1 {
-        return false;
+    let path = trim(full);
+    match last_slash(path) {
+        Some(0) => Parts {
+            dir: &path[..1],
+            name: &path[1..],
+        },
+        Some(last) => Parts {
+            dir: &path[..last],
+            name: &path[last + 1..],
+        },
+        None => Parts {
+            dir: &path[..0],
+            name: path,
+        },
     }
-    full[0] == SLASH
 }
 
-// Where the first piece of the first `end` bytes begins.
-pub fn first_piece(full: &[u8], end: usize) -> usize
-    requires { end ≤ length full.now }
-    ensures { FirstIs full.now end result }
+// Whether a path is `/`, which is the root.
+pub fn is_root(path: &[u8]) -> bool
+    ensures { result ≡ same path.now (slash ∷ []) }
 {
-    let mut i: usize = 0;
-    while i < end {
-        if full[i] != SLASH {
-            return i;
-        }
-        i += 1;
-    }
-    i
+    path == b"/".as_slice()
 }
 
-// Where the piece that begins at `at` ends: at the next slash, or at `end`.
-pub fn piece_end(full: &[u8], at: usize, end: usize) -> usize
-    requires at_le_end { at ≤ end }
-    requires end_in_bounds { end ≤ length full.now }
-    ensures { PieceIs full.now at end result }
+// A directory part without the slashes in front; nothing where it is the root (P4).
+pub fn way(dir: &[u8]) -> Option<&[u8]>
+    ensures value { pieces (option_copied result) ≡ steps dir.now }
+    ensures within { IfSome result (λ w. length w.now ≤ length dir.now) }
 {
-    let mut e = at;
-    while e < end {
-        if full[e] == SLASH {
-            return e;
-        }
-        e += 1;
+    if is_root(dir) {
+        return None;
     }
-    e
+    match first_other(dir) {
+        Some(first) => Some(&dir[first..]),
+        None => Some(&dir[..0]),
+    }
+}
+
+// The first piece, up to a slash, and what is behind that slash if there is one.
+pub fn first_piece(way: &[u8]) -> (&[u8], Option<&[u8]>)
+    ensures value { split way.now ≡ result.0.now ∷ pieces (option_copied result.1) }
+    ensures shorter { IfSome result.1 (λ w. length w.now < length way.now) }
+{
+    match first_slash(way) {
+        Some(end) => (&way[..end], Some(&way[end + 1..])),
+        None => (way, None),
+    }
 }

@@ -19,27 +19,27 @@ use Rattle.model.proofs.Reached.{path_none}
 use Rattle.check_bitmap.specs.Tally.{mark_long}
 use Rattle.handle.specs.declared.Handle.{Handle}
 use Rattle.handle.specs.declared.CountedOut.{CountedOut}
-use Rattle.handle.specs.declared.Counted.TheVariants as counted
 use Rattle.handle.specs.Handles.{stale_fields}
 use Rattle.handle.specs.OnTree.{FileIn, OnFile, Stale}
 use Rattle.write.specs.Writing.{target_of, count_of}
-use Rattle.write.specs.Written.{counted_says}
 use Rattle.write.proofs.Targets.{accepted_is, stale_is}
 use Rattle.call_volume.specs.Checking.{check_refusal}
 use Rattle.call_change.specs.Changing.{Writes, write_reply}
-use Rattle.call_read.proofs.Paths.{given_none}
+use Rattle.model.proofs.Replies.{given_none}
 use Rattle.thm_calls.proofs.Changing.{volume_at, write_passed, write_before, write_kept}
 use Rattle.promises.specs.Counter.{StaleAtEntry}
-use Rattle.promises.proofs.Answered.{counted_is}
+use Rattle.limits.proofs.Said.{answer_is}
 use Rattle.promises.proofs.Checks.{long_passes}
+use Rattle.std.specs.Prelude.{Ok, Err}
+use Rattle.limits.specs.Says.{says}
 
 module _ (M : Mount) (I W : List ℕ) (h : Handle) (buf : List ℕ) (now : ℕ) (o : CountedOut) (J Z : List ℕ)
     (c : Writes M I W h buf now o J Z) where
   -- A write through a handle that is stale at its entry changes neither image nor handle.
   pub stale_kept : Bytes I → StaleAtEntry M I h → (J ≡ I) × (o.handle ≡ h)
-  stale_kept b s = go (counted_is o.answer)
+  stale_kept b s = go (answer_is o.answer)
     where
-      go : ((k : ℕ) × (o.answer ≡ counted.Bytes k)) ⊎ ((x : Refusal) × (o.answer ≡ counted.Refused x))
+      go : ((k : ℕ) × (o.answer ≡ Ok k)) ⊎ ((x : Refusal) × (o.answer ≡ Err x))
           → (J ≡ I) × (o.handle ≡ h)
       go (inl e) =
           let w = write_before M I W h buf now o J Z c e.0 b e.1 in
@@ -54,14 +54,14 @@ module _ (M : Mount) (I W : List ℕ) (h : Handle) (buf : List ℕ) (now : ℕ) 
   -- Where the volume is well formed, the work buffer long enough and there are bytes to write, a stale handle gets 11.
   pub stale_answer : Bytes I → mark_long (geo_at M I) ≤ length W → 1 ≤ length buf → (w : WellFormed M I)
       → Stale max_depth w.tree h
-      → counted_says o.answer ≡ refused 11
+      → says o.answer ≡ refused 11
   unfolding write_reply count_of and_then
   stale_answer all long b w s =
       let z : check_refusal M I (length W) ≡ 0 = long_passes M I W w long all in
       let t : target_of (geo_at M I) I h (length buf) ≡ refused 11
       = (stale_is (geo_at M I) I w.tree (volume_at M I w) h (length buf) b).1 s in
       let r : given (check_refusal M I (length W)) (target_of (geo_at M I) I h (length buf)) ≡ refused 11
-      = sym (given_none _ _ z) ∙ t in
+      = given_none _ z ∙ t in
       c.answer ∙ ap (count_of (length buf)) r
 
 -- A handle that is whole by its own fields, and whose directory has now a file entry with its name, address and size, is not

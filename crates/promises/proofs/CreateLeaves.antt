@@ -25,10 +25,8 @@ use Rattle.path.proofs.FullPaths.{real_bytes}
 use Rattle.create.specs.Creating.{Fresh, site_of, fresh_of, created_on}
 use Rattle.create.proofs.Trees.{created_block}
 use Rattle.thm_path.proofs.Resolves.{absent_none}
-use Rattle.limits.specs.declared.Answer.{Answer}
-use Rattle.limits.specs.declared.Answer.TheVariants as answer
 use Rattle.call_read.specs.declared.OpenOut.{OpenOut}
-use Rattle.call_volume.specs.Says.{on_answer}
+use Rattle.call_read.specs.Says.{on_answer}
 use Rattle.call_change.specs.Changing.{change_call, create_reply, fresh_handle, CreatesFile, CreatesDir}
 use Rattle.thm_calls.specs.Handles.{HandleOf}
 use Rattle.thm_calls.specs.Named.{way_of, last_of}
@@ -36,6 +34,8 @@ use Rattle.thm_calls.proofs.Changing.{volume_at, tree_after, create_file_tree, c
 use Rattle.promises.proofs.Files.{file_at_lem}
 use Rattle.promises.proofs.Lookups.{called_own, lookup-inserted}
 use Rattle.promises.proofs.Path.{created_there}
+use Rattle.std.specs.Prelude.{Result, Ok}
+use Rattle.limits.specs.declared.Refusal.{Refusal}
 
 -- ---- answers that are accepted
 
@@ -48,12 +48,12 @@ then-accepted (refused k) f b e = absurd (not_accepted k b e)
 
 module _ (M : Mount) (I W cwd p : List ℕ) (now : ℕ) (o : OpenOut) (J Z : List ℕ) (c : CreatesFile M I W cwd p now o J Z) where
   -- the blocks that the handle holds
-  handle_is : (w : WellFormed M I) → o.answer ≡ answer.Success → (s : Some) → find max_depth (way_of cwd p) w.tree ≡ some s
+  handle_is : (w : WellFormed M I) → o.answer ≡ Ok tt → (s : Some) → find max_depth (way_of cwd p) w.tree ≡ some s
       → o.handle ≡ fresh_handle (last_of cwd p) (record { dir = blocks_at s.1; block = entry_block (geo_at M I) (last_of cwd p) s.1 (free_blocks (geo_at M I) max_depth w.tree) })
   unfolding create_reply created_on fresh_of change_call
   handle_is w e s f =
       let said : accepted o.handle ≡ and_then (create_reply kind.File M I (length W) cwd p) (λ y. accepted (fresh_handle (last_of cwd p) y))
-      = ap (λ (y : Answer). on_answer y o.handle) (sym e) ∙ c.answer.answer in
+      = ap (λ (y : Result (Unit {0}) Refusal). on_answer y o.handle) (sym e) ∙ c.answer.answer in
       let a = then-accepted (create_reply kind.File M I (length W) cwd p) (fresh_handle (last_of cwd p)) o.handle (sym said) in
       let b = given_accepted (change_call M I (length W) cwd p) _ a.0 a.1 in
       let site = then-accepted (site_of (geo_at M I) I kind.File (real_path cwd p)) _ a.0 b.1 in
@@ -64,7 +64,7 @@ module _ (M : Mount) (I W cwd p : List ℕ) (now : ℕ) (o : OpenOut) (J Z : Lis
       one : (x y : Fresh) → accepted x ≡ accepted y → x ≡ y
       one x y z = cc
 
-  pub create_file_leaves : o.answer ≡ answer.Success → now < 2 ^ 64 → WellFormed M I → (v : WellFormed M J)
+  pub create_file_leaves : o.answer ≡ Ok tt → now < 2 ^ 64 → WellFormed M I → (v : WellFormed M J)
       → (x : ℕ) × (a : ℕ) × (file_at max_depth (way_of cwd p) (last_of cwd p) v.tree ≡ some (0, now, empty_cell (geo_at M I) x ∷ []))
       × DirAt max_depth a (way_of cwd p) v.tree × HandleOf a (last_of cwd p) 0 (empty_cell (geo_at M I) x ∷ []) o.handle
   unfolding created file_entry file_of cells_at padded
@@ -91,7 +91,7 @@ module _ (M : Mount) (I W cwd p : List ℕ) (now : ℕ) (o : OpenOut) (J Z : Lis
       )
 
   -- So an accepted create changes the image.
-  pub create_changes : WellFormed M I → now < 2 ^ 64 → o.answer ≡ answer.Success → J ≡ I → ⊥
+  pub create_changes : WellFormed M I → now < 2 ^ 64 → o.answer ≡ Ok tt → J ≡ I → ⊥
   unfolding then
   create_changes w clock e j =
       let m = create_file_tree M I W cwd p now J Z o c w clock e in
@@ -137,8 +137,8 @@ dir_found cap w x now n (suc d) t h a =
     end zero y = refl
     end (suc k) y = refl
 
-module _ (M : Mount) (I W cwd p : List ℕ) (now : ℕ) (r : Answer) (J Z : List ℕ) (c : CreatesDir M I W cwd p now r J Z) where
-  pub create_dir_leaves : r ≡ answer.Success → now < 2 ^ 64 → WellFormed M I → (v : WellFormed M J)
+module _ (M : Mount) (I W cwd p : List ℕ) (now : ℕ) (r : Result (Unit {0}) Refusal) (J Z : List ℕ) (c : CreatesDir M I W cwd p now r J Z) where
+  pub create_dir_leaves : r ≡ Ok tt → now < 2 ^ 64 → WellFormed M I → (v : WellFormed M J)
       → (x : ℕ) × (s : DirAt max_depth x (way_of cwd p ++ (last_of cwd p ∷ [])) v.tree) × NoEntries s.dir.1
       × (o : Occupied max_depth (way_of cwd p) (last_of cwd p) v.tree) × (o.entry.time ≡ now)
   unfolding created_dir blank blocks_at

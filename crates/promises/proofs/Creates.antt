@@ -24,9 +24,7 @@ use Rattle.thm_path.specs.Shown.{way_to}
 use Rattle.create.specs.Creating.{Site, Fresh, bad_name, site_in, site_of, fresh_of, created_on}
 use Rattle.create.specs.OnTree.{tree_refusal}
 use Rattle.create.proofs.Trees.{answer_is, created_block}
-use Rattle.limits.specs.declared.Answer.{Answer}
 use Rattle.call_read.specs.declared.OpenOut.{OpenOut}
-use Rattle.call_volume.specs.Says.{says}
 use Rattle.call_read.specs.Reading.{open_says}
 use Rattle.call_change.specs.Changing.{create_reply, fresh_handle, plainly, CreatesFile, CreatesDir}
 use Rattle.thm_calls.specs.Named.{way_of, last_of}
@@ -34,6 +32,9 @@ use Rattle.thm_calls.proofs.Changing.{volume_at}
 use Rattle.promises.specs.Refusals.{fresh_in, create_answer}
 use Rattle.promises.proofs.Spots.{way_found, hold_stops}
 use Rattle.promises.proofs.Deletes.{change_is}
+use Rattle.std.specs.Prelude.{Result}
+use Rattle.limits.specs.Says.{says}
+use Rattle.limits.specs.declared.Refusal.{Refusal}
 
 -- what is refused has no value
 fresh-refused : {A B : Type 0} (r : Reply A) (f : A → Reply B) (j k : ℕ) → r ≡ given j (refused k)
@@ -95,8 +96,8 @@ module _ (M : Mount) (I W : List ℕ) (b : Bytes I) (w : WellFormed M I) (long :
   create_is : create_reply k M I (length W) cwd p ≡ create_answer (geo_at M I) k cwd p w.tree
   unfolding create_reply create_answer
   create_is =
-      ap (λ (j : ℕ). given j (created_on (geo_at M I) I k (real_path cwd p))) (change_is M I W b w long cwd p)
-      ∙ go (either (bad_path cwd p)) (way_to max_depth (way_of cwd p) w.tree) refl
+      search (ap (λ (j : ℕ). given j (created_on (geo_at M I) I k (real_path cwd p))) (change_is M I W b w long cwd p)
+      ∙ go (either (bad_path cwd p)) (way_to max_depth (way_of cwd p) w.tree) refl)
     where
       go : (bad_path cwd p ≡ true) ⊎ (bad_path cwd p ≡ false) → (r : Reply Some) → way_to max_depth (way_of cwd p) w.tree ≡ r
           → given (path_refusal cwd p) (created_on (geo_at M I) I k (real_path cwd p)) ≡ given (path_refusal cwd p)
@@ -112,6 +113,6 @@ module _ (M : Mount) (I W : List ℕ) (b : Bytes I) (w : WellFormed M I) (long :
   creates_file o J Z c = c.answer.answer
       ∙ ap (λ (r : Reply Fresh). and_then r (λ f. accepted (fresh_handle (last_of cwd p) f))) (create_is M I W b w long File cwd p)
 
-  pub creates_dir : (r : Answer) (J Z : List ℕ) → CreatesDir M I W cwd p now r J Z
+  pub creates_dir : (r : Result (Unit {0}) Refusal) (J Z : List ℕ) → CreatesDir M I W cwd p now r J Z
       → says r ≡ plainly (create_answer (geo_at M I) Dir cwd p w.tree)
   creates_dir r J Z c = c.answer ∙ ap plainly (create_is M I W b w long Dir cwd p)

@@ -20,8 +20,8 @@ use Rattle.model.specs.Steps.{Bytes}
 use Rattle.model.proofs.Opens.{when_true, when_false, first_of_one, first_of_tail}
 use Rattle.model.proofs.Replies.{and_then_ok, and_then_no, reply-none, reply_suc}
 use Rattle.check_bitmap.specs.Tally.{mark_long}
-use Rattle.read_dir.specs.declared.Found.{Found}
-use Rattle.read_dir.specs.declared.Found.TheVariants as found
+use Rattle.limits.specs.declared.Damage.{Damage}
+use Rattle.read_dir.specs.declared.Placed.{Placed}
 use Rattle.read_dir.specs.Walk.{walk}
 use Rattle.read_dir.specs.Finds.{find_in}
 use Rattle.path.specs.Path.{real_path, path_refusal}
@@ -33,14 +33,15 @@ use Rattle.thm_path.proofs.Finds.{lookup_or, find-missing}
 use Rattle.thm_path.proofs.Holding.{hold_is, hold_some}
 use Rattle.delete.specs.Deleting.{Doomed, doomed_in, doomed_of, deleted_on}
 use Rattle.delete.proofs.OnVolume.{bare_accepted, full_refused}
-use Rattle.limits.specs.declared.Answer.{Answer}
-use Rattle.call_volume.specs.Says.{says}
 use Rattle.call_change.specs.Changing.{change_call, Deletes}
 use Rattle.thm_calls.specs.Named.{way_of, last_of}
 use Rattle.thm_calls.proofs.Changing.{volume_at}
-use Rattle.promises.specs.Refusals.{Spot, entry_at, has_entry, delete_answer}
+use Rattle.promises.specs.Refusals.{Spot, spot_at, has_entry, delete_answer}
 use Rattle.promises.proofs.Checks.{long_passes}
 use Rattle.promises.proofs.Spots.{way_found, hold_stops, name_five, at_stops, at_missing, at_entry}
+use Rattle.std.specs.Prelude.{Result, Option, None, Ok}
+use Rattle.limits.specs.Says.{says}
+use Rattle.limits.specs.declared.Refusal.{Refusal}
 
 -- ---- a directory that has an entry
 
@@ -90,7 +91,7 @@ module _ (M : Mount) (I W : List ℕ) (b : Bytes I) (w : WellFormed M I) (long :
   on_spot x = reply (when 14 (has_entry x.0.0 x.1.node)) tt
 
   abbrev Said : Type 0
-  Said = deleted_on (geo_at M I) I (real_path cwd p) ≡ and_then (entry_at (way_of cwd p) (last_of cwd p) w.tree) on_spot
+  Said = deleted_on (geo_at M I) I (real_path cwd p) ≡ and_then (spot_at (way_of cwd p) (last_of cwd p) w.tree) on_spot
 
   -- a way that stops
   way_stops : (k : ℕ) → way_to max_depth (way_of cwd p) w.tree ≡ refused k → Said
@@ -102,14 +103,14 @@ module _ (M : Mount) (I W : List ℕ) (b : Bytes I) (w : WellFormed M I) (long :
       (hold_stops (geo_at M I) I w.tree _ (volume_at M I w).laid (way_of cwd p) k e)))
       (at_stops (geo_at M I) I w.tree _ (volume_at M I w).laid (real_path cwd p) k e)
     where
-      go : (n : Name) → doomed ≡ on_name n (refused k) → entry_at (way_of cwd p) (last_of cwd p) w.tree ≡ on_name n (refused k)
+      go : (n : Name) → doomed ≡ on_name n (refused k) → spot_at (way_of cwd p) (last_of cwd p) w.tree ≡ on_name n (refused k)
           → Said
       go [] a c = and_then_no 5 (λ x. accepted tt) a ∙ sym (and_then_no 5 on_spot c)
       go (x ∷ n) a c = and_then_no k (λ x. accepted tt) a ∙ sym (and_then_no k on_spot c)
 
   -- a name that is not there
   nothing_in : (h : Hold)
-      → find_in (last_of cwd p) (walk (area_of (geo_at M I)) I h.dir) ≡ found.Missing
+      → find_in (last_of cwd p) (walk (area_of (geo_at M I)) I h.dir) ≡ Ok None
       → doomed_in (geo_at M I) I (last_of cwd p) h ≡ refused 5
   unfolding doomed_in
   nothing_in h e = rw e
@@ -125,8 +126,8 @@ module _ (M : Mount) (I W : List ℕ) (b : Bytes I) (w : WellFormed M I) (long :
       = hold_is (geo_at M I) I max_depth w.tree _ (way_of cwd p) laid h.0 h.1 in
       let z : some s ≡ some q.there = sym v.there ∙ q.found in
       let y : s ≡ q.there = cc in
-      let found_from : ℕ → Found = λ a. find_in n (walk (area_of (geo_at M I)) I a) in
-      let f : found_from h.0.dir ≡ found.Missing
+      let found_from : ℕ → Result (Option Placed) Damage = λ a. find_in n (walk (area_of (geo_at M I)) I a) in
+      let f : found_from h.0.dir ≡ Ok None
       = ap found_from (sym (ap (λ (x : Some). blocks_at x.1) y ∙ q.starts))
       ∙ find-missing (geo_at M I) I max_depth w.tree _ (way_of cwd p) s laid v.there n v.free in
       name_five n _ (and_then_ok h.0 (doomed_in (geo_at M I) I n) h.1 ∙ nothing_in h.0 f)
@@ -148,7 +149,7 @@ module _ (M : Mount) (I W : List ℕ) (b : Bytes I) (w : WellFormed M I) (long :
       o : Occupied max_depth (way_of cwd p) (last_of cwd p) w.tree
       o = record { dir = s; there = way_found max_depth (way_of cwd p) w.tree s m; entry = e; held = k }
 
-      spot : and_then (entry_at (way_of cwd p) (last_of cwd p) w.tree) on_spot ≡ on_spot (s, e)
+      spot : and_then (spot_at (way_of cwd p) (last_of cwd p) w.tree) on_spot ≡ on_spot (s, e)
       spot = and_then_ok (s, e) on_spot (at_entry (geo_at M I) I w.tree _ (volume_at M I w).laid (real_path cwd p) s m e k)
 
       go : (has_entry s.0 e.node ≡ true) ⊎ (has_entry s.0 e.node ≡ false) → Said
@@ -174,7 +175,7 @@ module _ (M : Mount) (I W : List ℕ) (b : Bytes I) (w : WellFormed M I) (long :
       go (refused k) f = way_stops k f
 
   -- A delete is refused by 4, 5, 6 and 14 just where the tree says, and else accepted.
-  pub deletes : (now : ℕ) (r : Answer) (J Z : List ℕ) → Deletes M I W cwd p now r J Z → says r ≡ delete_answer cwd p w.tree
+  pub deletes : (now : ℕ) (r : Result (Unit {0}) Refusal) (J Z : List ℕ) → Deletes M I W cwd p now r J Z → says r ≡ delete_answer cwd p w.tree
   unfolding delete_answer
   deletes now r J Z c =
       c.answer ∙ ap (λ (k : ℕ). given k (deleted_on (geo_at M I) I (real_path cwd p))) change_is

@@ -14,18 +14,17 @@ use Rattle.model.proofs.Contents.{file_written}
 use Rattle.model.proofs.Lists.{then_some}
 use Rattle.handle.specs.declared.Handle.{Handle}
 use Rattle.handle.specs.declared.CountedOut.{CountedOut}
-use Rattle.handle.specs.declared.Counted.TheVariants as counted
 use Rattle.handle.specs.Handles.{name_of}
-use Rattle.write.specs.Written.{counted_says}
 use Rattle.write.proofs.Targets.{accepted_is}
-use Rattle.call_volume.specs.Says.{says}
 use Rattle.call_read.specs.Reading.{Reads}
 use Rattle.call_change.specs.Changing.{Writes}
 use Rattle.thm_calls.proofs.Changing.{volume_at, tree_after, write_passed, write_tree}
 use Rattle.thm_calls.proofs.ReadsBack.{bytes_written, write_seek, write_read}
 use Rattle.promises.specs.Work.{FileOf, ReadsBack}
-use Rattle.promises.proofs.Answered.{count_said}
+use Rattle.limits.proofs.Said.{said_ok}
 use Rattle.promises.proofs.Files.{file_at_lem}
+use Rattle.std.specs.Prelude.{Ok}
+use Rattle.limits.specs.Says.{says}
 
 -- the file that a write is on
 pub file_of_lem : (g : Geo) (p : List Name) (n : Name) (now c : ℕ) (buf : List ℕ) (t : Tree max_depth) (I J : List ℕ)
@@ -39,9 +38,9 @@ file_of_lem g p n now c buf t I J m =
 
 module _ (M : Mount) (I W : List ℕ) (h : Handle) (buf : List ℕ) (now : ℕ) (o : CountedOut) (J Z : List ℕ)
     (c : Writes M I W h buf now o J Z) (k : ℕ)
-    (said : counted_says o.answer ≡ accepted k) (clock : now < 2 ^ 64) where
-  counts : o.answer ≡ counted.Bytes k
-  counts = count_said o.answer k said
+    (said : says o.answer ≡ accepted k) (clock : now < 2 ^ 64) where
+  counts : o.answer ≡ Ok k
+  counts = said_ok o.answer k said
 
   module _ (w : WellFormed M I) where
     done : (q : List Name) × DirAt max_depth h.dir.0 q w.tree
@@ -92,5 +91,5 @@ module _ (M : Mount) (I W : List ℕ) (h : Handle) (buf : List ℕ) (now : ℕ) 
           let y = write_seek M I W h buf now o J Z c k counts clock name w done.0 done.1 done.2 i inside s a in
           let v = write_read M I W h buf now o J Z c k counts clock name w done.0 done.1 done.2 i inside rbuf out r
           (subst (λ (g : Handle). Reads M J g rbuf out r) y.1 b) in
-          (ap says y.0, ap counted_says v.0, v.1),
+          (ap says y.0, ap says v.0, v.1),
     )

@@ -13,19 +13,19 @@ use Rattle.model.specs.Calls.{file_at, DirAt, contents, TreeWrites}
 use Rattle.model.proofs.Reached.{path_is}
 use Rattle.handle.specs.declared.Handle.{Handle}
 use Rattle.handle.specs.declared.CountedOut.{CountedOut}
-use Rattle.handle.specs.declared.Counted.TheVariants as counted
 use Rattle.handle.specs.Handles.{name_of}
 use Rattle.write.specs.Writing.{grown_handle}
-use Rattle.write.specs.Written.{counted_says}
 use Rattle.call_change.specs.Changing.{Writes}
 use Rattle.thm_calls.proofs.Changing.{volume_at, tree_after, write_tree, write_handle}
 use Rattle.promises.specs.Work.{FileOf}
 use Rattle.promises.specs.EitherOrder.{InTurn, SameFile, EitherOrder}
-use Rattle.promises.proofs.Answered.{count_said}
+use Rattle.limits.proofs.Said.{said_ok}
 use Rattle.promises.proofs.Done.{file_of_lem, write_leaves}
 use Rattle.promises.proofs.Kept.{write_others}
 use Rattle.promises.proofs.Starts.{dir_stays}
 use Rattle.promises.proofs.UsedMoves.{used_moves}
+use Rattle.std.specs.Prelude.{Ok}
+use Rattle.limits.specs.Says.{says}
 
 -- ---- a handle names one file
 
@@ -67,12 +67,12 @@ record Accepted (M : Mount) (I : List ℕ) (h : Handle) (buf : List ℕ) (now : 
   after : List ℕ
   call : Writes M I work h buf now o J after
   count : ℕ
-  said : counted_says o.answer ≡ accepted count
+  said : says o.answer ≡ accepted count
 
 module _ (M : Mount) (I : List ℕ) (h : Handle) (buf : List ℕ) (now : ℕ) (o : CountedOut) (J : List ℕ)
     (c : Accepted M I h buf now o J) (clock : now < 2 ^ 64) (w : WellFormed M I) where
-  counts : o.answer ≡ counted.Bytes c.count
-  counts = count_said o.answer c.count c.said
+  counts : o.answer ≡ Ok c.count
+  counts = said_ok o.answer c.count c.said
 
   on : (q : List Name) × DirAt max_depth h.dir.0 q w.tree
       × TreeWrites (geo_at M I) max_depth q (name_of h) now h.position buf w.tree I J
@@ -82,10 +82,10 @@ module _ (M : Mount) (I : List ℕ) (h : Handle) (buf : List ℕ) (now : ℕ) (o
   well = record { numbers = geo_at M I; here = refl; tree = _; volume = on.2.makes.volume }
 
   -- the answer
-  answered : o ≡ record { answer = counted.Bytes (length buf); handle = grown_handle h (length buf) }
+  answered : o ≡ record { answer = Ok (length buf); handle = grown_handle h (length buf) }
   answered =
       let a = write_handle M I c.work h buf now o J c.after c.call c.count counts in
-      let e : o.answer ≡ counted.Bytes (length buf) = counts ∙ ap counted.Bytes a.0 in
+      let e : o.answer ≡ Ok (length buf) = counts ∙ ap Ok a.0 in
       let g : o.handle ≡ grown_handle h (length buf) = a.1 in
       λ i. record { answer = e i; handle = g i }
 
@@ -183,10 +183,10 @@ module _ (M : Mount) (I : List ℕ) (w : WellFormed M I) (h k : Handle) (f : Fil
         moved = omega (arith, u, v);
       }
 
-  first_answered : a.first ≡ record { answer = counted.Bytes (length x); handle = grown_handle h (length x) }
+  first_answered : a.first ≡ record { answer = Ok (length x); handle = grown_handle h (length x) }
   first_answered = answered M I h x r a.first a.middle one clock₁ w
 
-  second_answered : a.second ≡ record { answer = counted.Bytes (length y); handle = grown_handle k (length y) }
+  second_answered : a.second ≡ record { answer = Ok (length y); handle = grown_handle k (length y) }
   second_answered = answered M a.middle k y s a.second J two clock₂ between
 
 -- ---- in either order

@@ -14,12 +14,12 @@ use Rattle.model.proofs.Edits.{find-edit}
 use Rattle.model.proofs.Full.{good_find}
 use Rattle.model.proofs.Lists.{any_there, less_first_here, less_first_there}
 use Rattle.model.proofs.Reached.{named_entries}
-use Rattle.limits.specs.declared.Answer.{Answer}
-use Rattle.limits.specs.declared.Answer.TheVariants as answer
 use Rattle.call_change.specs.Changing.{Deletes}
 use Rattle.thm_calls.specs.Named.{way_of, last_of}
 use Rattle.thm_calls.proofs.Changing.{volume_at, tree_after, delete_tree}
 use Rattle.promises.proofs.Lookups.{delete_entries}
+use Rattle.std.specs.Prelude.{Result, Ok}
+use Rattle.limits.specs.declared.Refusal.{Refusal}
 
 module _ {X : Type 0} (n : Name) where
   -- ---- entries of a name in a block
@@ -72,8 +72,8 @@ module _ {X : Type 0} (n : Name) where
       (named_entries n (delete n bs) ∙ ap (named n) (delete_entries n bs) ∙ less_named (entries_of bs) (omega (arith, h, named_entries n bs)))
 
 -- After an accepted delete the path names nothing, in a directory that is there: as D3 asks of the end of a sequence.
-pub delete_leaves : (M : Mount) (I W cwd p : List ℕ) (now : ℕ) (r : Answer) (J Z : List ℕ) → Deletes M I W cwd p now r J Z → (w : WellFormed M I) → now < 2 ^ 64
-    → r ≡ answer.Success → (v : WellFormed M J) → Vacant max_depth (way_of cwd p) (last_of cwd p) v.tree
+pub delete_leaves : (M : Mount) (I W cwd p : List ℕ) (now : ℕ) (r : Result (Unit {0}) Refusal) (J Z : List ℕ) → Deletes M I W cwd p now r J Z → (w : WellFormed M I) → now < 2 ^ 64
+    → r ≡ Ok tt → (v : WellFormed M J) → Vacant max_depth (way_of cwd p) (last_of cwd p) v.tree
 unfolding deleted
 delete_leaves M I W cwd p now r J Z c w clock e v =
     let m = delete_tree M I W cwd p now J Z r c w clock e in

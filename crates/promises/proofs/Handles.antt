@@ -29,8 +29,6 @@ use Rattle.limits.proofs.Numbers.{number_some}
 use Rattle.check_bitmap.specs.Tally.{mark_long}
 use Rattle.thm_path.proofs.Resolves.{lookup_name}
 use Rattle.handle.specs.declared.Handle.{Handle}
-use Rattle.handle.specs.declared.Counted.{Counted}
-use Rattle.handle.specs.declared.Counted.TheVariants as counted
 use Rattle.handle.specs.declared.CountedOut.{CountedOut}
 use Rattle.handle.specs.Handles.{name_of, stale_fields, moved}
 use Rattle.file_read.specs.Read.{to_read, read_refusal, bytes_read}
@@ -38,7 +36,6 @@ use Rattle.file_read.specs.Post.{CountedIs}
 use Rattle.write.specs.Writing.{Target, too_long, blocks_to_add, target_of, count_of}
 use Rattle.handle.specs.OnTree.{FileIn, OnFile, Lost}
 use Rattle.write.specs.OnTree.{to_add}
-use Rattle.write.specs.Written.{counted_says}
 use Rattle.handle.proofs.Seeks.{fresh}
 use Rattle.write.proofs.Aims.{aim_empty}
 use Rattle.write.proofs.Targets.{accepted_is, no_room_lem, stale_is, long_is}
@@ -51,6 +48,9 @@ use Rattle.thm_calls.proofs.Changing.{volume_at}
 use Rattle.promises.specs.Refusals.{file_by, stale_by, read_number, bytes_from, write_number}
 use Rattle.promises.proofs.Files.{file_at_lem, file_there}
 use Rattle.promises.proofs.Checks.{long_passes}
+use Rattle.std.specs.Prelude.{Result, Ok, Err}
+use Rattle.limits.specs.Says.{says}
+use Rattle.limits.specs.declared.Refusal.{Refusal}
 
 -- ---- the file that a handle names
 
@@ -226,7 +226,7 @@ module _ (M : Mount) (I W : List ℕ) (b : Bytes I) (w : WellFormed M I) (long :
     (buf : List ℕ) (now : ℕ) (o : CountedOut)
     (J Z : List ℕ) (c : Writes M I W h buf now o J Z) where
   -- the check passes
-  pub write_says : counted_says o.answer ≡ and_then (target_of (geo_at M I) I h (length buf)) (λ t. accepted (length buf))
+  pub write_says : says o.answer ≡ and_then (target_of (geo_at M I) I h (length buf)) (λ t. accepted (length buf))
   unfolding write_reply count_of
   write_says =
       c.answer
@@ -234,7 +234,7 @@ module _ (M : Mount) (I W : List ℕ) (b : Bytes I) (w : WellFormed M I) (long :
       (given_none (target_of (geo_at M I) I h (length buf)) (long_passes M I W w long b))
 
   -- A write is refused by 13, 11, 10 and 9 just where the tree says, and else answers the buffer's length.
-  pub writes : counted_says o.answer ≡ reply (write_number (geo_at M I) h (length buf) w.tree) (length buf)
+  pub writes : says o.answer ≡ reply (write_number (geo_at M I) h (length buf) w.tree) (length buf)
   writes = write_says ∙ go (agreed (geo_at M I) I w.tree (volume_at M I w) h (length buf))
     where
       go : Agreed (geo_at M I) I w.tree (volume_at M I w) h (length buf)
@@ -249,17 +249,17 @@ module _ (M : Mount) (I W : List ℕ) (b : Bytes I) (w : WellFormed M I) (long :
 
 -- what a read says by its number, which is 0 for none
 module _ (h f : Handle) (vs l m : List ℕ) where
-  abbrev Counts : ℕ → Counted → Type 0
-  Counts k c = (counted_says c ≡ reply k (to_read h (length l))) × (f ≡ settle k (moved h (h.position + to_read h (length l))) h)
+  abbrev Counts : ℕ → Result ℕ Refusal → Type 0
+  Counts k c = (says c ≡ reply k (to_read h (length l))) × (f ≡ settle k (moved h (h.position + to_read h (length l))) h)
       × (m ≡ settle k (splice l 0 vs) l)
 
-  counts : (k : ℕ) (c : Counted) → CountedIs k h f vs l m c → Counts k c
-  counts k (counted.Bytes j) a = (
+  counts : (k : ℕ) (c : Result ℕ Refusal) → CountedIs k h f vs l m c → Counts k c
+  counts k (Ok j) a = (
     ap accepted a.count ∙ sym (reply-none (to_read h (length l)) a.good),
     a.handle ∙ ap (λ (i : ℕ). moved h (h.position + i)) a.count ∙ sym (settle-none _ h a.good),
     a.stored ∙ sym (settle-none _ l a.good),
   )
-  counts k (counted.Refused x) a =
+  counts k (Err x) a =
       let some_number : 1 ≤ k = omega (arith, a.refused, number_some x) in (
         ap refused (sym a.refused) ∙ sym (reply_suc k (to_read h (length l)) some_number),
         a.handle ∙ sym (settle_suc k _ h some_number),
@@ -336,7 +336,7 @@ module _ (M : Mount) (I : List ℕ) (w : WellFormed M I) (h : Handle) (q : List 
 
   -- A read is refused by 11 just where the tree says, and else gives the file's bytes from the position on.
   pub reads : (buf out : List ℕ) (o : CountedOut) → Reads M I h buf out o
-      → (counted_says o.answer ≡ reply (read_number h w.tree) (to_read h (length buf)))
+      → (says o.answer ≡ reply (read_number h w.tree) (to_read h (length buf)))
       × (o.handle ≡ settle (read_number h w.tree) (moved h (h.position + to_read h (length buf))) h)
       × (out ≡ settle (read_number h w.tree) (splice buf 0 (bytes_from h.position (length buf) (file_by h w.tree))) buf)
   reads buf out o c = go (shown (length buf)) (counts h o.handle vs buf out (read_call M I h (length buf)) o.answer c)
@@ -346,7 +346,7 @@ module _ (M : Mount) (I : List ℕ) (w : WellFormed M I) (h : Handle) (q : List 
 
       Gives : List ℕ → ℕ → Type 0
       Gives bs k =
-          (counted_says o.answer ≡ reply k (to_read h (length buf)))
+          (says o.answer ≡ reply k (to_read h (length buf)))
           × (o.handle ≡ settle k (moved h (h.position + to_read h (length buf))) h)
           × (out ≡ settle k (splice buf 0 bs) buf)
 

@@ -16,11 +16,8 @@ use Rattle.model.proofs.Lists.{not_some}
 use Rattle.model.proofs.Others.{lookup_other}
 use Rattle.thm_path.proofs.Resolves.{absent_none}
 use Rattle.handle.specs.declared.Handle.{Handle}
-use Rattle.handle.specs.declared.Counted.TheVariants as counted
 use Rattle.handle.specs.declared.CountedOut.{CountedOut}
 use Rattle.handle.specs.Handles.{name_of}
-use Rattle.limits.specs.declared.Answer.{Answer}
-use Rattle.limits.specs.declared.Answer.TheVariants as answer
 use Rattle.call_read.specs.declared.OpenOut.{OpenOut}
 use Rattle.call_change.specs.Changing.{CreatesFile, CreatesDir, Deletes, Writes}
 use Rattle.thm_calls.specs.Named.{way_of, last_of}
@@ -31,6 +28,8 @@ use Rattle.promises.proofs.Files.{as_file, as_device, file_is, device_is, not_fi
 use Rattle.promises.proofs.Gone.{deleted_absent}
 use Rattle.promises.proofs.Lookups.{called_own, lookup-inserted, lookup-insert_other, lookup-delete_other}
 use Rattle.promises.proofs.Others.{Hollow, read_at, read_other, read_edit}
+use Rattle.std.specs.Prelude.{Result, Ok}
+use Rattle.limits.specs.declared.Refusal.{Refusal}
 
 -- ---- an edit of one directory, by the name n
 
@@ -93,7 +92,7 @@ module _ (M : Mount) (I J : List ℕ) (w : WellFormed M I) (v : WellFormed M J) 
 
 -- a write
 module _ (M : Mount) (I W : List ℕ) (h : Handle) (buf : List ℕ) (now : ℕ) (o : CountedOut) (J Z : List ℕ) (c : Writes M I W h buf now o J Z) (k : ℕ)
-    (e : o.answer ≡ counted.Bytes k) (clock : now < 2 ^ 64) (w : WellFormed M I) (v : WellFormed M J) (q : List Name) (m : Name) where
+    (e : o.answer ≡ Ok k) (clock : now < 2 ^ 64) (w : WellFormed M I) (v : WellFormed M J) (q : List Name) (m : Name) where
   write_local : (p : List Name) (z : ℕ) (cs : List Cell) → TreeWrites (geo_at M I) max_depth p (name_of h) now h.position buf w.tree I J
       → Local p (name_of h) w.tree (λ _ bs. change (name_of h) (λ x. refiled now z cs x.name x.time x.node) bs)
   unfolding file_entry refiled
@@ -120,7 +119,7 @@ module _ (M : Mount) (I W : List ℕ) (h : Handle) (buf : List ℕ) (now : ℕ) 
 
 -- create and delete
 module _ (M : Mount) (I W cwd p : List ℕ) (now : ℕ) where
-  module _ (o : OpenOut) (J Z : List ℕ) (c : CreatesFile M I W cwd p now o J Z) (e : o.answer ≡ answer.Success) (clock : now < 2 ^ 64)
+  module _ (o : OpenOut) (J Z : List ℕ) (c : CreatesFile M I W cwd p now o J Z) (e : o.answer ≡ Ok tt) (clock : now < 2 ^ 64)
       (w : WellFormed M I) (v : WellFormed M J) (q : List Name) (m : Name) where
     file_local : (cap x z : ℕ) (cs : List Cell) → Vacant max_depth (way_of cwd p) (last_of cwd p) w.tree
         → Local (way_of cwd p) (last_of cwd p) w.tree (λ _ bs. insert cap x (file_entry (last_of cwd p) now z cs) bs)
@@ -144,7 +143,7 @@ module _ (M : Mount) (I W cwd p : List ℕ) (now : ℕ) where
         edit_untouched M I J w v q m (way_of cwd p) (last_of cwd p) (λ _. now) _ (file_local _ _ _ _ a.vacant) (tree_after M I J w _ _ a.makes v)
         (λ y z. x (record { way = y; last = z }))
 
-  module _ (r : Answer) (J Z : List ℕ) (c : CreatesDir M I W cwd p now r J Z) (e : r ≡ answer.Success) (clock : now < 2 ^ 64)
+  module _ (r : Result (Unit {0}) Refusal) (J Z : List ℕ) (c : CreatesDir M I W cwd p now r J Z) (e : r ≡ Ok tt) (clock : now < 2 ^ 64)
       (w : WellFormed M I) (v : WellFormed M J) (q : List Name) (m : Name) where
     dir_others : (cap x y : ℕ) (n : Name) (d : ℕ) (t : Tree d) (a : Name) → (n ≡ a → ⊥) → lookup a (dir_added cap x y n now d t) ≡ lookup a t
     unfolding dir_added
@@ -177,7 +176,7 @@ module _ (M : Mount) (I W cwd p : List ℕ) (now : ℕ) where
         edit_untouched M I J w v q m (way_of cwd p) (last_of cwd p) (λ _. now) _ (dir_local _ _ _ a.vacant) (tree_after M I J w _ _ a.makes v)
         (λ y z. x (record { way = y; last = z }))
 
-  module _ (r : Answer) (J Z : List ℕ) (c : Deletes M I W cwd p now r J Z) (e : r ≡ answer.Success) (clock : now < 2 ^ 64)
+  module _ (r : Result (Unit {0}) Refusal) (J Z : List ℕ) (c : Deletes M I W cwd p now r J Z) (e : r ≡ Ok tt) (clock : now < 2 ^ 64)
       (w : WellFormed M I) (v : WellFormed M J) (q : List Name) (m : Name) where
     delete_local : TreeDeletes (geo_at M I) max_depth (way_of cwd p) (last_of cwd p) now w.tree I J → Local (way_of cwd p) (last_of cwd p) w.tree (λ _ bs. delete (last_of cwd p) bs)
     delete_local a =

@@ -30,16 +30,20 @@ use Rattle.thm_path.proofs.Finds.{sum_is}
 use Rattle.thm_path.proofs.Resolves.{lookup_name, resolve_way}
 use Rattle.call_read.specs.declared.OpenOut.{OpenOut}
 use Rattle.call_read.specs.declared.InfoOut.{InfoOut}
-use Rattle.call_read.specs.declared.Listing.{Listing}
-use Rattle.call_read.specs.Reading.{size, area_at, path_call, open_entry, open_on, open_reply, open_says, Opens, About, about, about_entry}
-use Rattle.call_read.specs.Reading.{about_root, info_on, info_reply, info_says, Informs, Counts, list_on, list_reply, records_on, on_reply}
-use Rattle.call_read.specs.Reading.{list_says, Lists}
+use Rattle.call_read.specs.declared.About.{About}
+use Rattle.call_read.specs.Reading.{size, area_at, path_call, open_entry, open_on, open_reply, open_says, Opens, about, about_entry}
+use Rattle.call_read.specs.Reading.{about_root, info_on, info_reply, info_says, Informs, list_on, list_reply, records_on, on_reply}
+use Rattle.call_read.specs.Reading.{Lists}
 use Rattle.thm_calls.specs.Named.{way_of, last_of, all_of}
 use Rattle.thm_calls.proofs.Calls.{list_counts, list_records}
 use Rattle.thm_calls.proofs.Changing.{volume_at}
-use Rattle.promises.specs.Refusals.{Spot, entry_at, open_node, open_answer, about_spot, info_answer, dir_answer, list_answer}
+use Rattle.promises.specs.Refusals.{Spot, spot_at, open_node, open_answer, about_spot, info_answer, dir_answer, list_answer}
 use Rattle.promises.specs.Refusals.{records_in}
 use Rattle.promises.proofs.Spots.{way_found, entry_then}
+use Rattle.std.specs.Prelude.{Result}
+use Rattle.limits.specs.Says.{says}
+use Rattle.limits.specs.declared.Refusal.{Refusal}
+use Rattle.read_dir.specs.declared.Listed.{Listed}
 
 -- ---- answers
 
@@ -112,7 +116,7 @@ module _ (M : Mount) (I : List ℕ) (w : WellFormed M I) (cwd p : List ℕ) wher
   pub informs : (o : InfoOut) → Informs M I cwd p o → info_says o ≡ info_answer (block_size (geo_at M I)) cwd p w.tree
   unfolding info_reply info_on info_answer
   informs o c =
-      let entry = and_then (entry_at (way_of cwd p) (last_of cwd p) w.tree) (about_spot (size M I)) in
+      let entry = and_then (spot_at (way_of cwd p) (last_of cwd p) w.tree) (about_spot (size M I)) in
       c.answer
       ∙ ap (λ (k : ℕ). given k (info_on (area_at M I) I (real_path cwd p) p)) call_is
       ∙ ap (λ (r : Reply About). given (path_refusal cwd p)
@@ -123,16 +127,16 @@ module _ (M : Mount) (I : List ℕ) (w : WellFormed M I) (cwd p : List ℕ) wher
 
   -- ---- list
 
-  module _ (i : ℕ) (buf out : List ℕ) (q : Listing) (c : Lists M I cwd p i buf q out) where
+  module _ (i : ℕ) (buf out : List ℕ) (q : Result Listed Refusal) (c : Lists M I cwd p i buf q out) where
     abbrev Said : Type 0
-    Said = (list_says q ≡ list_answer cwd p i (length buf) w.tree)
+    Said = (says q ≡ list_answer cwd p i (length buf) w.tree)
         × (out ≡ splice buf 0 (records_in (block_size (geo_at M I)) i (length buf) (dir_answer cwd p w.tree)))
 
     list_refused : (k : ℕ) → list_reply M I cwd p i (length buf) ≡ refused k → dir_answer cwd p w.tree ≡ refused k → Said
     unfolding list_answer
     list_refused k a b = (
       c.answer ∙ a ∙ sym (and_then_no k _ b),
-      c.buffer ∙ ap (λ (r : Reply Counts). on_reply r
+      c.buffer ∙ ap (λ (r : Reply Listed). on_reply r
           (splice buf 0 (records_on (area_at M I) I (real_path cwd p) i (length buf))) buf) a
           ∙ sym (splice-none buf) ∙ ap (λ (r : Reply Some). splice buf 0 (records_in (size M I) i (length buf) r)) (sym b),
     )
@@ -144,7 +148,7 @@ module _ (M : Mount) (I : List ℕ) (w : WellFormed M I) (cwd p : List ℕ) wher
         let found = way_found max_depth (all_of cwd p) w.tree s f in
         let a = list_counts M I w cwd p good s found i (length buf) in (
           c.answer ∙ a ∙ sym (and_then_ok s _ b),
-          c.buffer ∙ ap (λ (r : Reply Counts). on_reply r
+          c.buffer ∙ ap (λ (r : Reply Listed). on_reply r
               (splice buf 0 (records_on (area_at M I) I (real_path cwd p) i (length buf))) buf) a
               ∙ ap (splice buf 0) (list_records M I w cwd p good s found i (length buf))
               ∙ ap (λ (r : Reply Some). splice buf 0 (records_in (size M I) i (length buf) r)) (sym b),
@@ -154,7 +158,7 @@ module _ (M : Mount) (I : List ℕ) (w : WellFormed M I) (cwd p : List ℕ) wher
     unfolding list_reply list_on dir_answer
     lists = go (either (bad_path cwd p)) (way_to max_depth (all_of cwd p) w.tree) refl
       where
-        called : (r : Reply Counts) → given (path_call M I cwd p) r ≡ given (path_refusal cwd p) r
+        called : (r : Reply Listed) → given (path_call M I cwd p) r ≡ given (path_refusal cwd p) r
         called r = ap (λ (k : ℕ). given k r) call_is
 
         go : (bad_path cwd p ≡ true) ⊎ (bad_path cwd p ≡ false) → (r : Reply Some) → way_to max_depth (all_of cwd p) w.tree ≡ r

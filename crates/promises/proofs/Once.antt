@@ -8,9 +8,8 @@ use Rattle.wire.specs.Be.{splice}
 use Rattle.model.specs.Answers.{Reply, refused, reply, settle}
 use Rattle.handle.specs.Post.{MovedIs}
 use Rattle.file_read.specs.Post.{CountedIs}
-use Rattle.limits.specs.declared.Answer.{Answer}
-use Rattle.call_volume.specs.Says.{IfRefused}
-use Rattle.call_read.specs.Reading.{Counts, no_handle, no_about, about_of, on_reply, area_at, records_on, read_call}
+use Rattle.call_read.specs.Says.{IfRefused}
+use Rattle.call_read.specs.Reading.{no_handle, no_about, about_of, on_reply, area_at, records_on, read_call}
 use Rattle.file_read.specs.Read.{bytes_read}
 use Rattle.path.specs.Path.{real_path}
 use Rattle.call_room.proofs.Means.{room_one}
@@ -19,7 +18,11 @@ use Rattle.call_volume.proofs.Checked.{check_one}
 use Rattle.thm_calls.proofs.Changing.{create_file_kept, create_dir_kept, delete_kept, write_kept}
 use Rattle.thm_calls.proofs.Patching.{patch_kept}
 use Rattle.promises.specs.Once.{OneOutcome, RefusalKeeps}
-use Rattle.promises.proofs.Answered.{value_refused, refusal_said, count_refused}
+use Rattle.promises.proofs.Answered.{value_refused}
+use Rattle.limits.proofs.Said.{said_err}
+use Rattle.std.specs.Prelude.{Result}
+use Rattle.limits.specs.declared.Refusal.{Refusal}
+use Rattle.read_dir.specs.declared.Listed.{Listed}
 
 -- D1. Each call has one outcome.
 pub one_outcome : OneOutcome
@@ -54,34 +57,34 @@ refusal_keeps =
       formats = λ M I J r j c e. c.image ∙ format_kept _ j _ I (sym e ∙ c.answer);
       checks = λ M I W Z r j c e. c.work;
       opens = λ M I cwd p o j c e.
-          subst (λ (y : Answer). IfRefused y (o.handle ≡ no_handle)) (value_refused o.answer o.handle j e).1 c.empty;
+          subst (λ (y : Result (Unit {0}) Refusal). IfRefused y (o.handle ≡ no_handle)) (value_refused o.answer o.handle j e).1 c.empty;
       informs = λ M I cwd p o j c e.
-          subst (λ (y : Answer). IfRefused y (about_of o ≡ no_about)) (value_refused o.answer (about_of o) j e).1 c.empty;
+          subst (λ (y : Result (Unit {0}) Refusal). IfRefused y (about_of o ≡ no_about)) (value_refused o.answer (about_of o) j e).1 c.empty;
       lists = λ M I cwd p n buf out q j c e.
           let records : List ℕ = records_on (area_at M I) I (real_path cwd p) n (length buf) in
-          c.buffer ∙ ap (λ (r : Reply Counts). on_reply r (splice buf 0 records) buf) (sym c.answer ∙ e);
+          c.buffer ∙ ap (λ (r : Reply Listed). on_reply r (splice buf 0 records) buf) (sym c.answer ∙ e);
       reads = λ M I h buf out o j c e.
           let vs : List ℕ = bytes_read (area_at M I) I h (length buf) in
-          let x = count_refused o.answer j e in
+          let x = said_err o.answer j e in
           let k = subst (CountedIs (read_call M I h (length buf)) h o.handle vs buf out) x.1 c in
           (k.handle, k.kept);
-      seeks = λ h from s j c e. (subst (MovedIs h from s.handle) (refusal_said s.answer j e).1 c).1;
+      seeks = λ h from s j c e. (subst (MovedIs h from s.handle) (said_err s.answer j e).1 c).1;
       creates_file = λ M I W cwd p time J Z o j c e.
           let x = value_refused o.answer o.handle j e in
           let k = create_file_kept M I W cwd p time J Z o c x.0 x.1 in
           (k.0, k.1, c.work);
       creates_dir = λ M I W cwd p time J Z r j c e.
-          let x = refusal_said r j e in
+          let x = said_err r j e in
           (create_dir_kept M I W cwd p time J Z r c x.0 x.1, c.work);
       deletes = λ M I W cwd p time J Z r j c e.
-          let x = refusal_said r j e in
+          let x = said_err r j e in
           (delete_kept M I W cwd p time J Z r c x.0 x.1, c.work);
       writes = λ M I W h buf time o J Z j c e.
-          let x = count_refused o.answer j e in
+          let x = said_err o.answer j e in
           let k = write_kept M I W h buf time o J Z c x.0 x.1 in
           (k.0, k.1, c.work);
       patches = λ M I W h buf time o J Z j c e.
-          let x = count_refused o.answer j e in
+          let x = said_err o.answer j e in
           let k = patch_kept M I W h buf time o J Z c x.0 x.1 in
           (k.0, k.1, c.work);
     }

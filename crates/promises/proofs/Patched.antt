@@ -28,18 +28,15 @@ use Rattle.handle.specs.declared.Handle.{Handle}
 use Rattle.handle.specs.declared.SeekFrom.TheVariants.{Start}
 use Rattle.handle.specs.declared.Sought.{Sought}
 use Rattle.handle.specs.declared.CountedOut.{CountedOut}
-use Rattle.handle.specs.declared.Counted.TheVariants as counted
 use Rattle.handle.specs.Handles.{name_of, stale_fields, moved}
 use Rattle.handle.specs.OnTree.{OnFile, Lost, Stale}
 use Rattle.handle.specs.Post.{SoughtIs}
 use Rattle.write_store.proofs.Writes.{good_file}
 use Rattle.write.specs.Writing.{Target, grown_handle, count_of}
-use Rattle.write.specs.Written.{counted_says}
 use Rattle.patch_store.proofs.Tails.{overlaid-places, overlaid-contents}
 use Rattle.patch.specs.Patching.{past_end, patch_target}
 use Rattle.patch.specs.OnTree.{Patchable}
 use Rattle.patch.proofs.Targets.{patch_cases, write_end}
-use Rattle.call_volume.specs.Says.{says}
 use Rattle.call_read.specs.Reading.{Reads}
 use Rattle.call_change.specs.Changing.{Writes}
 use Rattle.call_patch.specs.Patches.{patch_reply, Patches}
@@ -50,7 +47,7 @@ use Rattle.promises.specs.Counter.{Untouched, Another}
 use Rattle.promises.specs.Promises.{UsedTrue}
 use Rattle.promises.specs.Refusals.{file_by, stale_by, patch_number}
 use Rattle.promises.specs.Work.{FileOf, ReadsBack, over}
-use Rattle.promises.proofs.Answered.{count_said}
+use Rattle.limits.proofs.Said.{said_ok}
 use Rattle.promises.proofs.Checks.{long_passes}
 use Rattle.promises.proofs.Counter.{current_again}
 use Rattle.promises.proofs.Done.{file_of_lem}
@@ -59,30 +56,32 @@ use Rattle.promises.proofs.Files.{file_at_lem}
 use Rattle.promises.proofs.Handles.{numbered, in_file}
 use Rattle.promises.proofs.Kept.{write_others}
 use Rattle.promises.proofs.Well.{written_well, write_used}
+use Rattle.std.specs.Prelude.{Ok}
+use Rattle.limits.specs.Says.{says}
 
 -- ---- S1, S2: as after that write
 
 module _ (M : Mount) (I W : List ℕ) (now : ℕ) (J Z : List ℕ) (b : Bytes I) (clock : now < 2 ^ 64) (h : Handle) (buf : List ℕ) (o : CountedOut) (k : ℕ)
-    (c : Patches M I W h buf now o J Z) (e : counted_says o.answer ≡ accepted k) where
+    (c : Patches M I W h buf now o J Z) (e : says o.answer ≡ accepted k) where
   pub patched_well : WellFormed M J
   patched_well =
-      let s = count_said o.answer k e in
+      let s = said_ok o.answer k e in
       let w = patch_before M I W h buf now o J Z c k b s in
       written_well M I W now J Z b clock h _ _ _ (patch_writes M I W h buf now o J Z c k w s) refl
 
   pub patch_used : UsedTrue M J
   patch_used =
-      let s = count_said o.answer k e in
+      let s = said_ok o.answer k e in
       let w = patch_before M I W h buf now o J Z c k b s in
       write_used M I W now J Z b clock h _ _ _ (patch_writes M I W h buf now o J Z c k w s) refl
 
 -- ---- S3
 
 pub patch_others : (M : Mount) (I W : List ℕ) (h : Handle) (buf : List ℕ) (now : ℕ) (o : CountedOut) (J Z : List ℕ) → Patches M I W h buf now o J Z
-    → (k : ℕ) → counted_says o.answer ≡ accepted k → now < 2 ^ 64 → (w : WellFormed M I) (v : WellFormed M J) (q : List Name) (m : Name)
+    → (k : ℕ) → says o.answer ≡ accepted k → now < 2 ^ 64 → (w : WellFormed M I) (v : WellFormed M J) (q : List Name) (m : Name)
     → Another max_depth w.tree h q m → Untouched (block_size (geo_at M I)) max_depth w.tree v.tree I J q m
 patch_others M I W h buf now o J Z c k e clock w v q m =
-    write_others M I W h _ now _ J Z (patch_writes M I W h buf now o J Z c k w (count_said o.answer k e)) _ refl clock w v q m
+    write_others M I W h _ now _ J Z (patch_writes M I W h buf now o J Z c k w (said_ok o.answer k e)) _ refl clock w v q m
 
 -- ---- S5
 
@@ -103,9 +102,9 @@ moved_fresh h i f l =
     (or_false (ltb h.size h.position) (ltb file_limit h.size || (eqb h.len 0 || ltb 255 h.len)) f).1
 
 module _ (M : Mount) (I W : List ℕ) (h : Handle) (buf : List ℕ) (now : ℕ) (o : CountedOut) (J Z : List ℕ) (c : Patches M I W h buf now o J Z) (k : ℕ)
-    (said : counted_says o.answer ≡ accepted k) (w : WellFormed M I) where
-  counts : o.answer ≡ counted.Bytes k
-  counts = count_said o.answer k said
+    (said : says o.answer ≡ accepted k) (w : WellFormed M I) where
+  counts : o.answer ≡ Ok k
+  counts = said_ok o.answer k said
 
   abbrev able : Patchable max_depth w.tree h (length buf)
   able = patch_on M I W h buf now o J Z c k w counts
@@ -133,7 +132,7 @@ module _ (M : Mount) (I W : List ℕ) (h : Handle) (buf : List ℕ) (now : ℕ) 
   end : h.position + length whole ≡ h.size
   end = write_end (geo_at M I) I w.tree (volume_at M I w) h buf able
 
-  as_write : Writes M I W h whole now (record { answer = counted.Bytes (length whole); handle = grown_handle h (length whole) }) J Z
+  as_write : Writes M I W h whole now (record { answer = Ok (length whole); handle = grown_handle h (length whole) }) J Z
   as_write = patch_writes M I W h buf now o J Z c k w counts
 
   module _ (clock : now < 2 ^ 64) where
@@ -155,7 +154,7 @@ module _ (M : Mount) (I W : List ℕ) (h : Handle) (buf : List ℕ) (now : ℕ) 
 
     -- and a read through the handle that the patch answers, sent to i, is a read through that write's.
     read_at_lem : length h.name ≡ 255 → (i : ℕ) → i ≤ h.size → (s : Sought) → SoughtIs o.handle (Start i) s → (rbuf out : List ℕ) (r : CountedOut) → Reads M J s.handle rbuf out r
-        → (says s.answer ≡ accepted tt) × (counted_says r.answer ≡ accepted (min (length rbuf) (h.size - i)))
+        → (says s.answer ≡ accepted tt) × (says r.answer ≡ accepted (min (length rbuf) (h.size - i)))
         × (out ≡ splice rbuf 0 (take (min (length rbuf) (h.size - i)) (drop i (over old h.position buf))))
     read_at_lem name i low s a rbuf out r b =
         let g : o.handle ≡ moved h (h.position + length buf) = (patch_handle M I W h buf now o J Z c k counts).1 in
@@ -168,7 +167,7 @@ module _ (M : Mount) (I W : List ℕ) (h : Handle) (buf : List ℕ) (now : ℕ) 
         (subst (λ (x : Handle). Reads M J x rbuf out r) to b) in
         let long : h.position + length whole - i ≡ h.size - i = omega (arith, end) in (
           ap says y.0,
-          ap counted_says v.0 ∙ ap (λ (z : ℕ). accepted (min (length rbuf) z)) long,
+          ap says v.0 ∙ ap (λ (z : ℕ). accepted (min (length rbuf) z)) long,
           v.1 ∙ (λ j. splice rbuf 0 (take (min (length rbuf) (long j)) (drop i (take h.position (same_bytes j) ++ whole)))),
         )
 
@@ -244,7 +243,7 @@ module _ (M : Mount) (I W : List ℕ) (b : Bytes I) (w : WellFormed M I) (long :
       go (inr s) (inr f) = let n = lost_number M I w h f s in passes 11 _ f ∙ first_of_head _ _ (omega (arith, n)) ∙ n
 
   -- A patch is refused by 13, 11 and 19 just where the tree says, and else answers the buffer's length.
-  pub patches : counted_says o.answer ≡ reply (patch_number h (length buf) w.tree) (length buf)
+  pub patches : says o.answer ≡ reply (patch_number h (length buf) w.tree) (length buf)
   unfolding patch_reply count_of
   patches =
       c.answer

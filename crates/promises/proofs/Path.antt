@@ -22,10 +22,7 @@ use Rattle.model.proofs.Paths.{laid_path}
 use Rattle.delete_store.proofs.Removes.{delete_at}
 use Rattle.handle.specs.declared.Handle.{Handle}
 use Rattle.handle.specs.declared.CountedOut.{CountedOut}
-use Rattle.handle.specs.declared.Counted.TheVariants as counted
 use Rattle.handle.specs.Handles.{name_of}
-use Rattle.limits.specs.declared.Answer.{Answer}
-use Rattle.limits.specs.declared.Answer.TheVariants as answer
 use Rattle.call_read.specs.declared.OpenOut.{OpenOut}
 use Rattle.call_change.specs.Changing.{CreatesFile, Deletes, Writes}
 use Rattle.call_patch.specs.Patches.{Patches}
@@ -34,8 +31,9 @@ use Rattle.patch.proofs.Targets.{whole_of}
 use Rattle.thm_calls.specs.Named.{last_of}
 use Rattle.thm_calls.proofs.Changing.{volume_at, create_file_tree, create_file_bytes, create_file_kept, delete_tree, delete_bytes, delete_kept, write_tree, write_bytes, write_kept}
 use Rattle.thm_calls.proofs.Patching.{patch_bytes, patch_kept, patch_on, patch_writes}
-use Rattle.promises.proofs.Answered.{answer_is, counted_is}
+use Rattle.limits.proofs.Said.{answer_is}
 use Rattle.promises.specs.Sequence.{Leads, HandleAt, Call, creates, opens, reads, seeks, writes, patches, deletes, Calls, done, call, ReachedIn, UsedBy}
+use Rattle.std.specs.Prelude.{Result, Ok, Err}
 
 -- ---- the holding directory begins where it did
 
@@ -120,26 +118,26 @@ module _ (M : Mount) (a : ℕ) (p : List Name) (n : Name) (I J : List ℕ) (w : 
       → CreatesFile M I W cwd path now o J Z → Next M a p n I w J
   creates_next cwd path W Z now o l clock c = go (answer_is o.answer)
     where
-      go : (o.answer ≡ answer.Success) ⊎ ((x : Refusal) × (o.answer ≡ answer.Refused x)) → Next M a p n I w J
+      go : ((u : Unit {0}) × (o.answer ≡ Ok u)) ⊎ ((x : Refusal) × (o.answer ≡ Err x)) → Next M a p n I w J
       go (inl e) =
-          let m = create_file_tree M I W cwd path now J Z o c w clock e in
+          let m = create_file_tree M I W cwd path now J Z o c w clock e.1 in
           created-next now
           (subst (λ (m : Name). TreeCreatesFile (geo_at M I) max_depth p m now w.tree I J) l.last
           (subst (λ (q : List Name). TreeCreatesFile (geo_at M I) max_depth q (last_of cwd path) now w.tree I J) l.way m))
-          (λ b. create_file_bytes M I W cwd path now J Z o c b clock e)
+          (λ b. create_file_bytes M I W cwd path now J Z o c b clock e.1)
       go (inr e) = stays (create_file_kept M I W cwd path now J Z o c e.0 e.1).0
 
-  deletes_next : (cwd path W Z : List ℕ) (now : ℕ) (r : Answer) → Leads p n cwd path → now < 2 ^ 64
+  deletes_next : (cwd path W Z : List ℕ) (now : ℕ) (r : Result (Unit {0}) Refusal) → Leads p n cwd path → now < 2 ^ 64
       → Deletes M I W cwd path now r J Z → Next M a p n I w J
   deletes_next cwd path W Z now r l clock c = go (answer_is r)
     where
-      go : (r ≡ answer.Success) ⊎ ((x : Refusal) × (r ≡ answer.Refused x)) → Next M a p n I w J
+      go : ((u : Unit {0}) × (r ≡ Ok u)) ⊎ ((x : Refusal) × (r ≡ Err x)) → Next M a p n I w J
       go (inl e) =
-          let m = delete_tree M I W cwd path now J Z r c w clock e in
+          let m = delete_tree M I W cwd path now J Z r c w clock e.1 in
           deleted-next now
           (subst (λ (m : Name). TreeDeletes (geo_at M I) max_depth p m now w.tree I J) l.last
           (subst (λ (q : List Name). TreeDeletes (geo_at M I) max_depth q (last_of cwd path) now w.tree I J) l.way m))
-          (λ b. delete_bytes M I W cwd path now J Z r c b e)
+          (λ b. delete_bytes M I W cwd path now J Z r c b e.1)
       go (inr e) = stays (delete_kept M I W cwd path now J Z r c e.0 e.1)
 
   -- a directory's first address has one path
@@ -150,9 +148,9 @@ module _ (M : Mount) (a : ℕ) (p : List Name) (n : Name) (I J : List ℕ) (w : 
 
   writes_next : (h : Handle) (buf W Z : List ℕ) (now : ℕ) (o : CountedOut) → HandleAt a n h → Bytes buf → now < 2 ^ 64
       → Writes M I W h buf now o J Z → Next M a p n I w J
-  writes_next h buf W Z now o l d clock c = go (counted_is o.answer)
+  writes_next h buf W Z now o l d clock c = go (answer_is o.answer)
     where
-      go : ((k : ℕ) × (o.answer ≡ counted.Bytes k)) ⊎ ((x : Refusal) × (o.answer ≡ counted.Refused x)) → Next M a p n I w J
+      go : ((k : ℕ) × (o.answer ≡ Ok k)) ⊎ ((x : Refusal) × (o.answer ≡ Err x)) → Next M a p n I w J
       go (inl e) =
           let m = write_tree M I W h buf now o J Z c e.0 w clock e.1 in
           written_next now h.position buf
@@ -165,9 +163,9 @@ module _ (M : Mount) (a : ℕ) (p : List Name) (n : Name) (I J : List ℕ) (w : 
   -- a patch is a step as that write is which leaves the same
   patches_next : (h : Handle) (buf W Z : List ℕ) (now : ℕ) (o : CountedOut) → HandleAt a n h → Bytes buf → now < 2 ^ 64
       → Patches M I W h buf now o J Z → Next M a p n I w J
-  patches_next h buf W Z now o l d clock c = go (counted_is o.answer)
+  patches_next h buf W Z now o l d clock c = go (answer_is o.answer)
     where
-      go : ((k : ℕ) × (o.answer ≡ counted.Bytes k)) ⊎ ((x : Refusal) × (o.answer ≡ counted.Refused x)) → Next M a p n I w J
+      go : ((k : ℕ) × (o.answer ≡ Ok k)) ⊎ ((x : Refusal) × (o.answer ≡ Err x)) → Next M a p n I w J
       go (inl e) =
           let vs : List ℕ = whole_of max_depth w.tree h buf (patch_on M I W h buf now o J Z c e.0 w e.1).on_file in
           let m = write_tree M I W h vs now _ J Z (patch_writes M I W h buf now o J Z c e.0 w e.1) (length vs) w clock refl in

@@ -1,7 +1,8 @@
 -- Every promise is kept.
 use native.Mathlib.Omega.{arith}
 use Rattle.promises.specs.Promises.{StaysWell, UsedIsTrue, PathIsRestored, OthersKept, CounterIsSafe}
-use Rattle.promises.proofs.Answered.{value_said, success_said, count_said}
+use Rattle.promises.proofs.Answered.{value_said}
+use Rattle.limits.proofs.Said.{said_ok}
 use Rattle.promises.proofs.Path.{calls_well, calls_restore}
 use Rattle.promises.proofs.Counter.{stale_kept, stale_answer, current_again}
 use Rattle.promises.proofs.Patched.{patched_well, patch_used, patch_others}
@@ -45,12 +46,12 @@ path_is_restored = record { well = calls_well; restored = calls_restore }
 pub others_kept : OthersKept
 others_kept =
     record {
-      write = λ M I W h buf now o J Z c k e. write_others M I W h buf now o J Z c k (count_said o.answer k e);
+      write = λ M I W h buf now o J Z c k e. write_others M I W h buf now o J Z c k (said_ok o.answer k e);
       patch = patch_others;
       create_file = λ M I W cwd p now o J Z c a e.
           create_file_others M I W cwd p now o J Z c (value_said o.answer o.handle a e);
-      create_dir = λ M I W cwd p now r J Z c e. create_dir_others M I W cwd p now r J Z c (success_said r e);
-      delete = λ M I W cwd p now r J Z c e. delete_others M I W cwd p now r J Z c (success_said r e);
+      create_dir = λ M I W cwd p now r J Z c e. create_dir_others M I W cwd p now r J Z c (said_ok r tt e);
+      delete = λ M I W cwd p now r J Z c e. delete_others M I W cwd p now r J Z c (said_ok r tt e);
     }
 
 -- S4.

@@ -18,9 +18,7 @@ use Rattle.path.specs.Path.{bad_path}
 use Rattle.handle.specs.declared.Handle.{Handle}
 use Rattle.handle.specs.Handles.{stale_fields, moved}
 use Rattle.file_read.specs.Read.{read_refusal}
-use Rattle.write.specs.Written.{counted_says}
 use Rattle.call_read.specs.declared.OpenOut.{OpenOut}
-use Rattle.call_volume.specs.Says.{says}
 use Rattle.call_read.specs.Reading.{Opens, read_call, Reads}
 use Rattle.thm_calls.specs.Handles.{HandleOf}
 use Rattle.thm_calls.specs.Named.{way_of, last_of}
@@ -29,6 +27,7 @@ use Rattle.thm_calls.proofs.ReadsBack.{seek_inside, reads_given}
 use Rattle.promises.specs.Work.{ReadsBack}
 use Rattle.promises.proofs.Answered.{value_is}
 use Rattle.promises.proofs.Files.{file_there}
+use Rattle.limits.specs.Says.{says}
 
 -- A handle of a file, z bytes in the blocks cs: a seek to any position in the file and a read from there.
 module _ (M : Mount) (I : List ℕ) (w : WellFormed M I) (q : List Name) (n : Name) (z : ℕ) (cs : List Cell)
@@ -51,7 +50,7 @@ module _ (M : Mount) (I : List ℕ) (w : WellFormed M I) (q : List Name) (n : Na
       let d = reads_given _ (moved h i) r.handle _ rbuf out r.answer
       (read_file M I w q o.dir o.there n o.entry o.held z cs f (moved h i) at (length rbuf)) c in (
         ap says y.0,
-        ap counted_says d.0 ∙ ap (λ (k : ℕ). accepted (min (length rbuf) (k - i))) a.size,
+        ap says d.0 ∙ ap (λ (k : ℕ). accepted (min (length rbuf) (k - i))) a.size,
         d.1 ∙ ap (splice rbuf 0) (read_bytes M I w q o.dir o.there n o.entry o.held z cs f (moved h i) at
             (length rbuf)),
       )

@@ -4,22 +4,23 @@ use mathlib.Core.List.{List}
 use Prim.Native.Nat.{ℕ, zero, suc, ◌≤◌}
 use native.Mathlib.Omega.{arith}
 use lib.ListN.{length}
-use Rattle.model.specs.Answers.{refused, reply}
+use Rattle.model.specs.Answers.{accepted, refused, reply}
 use Rattle.model.specs.Geometry.{Mount, Geo, geo_at, open_refusal}
 use Rattle.model.specs.Volume.{Volume, WellFormed, max_depth}
 use Rattle.model.specs.Calls.{free_blocks}
 use Rattle.model.proofs.Replies.{reply-none, not_accepted}
 use Rattle.model.proofs.OneVolume.{well_formed_geo}
 use Rattle.limits.specs.Refusals.{refusal_number}
+use Rattle.limits.specs.Says.{says}
 use Rattle.bitmap_block.specs.Bitmap.{clears}
 use Rattle.bitmap_block.proofs.Stores.{volume_clears}
 use Rattle.bitmap_room.specs.declared.Told.{Told}
-use Rattle.call_room.specs.declared.RoomOut.{RoomOut}
-use Rattle.call_room.specs.declared.RoomOut.TheVariants.{Known, Refused}
 use Rattle.bitmap_room.specs.Search.{room_in}
 use Rattle.call_room.specs.Room.{Asks}
 use Rattle.call_room.proofs.Means.{room_enough, room_fewest, room_all}
 use Rattle.promises.specs.Room.{RoomIsTold}
+use Rattle.std.specs.Prelude.{Result, Ok, Err}
+use Rattle.limits.specs.declared.Refusal.{Refusal}
 
 -- a refusal's number
 refusal_is : {A : Type 0} (k : ℕ) (a : A) (j : ℕ) → refused j ≡ reply k a → (1 ≤ j) × (k ≡ j)
@@ -28,9 +29,9 @@ refusal_is zero a j e = let z : ◌≡◌ {A = ℕ} 0 1 = cc in absurd (omega ar
 refusal_is (suc k) a j e = let n : j ≡ suc k = cc in (omega arith, sym n)
 
 -- none, and a value is answered
-known_is : (M : Mount) (I : List ℕ) (k : ℕ) (r : RoomOut) → Asks M I k r → open_refusal M I ≡ 0 → (t : Told) × (r ≡ Known t)
-known_is M I k (Known t) a z = (t, refl)
-known_is M I k (Refused x) a z = absurd (not_accepted (refusal_number x) (room_in (geo_at M I) I k) (a ∙ reply-none _ z))
+known_is : (M : Mount) (I : List ℕ) (k : ℕ) (r : Result Told Refusal) → Asks M I k r → open_refusal M I ≡ 0 → (t : Told) × (says r ≡ accepted t)
+known_is M I k (Ok t) a z = (t, refl)
+known_is M I k (Err x) a z = absurd (not_accepted (refusal_number x) (room_in (geo_at M I) I k) (a ∙ reply-none _ z))
 
 -- the tree's free blocks are the clear ones
 free_is : (M : Mount) (I : List ℕ) (w : WellFormed M I) → clears (geo_at M I) I ≡ free_blocks (geo_at M I) max_depth w.tree
@@ -42,14 +43,14 @@ free_is M I w =
 pub room_is_told : RoomIsTold
 room_is_told =
     record {
-      enough = λ M I k t a. let r = room_enough M I k t a in (λ e. omega (arith, r.0 e), λ h. r.1 (omega arith));
-      fewest = λ M I k t a e.
-          let r = room_fewest M I k t a e in (omega (arith, r.0), λ m o. omega (arith, r.1 m (omega arith)));
-      all = λ M I k t a e. room_all M I k t a e;
-      free = λ M I k t a w.
-          let r = room_enough M I k t a in
+      enough = λ M I k r t a s. let q = room_enough M I k t (sym s ∙ a) in (λ e. omega (arith, q.0 e), λ h. q.1 (omega arith));
+      fewest = λ M I k r t a s e.
+          let q = room_fewest M I k t (sym s ∙ a) e in (omega (arith, q.0), λ m o. omega (arith, q.1 m (omega arith)));
+      all = λ M I k r t a s e. room_all M I k t (sym s ∙ a) e;
+      free = λ M I k r t a s w.
+          let q = room_enough M I k t (sym s ∙ a) in
           let n = ap length (free_is M I w) in
-          (λ e. omega (arith, r.0 e, n), λ h. r.1 (omega (arith, n)));
+          (λ e. omega (arith, q.0 e, n), λ h. q.1 (omega (arith, n)));
       refusal = λ M I k r j a e. refusal_is (open_refusal M I) (room_in (geo_at M I) I k) j (sym e ∙ a);
       known = known_is;
     }

@@ -29,11 +29,8 @@ use Rattle.handle.specs.declared.Handle.{Handle}
 use Rattle.handle.specs.declared.CountedOut.{CountedOut}
 use Rattle.write.specs.OnTree.{NoRoom}
 use Rattle.write.specs.Writing.{target_of}
-use Rattle.write.specs.Written.{counted_says}
 use Rattle.write.proofs.Targets.{no_room_lem}
-use Rattle.limits.specs.declared.Answer.{Answer}
 use Rattle.call_read.specs.declared.OpenOut.{OpenOut}
-use Rattle.call_volume.specs.Says.{says}
 use Rattle.call_read.specs.Reading.{open_says}
 use Rattle.call_change.specs.Changing.{fresh_handle, CreatesFile, CreatesDir, Writes}
 use Rattle.thm_calls.specs.Named.{way_of, last_of}
@@ -43,6 +40,9 @@ use Rattle.promises.specs.Refusals.{fresh_in, create_answer}
 use Rattle.promises.proofs.Spots.{way_found, way_number, found_way}
 use Rattle.promises.proofs.Creates.{creates_file, creates_dir}
 use Rattle.promises.proofs.Handles.{write_says}
+use Rattle.std.specs.Prelude.{Result}
+use Rattle.limits.specs.Says.{says}
+use Rattle.limits.specs.declared.Refusal.{Refusal}
 
 -- the number of a refused answer
 reply_number : {A : Type 0} (j k : ℕ) (a : A) → reply j a ≡ refused k → j ≡ k
@@ -126,7 +126,7 @@ module _ (g : Geo) (k : Kind) (cwd p : List ℕ) (good : bad_path cwd p ≡ fals
 
 module _ (M : Mount) (I W : List ℕ) (b : Bytes I) (w : WellFormed M I) (long : mark_long (geo_at M I) ≤ length W) where
   pub write_full : (h : Handle) (buf : List ℕ) (now : ℕ) (o : CountedOut) (J Z : List ℕ) → Writes M I W h buf now o J Z
-      → (counted_says o.answer ≡ refused 9) ↔ NoRoom (geo_at M I) max_depth w.tree h (length buf)
+      → (says o.answer ≡ refused 9) ↔ NoRoom (geo_at M I) max_depth w.tree h (length buf)
   write_full h buf now o J Z c =
       let r = no_room_lem (geo_at M I) I w.tree (volume_at M I w) h (length buf) in
       let says = write_says M I W b w long h buf now o J Z c in (
@@ -142,7 +142,7 @@ module _ (M : Mount) (I W : List ℕ) (b : Bytes I) (w : WellFormed M I) (long :
         let says = creates_file M I W b w long cwd p now o J Z c in
         (λ e. r.0 (sym says ∙ e), λ f. says ∙ r.1 f)
 
-    pub create_dir_full : (q : Answer) (J Z : List ℕ) → CreatesDir M I W cwd p now q J Z
+    pub create_dir_full : (q : Result (Unit {0}) Refusal) (J Z : List ℕ) → CreatesDir M I W cwd p now q J Z
         → (says q ≡ refused 9) ↔ CreateFull (geo_at M I) kind.Dir max_depth (way_of cwd p) (last_of cwd p) w.tree
     create_dir_full q J Z c =
         let r = full_is (geo_at M I) kind.Dir cwd p good w.tree (λ x. tt) in

@@ -24,7 +24,7 @@ use Rattle.thm_path.proofs.Finds.{lookup_or}
 use Rattle.dir.proofs.HoldLaws.{hold_resolve}
 use Rattle.thm_path.proofs.Resolves.{lookup_name, absent_none, Agree, leads, stops, way_agrees, resolve_way, entry_is}
 use Rattle.thm_path.proofs.Resolves.{entry_missing, entry_stops}
-use Rattle.promises.specs.Refusals.{Spot, entry_in, entry_at}
+use Rattle.promises.specs.Refusals.{Spot, entry_in, spot_at}
 
 -- ---- the way, and the tree's path
 
@@ -84,18 +84,18 @@ module _ (g : Geo) (I : List ℕ) (t : Tree max_depth) (u : ℕ) (l : Laid g I m
         omega arith
 
     -- What is at the path, by the way and the directory:
-    pub at_stops : (k : ℕ) → way_to max_depth way t ≡ refused k → entry_at way last t ≡ on_name last (refused k)
-    unfolding entry_at
+    pub at_stops : (k : ℕ) → way_to max_depth way t ≡ refused k → spot_at way last t ≡ on_name last (refused k)
+    unfolding spot_at
     at_stops k e = ap (λ (r : Reply Spot). on_name last r) (and_then_no k (λ s. entry_in s (lookup last s.1)) e)
 
-    pub at_missing : (s : Some) → way_to max_depth way t ≡ accepted s → Absent last s.1 → entry_at way last t ≡ refused 5
-    unfolding entry_at entry_in
+    pub at_missing : (s : Some) → way_to max_depth way t ≡ accepted s → Absent last s.1 → spot_at way last t ≡ refused 5
+    unfolding spot_at entry_in
     at_missing s e a =
         name_five last _ (and_then_ok s (λ s. entry_in s (lookup last s.1)) e ∙ ap (entry_in s) (absent_none last s.1 a))
 
     pub at_entry : (s : Some) → way_to max_depth way t ≡ accepted s → (e : Entry (Below s.0)) → lookup last s.1 ≡ some e
-        → entry_at way last t ≡ accepted (s, e)
-    unfolding entry_at entry_in
+        → spot_at way last t ≡ accepted (s, e)
+    unfolding spot_at entry_in
     at_entry s w e k =
         name_some last _ (name_there s (way_found max_depth way t s w) e k)
         ∙ and_then_ok s (λ s. entry_in s (lookup last s.1)) w ∙ ap (entry_in s) k
@@ -104,12 +104,12 @@ module _ (g : Geo) (I : List ℕ) (t : Tree max_depth) (u : ℕ) (l : Laid g I m
     pub entry_then : {A : Type 0} (f : Held → Reply A) (h : Spot → Reply A)
         → ((s : Some) (e : Entry (Below s.0)) → lookup last s.1 ≡ some e
         → f (held (blocks_at s.1) (head_of (view (block_size g) s.0) e)) ≡ h (s, e))
-        → and_then (entry_of (area_of g) I q) f ≡ and_then (entry_at way last t) h
+        → and_then (entry_of (area_of g) I q) f ≡ and_then (spot_at way last t) h
     entry_then f h same = go (way_to max_depth way t) refl
       where
         by : (s : Some) → way_to max_depth way t ≡ accepted s → ((e : Entry (Below s.0)) × (lookup last s.1 ≡ some e))
             ⊎ Absent last s.1
-            → and_then (entry_of (area_of g) I q) f ≡ and_then (entry_at way last t) h
+            → and_then (entry_of (area_of g) I q) f ≡ and_then (spot_at way last t) h
         by s w (inl e) =
             and_then_ok _ f (entry_is g I max_depth t u q l s e.0 (way_found max_depth way t s w) e.1) ∙ same s e.0 e.1
             ∙ sym (and_then_ok (s, e.0) h (at_entry s w e.0 e.1))
@@ -118,12 +118,12 @@ module _ (g : Geo) (I : List ℕ) (t : Tree max_depth) (u : ℕ) (l : Laid g I m
             ∙ sym (and_then_no 5 h (at_missing s w a))
 
         stopped : (n : Name) (k : ℕ) → entry_of (area_of g) I q ≡ on_name n (refused k)
-            → entry_at way last t ≡ on_name n (refused k)
-            → and_then (entry_of (area_of g) I q) f ≡ and_then (entry_at way last t) h
+            → spot_at way last t ≡ on_name n (refused k)
+            → and_then (entry_of (area_of g) I q) f ≡ and_then (spot_at way last t) h
         stopped [] k a b = and_then_no 5 f a ∙ sym (and_then_no 5 h b)
         stopped (c ∷ n) k a b = and_then_no k f a ∙ sym (and_then_no k h b)
 
         go : (r : Reply Some) → way_to max_depth way t ≡ r
-            → and_then (entry_of (area_of g) I q) f ≡ and_then (entry_at way last t) h
+            → and_then (entry_of (area_of g) I q) f ≡ and_then (spot_at way last t) h
         go (accepted s) w = by s w (lookup_or last s.1)
         go (refused k) w = stopped last k (entry_stops g I max_depth t u q l k w) (at_stops k w)

@@ -20,12 +20,10 @@ use Rattle.model.proofs.Others.{name_or, other_file}
 use Rattle.model.proofs.Replies.{settle-none}
 use Rattle.handle.specs.declared.Handle.{Handle}
 use Rattle.handle.specs.declared.CountedOut.{CountedOut}
-use Rattle.handle.specs.declared.Counted.TheVariants as counted
 use Rattle.handle.specs.Handles.{name_of}
 use Rattle.handle.specs.OnTree.{FileIn, OnFile}
 use Rattle.write_store.proofs.Writes.{good_file}
 use Rattle.write.specs.Writing.{count_of}
-use Rattle.write.specs.Written.{counted_says}
 use Rattle.patch_store.specs.Torn.{Arrived, Mixture}
 use Rattle.patch_store.proofs.Mixes.{same_first}
 use Rattle.patch_store.proofs.Tails.{overlaid-places}
@@ -36,9 +34,9 @@ use Rattle.patch.proofs.Targets.{whole_of, write_end}
 use Rattle.call_patch.specs.Patches.{patch_reply, Patches}
 use Rattle.thm_calls.proofs.Changing.{volume_at, tree_after, write_tree}
 use Rattle.thm_calls.proofs.Patching.{patch_passed, patch_on, patch_tree, patch_writes}
-use Rattle.promises.specs.Torn.{entry_of, PatchStays, Torn, TornPatch}
+use Rattle.promises.specs.Torn.{entry_byte, PatchStays, Torn, TornPatch}
 use Rattle.promises.specs.Work.{FileOf}
-use Rattle.promises.proofs.Answered.{count_said}
+use Rattle.limits.proofs.Said.{said_ok}
 use Rattle.promises.proofs.Done.{file_of_lem}
 use Rattle.promises.proofs.EitherOrder.{path_one, OneFile, file_one}
 use Rattle.promises.proofs.Files.{file_there}
@@ -46,6 +44,8 @@ use Rattle.promises.proofs.Handles.{in_file, file_entry_lem}
 use Rattle.promises.proofs.Patched.{file_patched, patch_others}
 use Rattle.promises.proofs.Starts.{dir_stays}
 use Rattle.promises.proofs.UsedMoves.{used_moves}
+use Rattle.std.specs.Prelude.{Ok}
+use Rattle.limits.specs.Says.{says}
 
 -- ---- a handle and its file
 
@@ -74,9 +74,9 @@ on_from M J v j q s k cs f e =
 -- ---- S15
 
 module _ (M : Mount) (I W : List ℕ) (h : Handle) (buf : List ℕ) (now : ℕ) (o : CountedOut) (J Z : List ℕ) (c : Patches M I W h buf now o J Z) (k : ℕ)
-    (said : counted_says o.answer ≡ accepted k) where
-  counts : o.answer ≡ counted.Bytes k
-  counts = count_said o.answer k said
+    (said : says o.answer ≡ accepted k) where
+  counts : o.answer ≡ Ok k
+  counts = said_ok o.answer k said
 
   module _ (w : WellFormed M I) where
     abbrev able : Patchable max_depth w.tree h (length buf)
@@ -96,7 +96,7 @@ module _ (M : Mount) (I W : List ℕ) (h : Handle) (buf : List ℕ) (now : ℕ) 
     left = c.image ∙ settle-none _ I (patch_passed M I W h buf now o J Z c k counts).0
 
     bytes_stay : (f : FileOf h w.tree) × Kept (block_size (geo_at M I)) (λ b i. ((count b (places f.cells) ≡ 0) ⊎ (i < 4))
-        × (entry_of M I w h f + 9 ≤ block_size (geo_at M I) * b + i → block_size (geo_at M I) * b + i < entry_of M I w h f + 17 → ⊥)) I J
+        × (entry_byte M I w h f + 9 ≤ block_size (geo_at M I) * b + i → block_size (geo_at M I) * b + i < entry_byte M I w h f + 17 → ⊥)) I J
     bytes_stay = (
       on_file,
       subst (Kept (block_size (geo_at M I)) (λ b i. ((count b (places able.on_file.file.cells) ≡ 0) ⊎ (i < 4))
@@ -237,13 +237,13 @@ module _ (M : Mount) (I W : List ℕ) (h : Handle) (buf : List ℕ) (now : ℕ) 
       torn =
           record {
             well = well;
-            used = used_torn;
+            used = omega (arith, used_torn);
             others = λ q m x. patch_others M I W h T.buffer T.time o L Z as_patch k said T.clock w well q m x;
             file = on_file;
             time = T.time;
             old_or_new = T.old_or_new;
             cells = overlaid (block_size (geo_at M I)) h.position T.buffer able.on_file.file.cells;
-            is = file_torn;
+            is = search file_torn;
             same_blocks = spots_torn;
             mixture = subst (λ (X : List ℕ). Mixture (block_size (geo_at M I)) I X L able.on_file.file.cells
                 (overlaid (block_size (geo_at M I)) h.position buf able.on_file.file.cells)
@@ -258,8 +258,10 @@ module _ (M : Mount) (I W : List ℕ) (h : Handle) (buf : List ℕ) (now : ℕ) 
 pub patch_stays : PatchStays
 patch_stays =
     record {
-      handles = λ M I W h buf now o J Z c k said clock w v j on. handle_stays M I W h buf now o J Z c k said w clock v j on;
-      bytes = λ M I W h buf now o J Z c k said w. bytes_stay M I W h buf now o J Z c k said w;
+      handles = λ M I W h buf now o J Z c k said clock w v j on. handle_stays M I W h buf now o J Z c k said w clock v j (search on);
+      bytes = λ M I W h buf now o J Z c k said w.
+          let r = bytes_stay M I W h buf now o J Z c k said w in
+          (r.0, record { size = r.1.size; at = λ b i m l. r.1.at b i (search m.0, m.1) l });
     }
 
 pub torn_patch : TornPatch

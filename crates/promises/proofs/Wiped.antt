@@ -28,7 +28,7 @@ use Rattle.thm_calls.proofs.Changing.{volume_at, tree_after, delete_tree, write_
 use Rattle.promises.specs.Counter.{device_at}
 use Rattle.promises.specs.Work.{FileOf}
 use Rattle.promises.specs.Wiped.{FreedIsWiped}
-use Rattle.promises.proofs.Answered.{success_said, count_said}
+use Rattle.limits.proofs.Said.{said_ok}
 use Rattle.promises.proofs.Done.{file_of_lem}
 use Rattle.promises.proofs.Files.{file_there, device_there}
 use Rattle.promises.proofs.UsedMoves.{file_good}
@@ -173,13 +173,13 @@ module _ (M : Mount) (I J : List ℕ) (w : WellFormed M I) (h : Handle) (now : �
 pub freed_is_wiped : FreedIsWiped
 freed_is_wiped =
     record {
-      delete = λ M I W cwd p now r J Z c e clock w z k cs.
-          cells_wiped M I J w _ _ now (delete_tree M I W cwd p now J Z r c w clock (success_said r e)).makes z k cs;
+      delete = λ M I W cwd p now r J Z c e clock w z k cs f b x.
+          cells_wiped M I J w _ _ now (delete_tree M I W cwd p now J Z r c w clock (said_ok r tt e)).makes z k cs f b (omega (arith, x));
       delete_all = λ M I W cwd p now r J Z c e clock w v b x y.
-          let m = delete_tree M I W cwd p now J Z r c w clock (success_said r e) in
+          let m = delete_tree M I W cwd p now J Z r c w clock (said_ok r tt e) in
           m.makes.wiped b x (ap (λ (t : Tree max_depth). count b (blocks (block_size (geo_at M I)) max_depth t))
-          (sym (tree_after M I J w _ _ m.makes v)) ∙ y);
+          (sym (tree_after M I J w _ _ m.makes v)) ∙ omega (arith, y));
       write = λ M I W h buf now o J Z c k e clock w f b x.
-          let m = write_tree M I W h buf now o J Z c k w clock (count_said o.answer k e) in
-          cut_wiped M I J w h now buf f m.0 m.1 m.2 b x;
+          let m = write_tree M I W h buf now o J Z c k w clock (said_ok o.answer k e) in
+          cut_wiped M I J w h now buf f m.0 m.1 m.2 b (omega (arith, x));
     }

@@ -10,9 +10,9 @@ use Rattle.model.specs.Calls.{file_at, contents}
 use Rattle.handle.specs.declared.Handle.{Handle}
 use Rattle.handle.specs.declared.CountedOut.{CountedOut}
 use Rattle.handle.specs.Handles.{name_of}
-use Rattle.write.specs.Written.{counted_says}
 use Rattle.call_change.specs.Changing.{Writes}
 use Rattle.promises.specs.Work.{FileOf}
+use Rattle.limits.specs.Says.{says}
 
 -- One order: from the image I to J, the bytes x through the handle h at the time s, then y through k at t, with any work
 -- buffers. Both are accepted.
@@ -29,8 +29,8 @@ pub record InTurn (M : Mount) (I : List ℕ) (h : Handle) (x : List ℕ) (s : �
   pub writes_second : Writes M middle before₂ k y t second J after₂
   pub count₁ : ℕ
   pub count₂ : ℕ
-  pub accepts_first : counted_says first.answer ≡ accepted count₁
-  pub accepts_second : counted_says second.answer ≡ accepted count₂
+  pub accepts_first : says first.answer ≡ accepted count₁
+  pub accepts_second : says second.answer ≡ accepted count₂
 
 -- The file at p, n has one size, one time and the same bytes in both trees.
 pub record SameFile (p : List Name) (n : Name) (t u : Tree max_depth) : Type 0 where

@@ -1,7 +1,7 @@
 -- What each call that looks at the tree answers on a well-formed volume: one function for each, on the path or the handle and the
 -- tree t of the image at the call's entry. Its refusals stand in the call's order, the first that holds is given (O1), and where
 -- none holds it gives the value that is answered. Definitions alone; `RefusalIsExact` says that the calls give just these.
-use Rattle.std.specs.Prelude.{◌≡◌, Bool, false, not, ◌&&◌, ◌↔◌, List, [], ◌∷◌, ℕ, zero, suc, ◌+◌, ◌-◌, ◌≤◌, min, ltb, eqb, length, take, drop}
+use Rattle.std.specs.Prelude.{◌≡◌, Bool, false, not, ◌&&◌, ◌↔◌, List, [], ◌∷◌, ℕ, zero, suc, ◌+◌, ◌-◌, ◌≤◌, min, ltb, eqb, length, take, drop, Result}
 use Rattle.std.proofs.Math.Option.{Option, none, some}
 use Rattle.wire.specs.Be.{splice}
 use Rattle.wire.specs.Pick.{pick, same}
@@ -27,18 +27,18 @@ use Rattle.handle.specs.Handles.{name_of, stale_fields, moved}
 use Rattle.file_read.specs.Read.{to_read}
 use Rattle.write.specs.Writing.{too_long, blocks_to_add}
 use Rattle.write.specs.OnTree.{NoRoom}
-use Rattle.write.specs.Written.{counted_says}
-use Rattle.limits.specs.declared.Answer.{Answer}
 use Rattle.call_read.specs.declared.OpenOut.{OpenOut}
 use Rattle.call_read.specs.declared.InfoOut.{InfoOut}
-use Rattle.call_read.specs.declared.Listing.{Listing}
-use Rattle.call_volume.specs.Says.{says}
-use Rattle.call_read.specs.Reading.{About, about, Counts, open_says, Opens, info_says, Informs, list_says, Lists, Reads}
+use Rattle.call_read.specs.declared.About.{About}
+use Rattle.call_read.specs.Reading.{about, open_says, Opens, info_says, Informs, Lists, Reads}
 use Rattle.patch.specs.Patching.{past_end}
 use Rattle.call_change.specs.Changing.{fresh_handle, plainly, CreatesFile, CreatesDir, Deletes, Writes}
 use Rattle.call_patch.specs.Patches.{Patches}
 use Rattle.thm_calls.specs.Named.{way_of, last_of, all_of, records_long, records_of, listed_from}
 use Rattle.promises.specs.Honest.{CreateFull}
+use Rattle.limits.specs.Says.{says}
+use Rattle.limits.specs.declared.Refusal.{Refusal}
+use Rattle.read_dir.specs.declared.Listed.{Listed}
 
 -- ---- what is at a path
 
@@ -53,8 +53,8 @@ entry_in s (some e) = accepted (s, e)
 
 -- What the names p and the last name n lead to (P3, P4): an empty last name is 5 whatever the way is (R5); on the way each name
 -- in its turn gives 5 where it is not there, and 6 where it is and is no directory's (`way_to`); then the last name is looked up.
-unfoldable pub entry_at : List Name → Name → Tree max_depth → Reply Spot
-entry_at p n t = on_name n (and_then (way_to max_depth p t) (λ s. entry_in s (lookup n s.1)))
+unfoldable pub spot_at : List Name → Name → Tree max_depth → Reply Spot
+spot_at p n t = on_name n (and_then (way_to max_depth p t) (λ s. entry_in s (lookup n s.1)))
 
 -- ---- open (O5: 4, 5 and 6, 10)
 
@@ -80,7 +80,7 @@ open_node a n (sub x) = refused 6
 unfoldable pub open_answer : List ℕ → List ℕ → Tree max_depth → Reply Handle
 open_answer cwd p t =
     given (path_refusal cwd p)
-    (and_then (entry_at (way_of cwd p) (last_of cwd p) t) (λ x. open_node (blocks_at x.0.1) (last_of cwd p) x.1.node))
+    (and_then (spot_at (way_of cwd p) (last_of cwd p) t) (λ x. open_node (blocks_at x.0.1) (last_of cwd p) x.1.node))
 
 -- ---- info (O5: 4, 5 and 6)
 
@@ -94,7 +94,7 @@ info_answer B cwd p t =
     given (path_refusal cwd p)
     (pick (same p (slash ∷ []))
     (accepted (about Dir (sum t) 0 []))
-    (and_then (entry_at (way_of cwd p) (last_of cwd p) t) (about_spot B)))
+    (and_then (spot_at (way_of cwd p) (last_of cwd p) t) (about_spot B)))
 
 -- ---- list (O5: 4, 5 and 6)
 
@@ -103,11 +103,11 @@ unfoldable pub dir_answer : List ℕ → List ℕ → Tree max_depth → Reply S
 dir_answer cwd p t = given (path_refusal cwd p) (way_to max_depth (all_of cwd p) t)
 
 -- C6: the bytes of these records, which are shown from entry number i on, and the number after them
-abbrev pub counts_from : {X : Type 0} → ℕ → List (Entry X) → Counts
+abbrev pub counts_from : {X : Type 0} → ℕ → List (Entry X) → Listed
 counts_from i es = record { bytes = records_long es; next = i + length es }
 
 -- The entries from number i on that go into a buffer of cap bytes: how many bytes,
-unfoldable pub list_answer : List ℕ → List ℕ → ℕ → ℕ → Tree max_depth → Reply Counts
+unfoldable pub list_answer : List ℕ → List ℕ → ℕ → ℕ → Tree max_depth → Reply Listed
 list_answer cwd p i cap t = and_then (dir_answer cwd p t) (λ s. accepted (counts_from i (listed_from i cap (entries_of s.1))))
 
 -- and their records, none where the call is refused.
@@ -127,7 +127,8 @@ create_answer g k cwd p t =
     given (path_refusal cwd p)
     (given (when 8 (bad_name (last_of cwd p)))
     (and_then (way_to max_depth (way_of cwd p) t) (λ s.
-    reply (tree_refusal g (free_blocks g max_depth t) k (last_of cwd p) s) (fresh_in g (last_of cwd p) (free_blocks g max_depth t) s))))
+    reply (tree_refusal g (free_blocks g max_depth t) k (last_of cwd p) s)
+    (fresh_in g (last_of cwd p) (free_blocks g max_depth t) s))))
 
 -- ---- delete (O10: 4, 5 and 6, 14)
 
@@ -141,7 +142,7 @@ has_entry (suc d) (sub x) = ltb 0 (length (entries_of x))
 unfoldable pub delete_answer : List ℕ → List ℕ → Tree max_depth → Reply (Unit {0})
 delete_answer cwd p t =
     given (path_refusal cwd p)
-    (and_then (entry_at (way_of cwd p) (last_of cwd p) t) (λ x. reply (when 14 (has_entry x.0.0 x.1.node)) tt))
+    (and_then (spot_at (way_of cwd p) (last_of cwd p) t) (λ x. reply (when 14 (has_entry x.0.0 x.1.node)) tt))
 
 -- ---- handles
 
@@ -188,30 +189,30 @@ pub record RefusalIsExact : Type 0 where
   pub informs : (M : Mount) (I : List ℕ) (w : WellFormed M I) (cwd p : List ℕ) (o : InfoOut) → Informs M I cwd p o
       → info_says o ≡ info_answer (block_size (geo_at M I)) cwd p w.tree
   -- the buffer is buf before and out after
-  pub lists : (M : Mount) (I : List ℕ) (w : WellFormed M I) (cwd p : List ℕ) (i : ℕ) (buf out : List ℕ) (q : Listing)
-      → Lists M I cwd p i buf q out
-      → (list_says q ≡ list_answer cwd p i (length buf) w.tree)
+  pub lists : (M : Mount) (I : List ℕ) (w : WellFormed M I) (cwd p : List ℕ) (i : ℕ) (buf out : List ℕ)
+      → (q : Result Listed Refusal) → Lists M I cwd p i buf q out
+      → (says q ≡ list_answer cwd p i (length buf) w.tree)
       × (out ≡ splice buf 0 (records_in (block_size (geo_at M I)) i (length buf) (dir_answer cwd p w.tree)))
   pub creates_file : (M : Mount) (I W : List ℕ) → Bytes I → (w : WellFormed M I) → mark_long (geo_at M I) ≤ length W
       → (cwd p : List ℕ) (now : ℕ) (o : OpenOut) (J Z : List ℕ) → CreatesFile M I W cwd p now o J Z
       → open_says o ≡ and_then (create_answer (geo_at M I) File cwd p w.tree) (λ f. accepted (fresh_handle (last_of cwd p) f))
   pub creates_dir : (M : Mount) (I W : List ℕ) → Bytes I → (w : WellFormed M I) → mark_long (geo_at M I) ≤ length W
-      → (cwd p : List ℕ) (now : ℕ) (r : Answer) (J Z : List ℕ) → CreatesDir M I W cwd p now r J Z
+      → (cwd p : List ℕ) (now : ℕ) (r : Result (Unit {0}) Refusal) (J Z : List ℕ) → CreatesDir M I W cwd p now r J Z
       → says r ≡ plainly (create_answer (geo_at M I) Dir cwd p w.tree)
   pub deletes : (M : Mount) (I W : List ℕ) → Bytes I → (w : WellFormed M I) → mark_long (geo_at M I) ≤ length W
-      → (cwd p : List ℕ) (now : ℕ) (r : Answer) (J Z : List ℕ) → Deletes M I W cwd p now r J Z
+      → (cwd p : List ℕ) (now : ℕ) (r : Result (Unit {0}) Refusal) (J Z : List ℕ) → Deletes M I W cwd p now r J Z
       → says r ≡ delete_answer cwd p w.tree
   pub writes : (M : Mount) (I W : List ℕ) → Bytes I → (w : WellFormed M I) → mark_long (geo_at M I) ≤ length W
       → (h : Handle) (buf : List ℕ) (now : ℕ) (o : CountedOut) (J Z : List ℕ) → Writes M I W h buf now o J Z
-      → counted_says o.answer ≡ reply (write_number (geo_at M I) h (length buf) w.tree) (length buf)
+      → says o.answer ≡ reply (write_number (geo_at M I) h (length buf) w.tree) (length buf)
   pub patches : (M : Mount) (I W : List ℕ) → Bytes I → (w : WellFormed M I) → mark_long (geo_at M I) ≤ length W
       → (h : Handle) (buf : List ℕ) (now : ℕ) (o : CountedOut) (J Z : List ℕ) → Patches M I W h buf now o J Z
-      → counted_says o.answer ≡ reply (patch_number h (length buf) w.tree) (length buf)
+      → says o.answer ≡ reply (patch_number h (length buf) w.tree) (length buf)
   -- Of a handle whose directory is one of the tree, as it is of a handle that a call answered while that directory stands. Read
   -- does not ask for it (H4), and through a made-up handle it walks any blocks. (A handle's name is an array of 255 bytes.)
   pub reads : (M : Mount) (I : List ℕ) (w : WellFormed M I) (h : Handle) (q : List Name) → DirAt max_depth h.dir.0 q w.tree
       → length h.name ≡ 255 → (buf out : List ℕ) (o : CountedOut) → Reads M I h buf out o
-      → (counted_says o.answer ≡ reply (read_number h w.tree) (to_read h (length buf)))
+      → (says o.answer ≡ reply (read_number h w.tree) (to_read h (length buf)))
       × (o.handle ≡ settle (read_number h w.tree) (moved h (h.position + to_read h (length buf))) h)
       × (out ≡ settle (read_number h w.tree) (splice buf 0 (bytes_from h.position (length buf) (file_by h w.tree))) buf)
 
@@ -220,10 +221,11 @@ pub record RefusalIsExact : Type 0 where
 pub record RoomIsExact : Type 0 where
   pub write_full : (M : Mount) (I W : List ℕ) → Bytes I → (w : WellFormed M I) → mark_long (geo_at M I) ≤ length W
       → (h : Handle) (buf : List ℕ) (now : ℕ) (o : CountedOut) (J Z : List ℕ) → Writes M I W h buf now o J Z
-      → (counted_says o.answer ≡ refused 9) ↔ NoRoom (geo_at M I) max_depth w.tree h (length buf)
+      → (says o.answer ≡ refused 9) ↔ NoRoom (geo_at M I) max_depth w.tree h (length buf)
   pub create_full : (M : Mount) (I W : List ℕ) → Bytes I → (w : WellFormed M I) → mark_long (geo_at M I) ≤ length W
       → (cwd p : List ℕ) → bad_path cwd p ≡ false → (now : ℕ) (o : OpenOut) (J Z : List ℕ) → CreatesFile M I W cwd p now o J Z
       → (open_says o ≡ refused 9) ↔ CreateFull (geo_at M I) File max_depth (way_of cwd p) (last_of cwd p) w.tree
   pub create_dir_full : (M : Mount) (I W : List ℕ) → Bytes I → (w : WellFormed M I) → mark_long (geo_at M I) ≤ length W
-      → (cwd p : List ℕ) → bad_path cwd p ≡ false → (now : ℕ) (r : Answer) (J Z : List ℕ) → CreatesDir M I W cwd p now r J Z
+      → (cwd p : List ℕ) → bad_path cwd p ≡ false → (now : ℕ) (r : Result (Unit {0}) Refusal) (J Z : List ℕ)
+      → CreatesDir M I W cwd p now r J Z
       → (says r ≡ refused 9) ↔ CreateFull (geo_at M I) Dir max_depth (way_of cwd p) (last_of cwd p) w.tree

@@ -1,5 +1,5 @@
 -- D3: any number of calls at one path, each step the contract of a public call. Definitions alone.
-use Rattle.std.specs.Prelude.{◌≡◌, ◌⊎◌, List, ℕ, ◌^◌, ◌≤◌, ◌<◌}
+use Rattle.std.specs.Prelude.{◌≡◌, ◌⊎◌, List, ℕ, ◌^◌, ◌≤◌, ◌<◌, Result}
 use Rattle.model.specs.Geometry.{Mount, code_size}
 use Rattle.model.specs.Tree.{Name}
 use Rattle.model.specs.Render.{blocks, count}
@@ -11,12 +11,12 @@ use Rattle.handle.specs.declared.Sought.{Sought}
 use Rattle.handle.specs.declared.CountedOut.{CountedOut}
 use Rattle.handle.specs.Handles.{name_of}
 use Rattle.handle.specs.Post.{SoughtIs}
-use Rattle.limits.specs.declared.Answer.{Answer}
 use Rattle.call_read.specs.declared.OpenOut.{OpenOut}
 use Rattle.call_read.specs.Reading.{Opens, Reads}
 use Rattle.call_change.specs.Changing.{CreatesFile, Deletes, Writes}
 use Rattle.call_patch.specs.Patches.{Patches}
 use Rattle.thm_calls.specs.Named.{way_of, last_of}
+use Rattle.limits.specs.declared.Refusal.{Refusal}
 
 -- D3, any working directory and spelling that lead to the path: what is given has the directory names p and the last name n
 -- (P3, P4).
@@ -42,7 +42,7 @@ pub data Call (M : Mount) (a : ℕ) (p : List Name) (n : Name) (I J : List ℕ) 
       → Writes M I W h buf time o J Z → Call M a p n I J
   patches : (h : Handle) (buf W Z : List ℕ) (time : ℕ) (o : CountedOut) → HandleAt a n h → Bytes buf → time < 2 ^ 64
       → Patches M I W h buf time o J Z → Call M a p n I J
-  deletes : (cwd path W Z : List ℕ) (time : ℕ) (r : Answer) → Leads p n cwd path → time < 2 ^ 64
+  deletes : (cwd path W Z : List ℕ) (time : ℕ) (r : Result (Unit {0}) Refusal) → Leads p n cwd path → time < 2 ^ 64
       → Deletes M I W cwd path time r J Z → Call M a p n I J
 
 -- D3, any number of them, each on the image that the one before left.

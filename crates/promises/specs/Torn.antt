@@ -13,29 +13,30 @@ use Rattle.handle.specs.declared.Handle.{Handle}
 use Rattle.handle.specs.declared.CountedOut.{CountedOut}
 use Rattle.handle.specs.Handles.{name_of}
 use Rattle.handle.specs.OnTree.{OnFile}
-use Rattle.write.specs.Written.{counted_says}
 use Rattle.patch_store.specs.Torn.{Arrived, Mixture}
 use Rattle.call_patch.specs.Patches.{Patches}
 use Rattle.promises.specs.Counter.{Untouched, Another}
 use Rattle.promises.specs.Work.{FileOf}
+use Rattle.limits.specs.Says.{says}
 
--- S15: the file at the handle's place, and the byte where its entry begins.
-abbrev pub entry_of : (M : Mount) (I : List ℕ) (w : WellFormed M I) (h : Handle) → FileOf h w.tree → ℕ
-entry_of M I w h f = place_of (block_size (geo_at M I)) (name_of h) f.there.dir.1
+-- S15: of the file that a handle is on, the byte where its entry begins
+abbrev pub entry_byte : (M : Mount) (I : List ℕ) (w : WellFormed M I) (h : Handle) → FileOf h w.tree → ℕ
+entry_byte M I w h f = place_of (block_size (geo_at M I)) (name_of h) f.there.dir.1
 
 -- What an accepted patch leaves alone:
 pub record PatchStays : Type 0 where
   -- each handle that is on a file stays on it, those on the patched file too;
   pub handles : (M : Mount) (I W : List ℕ) (h : Handle) (buf : List ℕ) (now : ℕ) (o : CountedOut) (J Z : List ℕ)
-      → Patches M I W h buf now o J Z → (k : ℕ) → counted_says o.answer ≡ accepted k → now < 2 ^ 64
+      → Patches M I W h buf now o J Z → (k : ℕ) → says o.answer ≡ accepted k → now < 2 ^ 64
       → (w : WellFormed M I) (v : WellFormed M J) (j : Handle) → OnFile max_depth w.tree j → OnFile max_depth v.tree j
   -- no byte changes but data bytes of the file's blocks (their links are their first four bytes) and the eight of the time in its
   -- entry: so no chain, no bit of the bitmap and no byte of the superblock.
   pub bytes : (M : Mount) (I W : List ℕ) (h : Handle) (buf : List ℕ) (now : ℕ) (o : CountedOut) (J Z : List ℕ)
-      → Patches M I W h buf now o J Z → (k : ℕ) → counted_says o.answer ≡ accepted k
+      → Patches M I W h buf now o J Z → (k : ℕ) → says o.answer ≡ accepted k
       → (w : WellFormed M I)
       → (f : FileOf h w.tree) × Kept (block_size (geo_at M I)) (λ b i. ((count b (places f.cells) ≡ 0) ⊎ (i < 4))
-      × (entry_of M I w h f + 9 ≤ block_size (geo_at M I) * b + i → block_size (geo_at M I) * b + i < entry_of M I w h f + 17 → ⊥)) I J
+      × (entry_byte M I w h f + 9 ≤ block_size (geo_at M I) * b + i
+      → block_size (geo_at M I) * b + i < entry_byte M I w h f + 17 → ⊥)) I J
 
 -- S14: what L is, whose blocks are those of I or of J, whichever:
 pub record Torn (M : Mount) (I W : List ℕ) (h : Handle) (buf : List ℕ) (now : ℕ) (o : CountedOut) (J Z : List ℕ)
@@ -67,5 +68,5 @@ pub record Torn (M : Mount) (I W : List ℕ) (h : Handle) (buf : List ℕ) (now 
 abbrev pub TornPatch : Type 0
 TornPatch =
     (M : Mount) (I W : List ℕ) (h : Handle) (buf : List ℕ) (now : ℕ) (o : CountedOut) (J Z : List ℕ)
-    → Patches M I W h buf now o J Z → (k : ℕ) → counted_says o.answer ≡ accepted k → now < 2 ^ 64
+    → Patches M I W h buf now o J Z → (k : ℕ) → says o.answer ≡ accepted k → now < 2 ^ 64
     → (w : WellFormed M I) (L : List ℕ) → Arrived (block_size (geo_at M I)) I J L → Torn M I W h buf now o J Z w L

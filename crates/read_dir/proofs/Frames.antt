@@ -1,4 +1,5 @@
 -- A walk depends on the bytes of the blocks that it reads, and on no others.
+use Rattle.std.specs.Prelude.{Option, Some, None}
 use mathlib.Core.Path.{◌≡◌, refl, sym, ap, ◌∙◌}
 use mathlib.Core.Bool.{true, false}
 use mathlib.Core.Logic.{◌⊎◌, inl, inr}
@@ -12,8 +13,6 @@ use Rattle.wire.proofs.Picks.{either, pick_true, pick_false}
 use Rattle.block.specs.Block.{Area, next, Kept}
 use Rattle.block.proofs.Blocks.{next_kept}
 use Rattle.dir_entry.specs.declared.DirEntry.{DirEntry}
-use Rattle.dir_entry.specs.declared.Slot.{Slot}
-use Rattle.dir_entry.specs.declared.Slot.TheVariants.{Entry, Stop}
 use Rattle.dir_entry.specs.Entry.{header, place_at, name_at, slot_at}
 use Rattle.dir_entry.proofs.Slots.{slot_stands, slot_kept, name_kept}
 use Rattle.read_dir.specs.Walk.{Walk, finished, damaged, on_slot, in_area, shown, entries_from, chain_from}
@@ -30,17 +29,17 @@ unfolding Through
 through_all A I Q f zero a = tt
 through_all A I Q f (suc k) a = λ h l. (f a h l, λ _. through_all A I Q f k (next A.size I a))
 
-on_both : (x : Slot) (j k : DirEntry → Walk) (v w : Walk) → v ≡ w → ((e : DirEntry) → x ≡ Entry e → j e ≡ k e) → on_slot x j v ≡ on_slot x k w
+on_both : (x : Option DirEntry) (j k : DirEntry → Walk) (v w : Walk) → v ≡ w → ((e : DirEntry) → x ≡ Some e → j e ≡ k e) → on_slot x j v ≡ on_slot x k w
 unfolding on_slot
-on_both (Entry e) j k v w p h = h e refl
-on_both Stop j k v w p h = p
+on_both (Some e) j k v w p h = h e refl
+on_both None j k v w p h = p
 
 module _ (A : Area) (P : ℕ → ℕ → Type 0) (I J : List ℕ) (k : Kept A.size P I J) where
   -- all of block b is kept
   abbrev pub Same : ℕ → Type 0
   Same b = (p : ℕ) → p < A.size → P b p
 
-  shown_kept : (e : DirEntry) (a o : ℕ) (v w : Walk) → Same a → slot_at A.size I a o ≡ Entry e → v ≡ w → shown A J e a o v ≡ shown A I e a o w
+  shown_kept : (e : DirEntry) (a o : ℕ) (v w : Walk) → Same a → slot_at A.size I a o ≡ Some e → v ≡ w → shown A J e a o v ≡ shown A I e a o w
   unfolding shown
   shown_kept e a o v w s p q =
       let l : o + 18 + e.len ≤ A.size - 5 = (slot_stands A.size I a o e p).ends in
@@ -51,7 +50,7 @@ module _ (A : Area) (P : ℕ → ℕ → Type 0) (I J : List ℕ) (k : Kept A.si
   unfolding entries_from
   entries_kept zero a o v w s q = q
   entries_kept (suc f) a o v w s q =
-      ap (λ (x : Slot). on_slot x (λ e. shown A J e a o (entries_from A J f a (o + header + e.len) v)) v) (slot_kept A.size P I J k a s o)
+      ap (λ (x : Option DirEntry). on_slot x (λ e. shown A J e a o (entries_from A J f a (o + header + e.len) v)) v) (slot_kept A.size P I J k a s o)
       ∙ on_both (slot_at A.size I a o) _ _ v w q (λ e p. shown_kept e a o _ _ s p (entries_kept f a (o + header + e.len) v w s q))
 
   onwards_kept : (m a : ℕ) → next A.size J a ≡ next A.size I a → ((next A.size I a ≡ 0 → ⊥) → chain_from A J m (next A.size I a) ≡ chain_from A I m (next A.size I a))

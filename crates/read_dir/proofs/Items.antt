@@ -1,5 +1,6 @@
 -- What each entry of a walk is, and what an answer says of the walk.
-use mathlib.Core.Path.{◌≡◌, refl, sym, ap, ◌∙◌}
+use Rattle.std.specs.Prelude.{Some, Ok}
+use mathlib.Core.Path.{◌≡◌, refl, sym, ap, ◌∙◌, subst}
 use mathlib.Core.Bool.{true, false}
 use mathlib.Core.Logic.{◌⊎◌, inl, inr}
 use mathlib.Core.List.{List}
@@ -11,15 +12,12 @@ use Rattle.wire.specs.Pick.{same}
 use Rattle.wire.proofs.Picks.{either, pick_true, pick_false, same_eq, pick_case}
 use Rattle.block.specs.Block.{Area}
 use Rattle.dir_entry.specs.declared.DirEntry.{DirEntry}
-use Rattle.dir_entry.specs.declared.Slot.TheVariants.{Entry}
 use Rattle.dir_entry.specs.Entry.{place_at, name_at, slot_at}
 use Rattle.read_dir.specs.Walk.{Walk, item, finished, damaged, shown, entries_from, chain_from, walk}
 use Rattle.read_dir.specs.Cursor.{items}
 use Rattle.read_dir.specs.Finds.{placed, find_in, skip, list_from}
-use Rattle.read_dir.specs.declared.Place.{Place}
-use Rattle.read_dir.specs.declared.Found.TheVariants as found
-use Rattle.read_dir.specs.declared.Listed.TheVariants as listed
 use Rattle.read_dir.proofs.Unroll.{entries_ind, chain_ind}
+use Rattle.read_dir.specs.declared.Placed.{Placed}
 
 -- P holds of each entry, with its block, its offset and its name.
 abbrev pub Each : (DirEntry → ℕ → ℕ → List ℕ → Type 0) → Walk → Type 0
@@ -31,7 +29,7 @@ Each P damaged = Unit {0}
 pub record Item (A : Area) (I : List ℕ) (e : DirEntry) (a o : ℕ) (x : List ℕ) : Type 0 where
   pub from : A.first ≤ a
   pub below : a < A.end
-  pub stands : slot_at A.size I a o ≡ Entry e
+  pub stands : slot_at A.size I a o ≡ Some e
   pub address : e.addr.0 ≡ 0 → ⊥
   pub name : x ≡ name_at I (place_at A.size a o) e.len
 
@@ -53,26 +51,25 @@ module _ (A : Area) (I : List ℕ) where
 -- ---- an answer of a lookup
 
 -- What holds of each entry holds of the one that is found, under the name asked for;
-found_each : (P : DirEntry → ℕ → ℕ → List ℕ → Type 0) (name : List ℕ) (w : Walk) (e : DirEntry) (p : Place) → Each P w → find_in name w ≡ found.At e p → P e p.block.0 p.offset name
+found_each : (P : DirEntry → ℕ → ℕ → List ℕ → Type 0) (name : List ℕ) (w : Walk) (y : Placed) → Each P w → find_in name w ≡ Ok (Some y) → P y.entry y.place.block.0 y.place.offset name
 unfolding find_in
-found_each P name (item d a o x w) e p i f = go (either (same x name)) (λ g. found_each P name w e p i.1 g)
+found_each P name (item d a o x w) y i f = go (either (same x name)) (λ g. found_each P name w y i.1 g)
   where
-    go : (same x name ≡ true) ⊎ (same x name ≡ false) → (find_in name w ≡ found.At e p → P e p.block.0 p.offset name) → P e p.block.0 p.offset name
+    go : (same x name ≡ true) ⊎ (same x name ≡ false) → (find_in name w ≡ Ok (Some y) → P y.entry y.place.block.0 y.place.offset name) → P y.entry y.place.block.0 y.place.offset name
     go (inl t) ih =
-        let q : found.At d (placed a o) ≡ found.At e p = sym (pick_true _ _ t) ∙ f in
-        let qe : d ≡ e = cc in
-        let qp : placed a o ≡ p = cc in
+        let z : Placed = record { entry = d; place = placed a o } in
+        let q : Ok (Some z) ≡ find_in name (item d a o x w) = sym (pick_true _ _ t) in
+        let s : Some z ≡ Some y = cc in
+        let g : z ≡ y = cc in
         let qx : x ≡ name = same_eq x name t in
-        let ra : a ≡ p.block.0 = ap (λ (y : Place). y.block.0) qp in
-        let ro : o ≡ p.offset = ap (λ (y : Place). y.offset) qp in
-        rw (← qe, ← ra, ← ro, ← qx) i.0
+        subst (λ (v : Placed). P v.entry v.place.block.0 v.place.offset name) g (subst (P d a o) qx i.0)
     go (inr t) ih = ih (sym (pick_false _ _ t) ∙ f)
-found_each P name finished e p i f = absurd (let z : ◌≡◌ {A = ℕ} 0 1 = cc in omega arith)
-found_each P name damaged e p i f = absurd (let z : ◌≡◌ {A = ℕ} 0 1 = cc in omega arith)
+found_each P name finished y i f = absurd (let z : ◌≡◌ {A = ℕ} 0 1 = cc in omega arith)
+found_each P name damaged y i f = absurd (let z : ◌≡◌ {A = ℕ} 0 1 = cc in omega arith)
 
 -- so it is an entry of the directory under that name.
-pub found_item : (A : Area) (I : List ℕ) (dir : ℕ) (name : List ℕ) (e : DirEntry) (p : Place) → find_in name (walk A I dir) ≡ found.At e p → Item A I e p.block.0 p.offset name
-found_item A I dir name e p f = found_each (Item A I) name (walk A I dir) e p (chain_each A I (A.end - A.first) dir) f
+pub found_item : (A : Area) (I : List ℕ) (dir : ℕ) (name : List ℕ) (y : Placed) → find_in name (walk A I dir) ≡ Ok (Some y) → Item A I y.entry y.place.block.0 y.place.offset name
+found_item A I dir name y f = found_each (Item A I) name (walk A I dir) y (chain_each A I (A.end - A.first) dir) f
 
 -- ---- a listing past the last entry
 
@@ -92,6 +89,6 @@ skip-past (suc i) finished h l = refl
 skip-past (suc i) damaged h l = absurd h
 
 -- C6: from a number past the last entry, 0 bytes and that number.
-pub list_past : (cap i : ℕ) (w : Walk) → Whole w → items w ≤ i → list_from cap 0 i (skip i w) ≡ listed.Records 0 i
+pub list_past : (cap i : ℕ) (w : Walk) → Whole w → items w ≤ i → list_from cap 0 i (skip i w) ≡ Ok (record { bytes = 0; next = i })
 unfolding list_from
 list_past cap i w h l = ap (list_from cap 0 i) (skip-past i w h l)

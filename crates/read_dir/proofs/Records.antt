@@ -5,6 +5,7 @@ use Prim.Native.Nat.{ℕ, zero, suc, ◌+◌, ◌-◌, ◌≤◌, ◌<◌}
 use native.Mathlib.Nat.{zero-add}
 use native.Mathlib.Omega.{arith}
 use lib.ListN.{length, take, drop, set, take-append-drop, length-append}
+use Rattle.std.proofs.Math.Seq.{take-length}
 use lib.Seq.{length-take-le, take_at, drop_at, drop-drop}
 use Rattle.wire.specs.Be.{bytes, splice}
 use Rattle.wire.proofs.Numbers.{length_bytes, length-splice, set-splice}
@@ -47,13 +48,13 @@ record_stored b b₁ b₂ b₃ b₄ at k e x h q n e₁ e₂ e₃ e₄ =
     e₄ ∙ splice-then b (set b₃ (at + 13) e.len) at (at + 14) ((K ++ (S ++ T)) ++ L) x a₄ (omega arith) (omega arith)
     ∙ ap (splice b at) (append_assoc (K ++ (S ++ T)) L x)
 
--- the name is copied from the image, where the entry begins at byte q
-pub record_copied : (I b b₁ b₂ b₃ b₄ : List ℕ) (at k from q : ℕ) (e : DirEntry) → at + (14 + e.len) ≤ length b → q + 18 + e.len ≤ length I → from ≡ q → k ≡ kind_byte e.kind
-    → b₁ ≡ set b at k → b₂ ≡ splice b₁ (at + 1) (bytes 4 e.size) → b₃ ≡ splice b₂ (at + 5) (bytes 8 e.time)
-    → b₄ ≡ splice (set b₃ (at + 13) e.len) (at + 14) (take e.len (drop (from + 18) I)) → b₄ ≡ splice b at (record_of e (name_at I q e.len))
-record_copied I b b₁ b₂ b₃ b₄ at k from q e h l f g e₁ e₂ e₃ e₄ =
+-- the name x is copied whole; its entry begins at byte q of the image
+pub record_copied : (I b b₁ b₂ b₃ b₄ x : List ℕ) (at k q : ℕ) (e : DirEntry) → at + (14 + e.len) ≤ length b → q + 18 + e.len ≤ length I → x ≡ name_at I q e.len
+    → k ≡ kind_byte e.kind → b₁ ≡ set b at k → b₂ ≡ splice b₁ (at + 1) (bytes 4 e.size) → b₃ ≡ splice b₂ (at + 5) (bytes 8 e.time)
+    → b₄ ≡ splice (set b₃ (at + 13) e.len) (at + 14) (take (length x) (drop 0 x)) → b₄ ≡ splice b at (record_of e (name_at I q e.len))
+record_copied I b b₁ b₂ b₃ b₄ x at k q e h l f g e₁ e₂ e₃ e₄ =
     record_stored b b₁ b₂ b₃ b₄ at k e (name_at I q e.len) h g (length_name I q e.len l) e₁ e₂ e₃
-    (e₄ ∙ ap (λ (y : ℕ). splice (set b₃ (at + 13) e.len) (at + 14) (take e.len (drop (y + 18) I))) f)
+    (e₄ ∙ ap (splice (set b₃ (at + 13) e.len) (at + 14)) (take-length x ∙ f))
 
 -- ---- a buffer that is filled from its start
 

@@ -1,4 +1,5 @@
 -- How much a walk can hold: the bytes of its entries, and how many there are.
+use Rattle.std.specs.Prelude.{Ok}
 use mathlib.Core.Path.{◌≡◌, ap}
 use mathlib.Core.List.{List}
 use Prim.Native.Nat.{ℕ, zero, suc, ◌+◌, ◌-◌, ◌*◌, ◌^◌, ◌≤◌, ◌<◌}
@@ -13,7 +14,6 @@ use Rattle.dir_entry.proofs.Slots.{slot_stands}
 use Rattle.read_dir.specs.Walk.{Walk, item, finished, damaged, shown, entries_from, chain_from, walk}
 use Rattle.read_dir.specs.Cursor.{items}
 use Rattle.read_dir.specs.Finds.{sum_from, skip}
-use Rattle.read_dir.specs.declared.Summed.TheVariants as summed
 use Rattle.read_dir.proofs.Unroll.{entries_ind, chain_ind}
 
 -- without its first i entries a walk has that many fewer, or none
@@ -31,7 +31,7 @@ weigh finished = 0
 weigh damaged = 0
 
 -- The sum of a directory, where there is one.
-sum_weigh : (w : Walk) (s t : ℕ) → sum_from s w ≡ summed.Total t → t ≡ s + weigh w
+sum_weigh : (w : Walk) (s t : ℕ) → sum_from s w ≡ Ok t → t ≡ s + weigh w
 unfolding sum_from weigh
 sum_weigh (item e a o x w) s t p = omega (arith, sum_weigh w (s + (header + e.len)) t p)
 sum_weigh finished s t p = let q : s ≡ t = cc in omega arith

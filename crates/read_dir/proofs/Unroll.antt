@@ -1,17 +1,16 @@
 -- The walk unrolled, entry by entry and block by block: who cites these needs no fuel.
+use Rattle.std.specs.Prelude.{Option, Some, None}
 use mathlib.Core.Path.{◌≡◌, refl, sym, ap, ◌∙◌}
 use mathlib.Core.Bool.{Bool, true, false, ◌&&◌}
 use mathlib.Core.List.{List}
 use Prim.Native.Nat.{ℕ, zero, suc, ◌+◌, ◌-◌, ◌≤◌, ◌<◌}
 use native.Mathlib.Omega.{arith}
 use lib.Dec.{leb, ltb, eqb}
-use borrow.Author.Tests.{leb-true, ltb-true, eqb-true, eqb-false, lt-ltb, le-ltb, le-leb, lt-leb, eq-eqb, ne_eqb}
+use borrow.Author.Tests.{leb-true, ltb-true, eqb-true, eqb-false, lt-ltb, le-leb, eq-eqb, ne_eqb}
 use Rattle.wire.specs.Pick.{pick}
 use Rattle.wire.proofs.Picks.{not_both, pick_true, pick_false, pick_case}
 use Rattle.block.specs.Block.{Area, next}
 use Rattle.dir_entry.specs.declared.DirEntry.{DirEntry}
-use Rattle.dir_entry.specs.declared.Slot.{Slot}
-use Rattle.dir_entry.specs.declared.Slot.TheVariants.{Entry, Stop}
 use Rattle.dir_entry.specs.Entry.{header, place_at, name_at, slot_at}
 use Rattle.dir_entry.proofs.Slots.{stop_offset}
 use Rattle.read_dir.specs.Walk.{Walk, item, finished, damaged, on_slot, in_area, shown, entries_from, chain_from}
@@ -23,16 +22,6 @@ module _ (A : Area) (I : List ℕ) (a : ℕ) where
   pub area_in_lem : A.first ≤ a → a < A.end → in_area A I a ≡ true
   area_in_lem h k = rw (le-leb _ _ h, lt-ltb _ _ k)
 
-  pub area_low : a < A.first → in_area A I a ≡ false
-  area_low h = rw (lt-leb _ _ h)
-
-  pub area_high : A.end ≤ a → in_area A I a ≡ false
-  area_high h = go (leb A.first a) (le-ltb a A.end h)
-    where
-      go : (t : Bool) {u : Bool} → u ≡ false → (t && u) ≡ false
-      go true e = e
-      go false e = refl
-
   pub area_true : in_area A I a ≡ true → (A.first ≤ a) × (a < A.end)
   area_true e = go (leb A.first a) (ltb a A.end) refl refl e
     where
@@ -43,18 +32,18 @@ module _ (A : Area) (I : List ℕ) (a : ℕ) where
 
 -- ---- the entries of a block
 
-on_entry_lem : (x : Slot) (e : DirEntry) (k : DirEntry → Walk) (w : Walk) → x ≡ Entry e → on_slot x k w ≡ k e
+on_entry_lem : (x : Option DirEntry) (e : DirEntry) (k : DirEntry → Walk) (w : Walk) → x ≡ Some e → on_slot x k w ≡ k e
 unfolding on_slot
 on_entry_lem x e k w p = rw p
 
-on_stop : (x : Slot) (k : DirEntry → Walk) (w : Walk) → x ≡ Stop → on_slot x k w ≡ w
+on_stop : (x : Option DirEntry) (k : DirEntry → Walk) (w : Walk) → x ≡ None → on_slot x k w ≡ w
 unfolding on_slot
 on_stop x k w p = rw p
 
-on_same : (x : Slot) (j k : DirEntry → Walk) (w : Walk) → ((e : DirEntry) → j e ≡ k e) → on_slot x j w ≡ on_slot x k w
+on_same : (x : Option DirEntry) (j k : DirEntry → Walk) (w : Walk) → ((e : DirEntry) → j e ≡ k e) → on_slot x j w ≡ on_slot x k w
 unfolding on_slot
-on_same (Entry e) j k w h = h e
-on_same Stop j k w h = refl
+on_same (Some e) j k w h = h e
+on_same None j k w h = refl
 
 module _ (A : Area) (I : List ℕ) where
   shown_zero : (e : DirEntry) (a o : ℕ) (w : Walk) → e.addr.0 ≡ 0 → shown A I e a o w ≡ w
@@ -85,17 +74,17 @@ module _ (A : Area) (I : List ℕ) where
 
   module _ (a o : ℕ) (w : Walk) where
     -- where the block's entries stop
-    pub entries_stop : slot_at A.size I a o ≡ Stop → entries_from A I A.size a o w ≡ w
+    pub entries_stop : slot_at A.size I a o ≡ None → entries_from A I A.size a o w ≡ w
     entries_stop p = entries_once a o w ∙ on_stop (slot_at A.size I a o) _ w p
 
     -- at an entry; one with address 0 is passed over
-    entries_entry : (e : DirEntry) → slot_at A.size I a o ≡ Entry e → entries_from A I A.size a o w ≡ shown A I e a o (entries_from A I A.size a (o + header + e.len) w)
+    entries_entry : (e : DirEntry) → slot_at A.size I a o ≡ Some e → entries_from A I A.size a o w ≡ shown A I e a o (entries_from A I A.size a (o + header + e.len) w)
     entries_entry e p = entries_once a o w ∙ on_entry_lem (slot_at A.size I a o) e _ w p
 
-    pub entries_over : (e : DirEntry) → slot_at A.size I a o ≡ Entry e → e.addr.0 ≡ 0 → entries_from A I A.size a o w ≡ entries_from A I A.size a (o + header + e.len) w
+    pub entries_over : (e : DirEntry) → slot_at A.size I a o ≡ Some e → e.addr.0 ≡ 0 → entries_from A I A.size a o w ≡ entries_from A I A.size a (o + header + e.len) w
     entries_over e p z = entries_entry e p ∙ shown_zero e a o _ z
 
-    pub entries_item : (e : DirEntry) → slot_at A.size I a o ≡ Entry e → (e.addr.0 ≡ 0 → ⊥)
+    pub entries_item : (e : DirEntry) → slot_at A.size I a o ≡ Some e → (e.addr.0 ≡ 0 → ⊥)
         → entries_from A I A.size a o w ≡ item e a o (name_at I (place_at A.size a o) e.len) (entries_from A I A.size a (o + header + e.len) w)
     entries_item e p z = entries_entry e p ∙ shown_item e a o _ z
 
@@ -142,11 +131,11 @@ module _ (A : Area) (I : List ℕ) where
 
 -- P of an offset and the walk from there: it holds where the entries stop, and it passes from each entry to the one before.
 module _ (A : Area) (I : List ℕ) (a : ℕ) (w : Walk) (P : ℕ → Walk → Type 0) (base : (o : ℕ) → P o w)
-    (step : (o : ℕ) (e : DirEntry) (v : Walk) → slot_at A.size I a o ≡ Entry e → P (o + header + e.len) v → P o (shown A I e a o v)) where
-  on_case : (o : ℕ) (x : Slot) (k : DirEntry → Walk) → slot_at A.size I a o ≡ x → ((e : DirEntry) → P (o + header + e.len) (k e)) → P o (on_slot x (λ e. shown A I e a o (k e)) w)
+    (step : (o : ℕ) (e : DirEntry) (v : Walk) → slot_at A.size I a o ≡ Some e → P (o + header + e.len) v → P o (shown A I e a o v)) where
+  on_case : (o : ℕ) (x : Option DirEntry) (k : DirEntry → Walk) → slot_at A.size I a o ≡ x → ((e : DirEntry) → P (o + header + e.len) (k e)) → P o (on_slot x (λ e. shown A I e a o (k e)) w)
   unfolding on_slot
-  on_case o (Entry e) k p h = step o e (k e) p (h e)
-  on_case o Stop k p h = base o
+  on_case o (Some e) k p h = step o e (k e) p (h e)
+  on_case o None k p h = base o
 
   pub entries_ind : (f o : ℕ) → P o (entries_from A I f a o w)
   unfolding entries_from

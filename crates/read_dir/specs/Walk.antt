@@ -1,11 +1,9 @@
 -- 1. Reading a directory of any image: its entries in chain order, then its end or damage. Definitions alone.
 -- A is the data area: the size of its blocks, its first address and the volume's end.
-use Rattle.std.specs.Prelude.{Bool, ◌&&◌, List, ℕ, zero, suc, ◌+◌, ◌-◌, ltb, leb, eqb}
+use Rattle.std.specs.Prelude.{Bool, ◌&&◌, List, ℕ, zero, suc, ◌+◌, ◌-◌, ltb, leb, eqb, Option, Some, None}
 use Rattle.wire.specs.Pick.{pick}
 use Rattle.block.specs.Block.{Area, next}
 use Rattle.dir_entry.specs.declared.DirEntry.{DirEntry}
-use Rattle.dir_entry.specs.declared.Slot.{Slot}
-use Rattle.dir_entry.specs.declared.Slot.TheVariants.{Entry, Stop}
 use Rattle.dir_entry.specs.Entry.{header, place_at, name_at, slot_at}
 
 -- An entry with its block, its offset in the block's data and its name, and what follows; the end; damage.
@@ -15,9 +13,9 @@ pub data Walk : Type 0 where
   damaged : Walk
 
 -- what follows an entry, where there is one
-unfoldable pub on_slot : Slot → (DirEntry → Walk) → Walk → Walk
-on_slot (Entry e) k w = k e
-on_slot Stop k w = w
+unfoldable pub on_slot : Option DirEntry → (DirEntry → Walk) → Walk → Walk
+on_slot (Some e) k w = k e
+on_slot None k w = w
 
 module _ (A : Area) (I : List ℕ) where
   -- F3: the data area

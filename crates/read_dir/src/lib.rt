@@ -4,16 +4,16 @@
 
 ghost use Rattle.std.specs.Prelude.{◌≡◌, ◌+◌, ◌-◌, ◌*◌, ◌≤◌, ◌<◌, ◌^◌, length};
 ghost use Rattle.wire.specs.Pick.{same};
-ghost use Rattle.block.specs.Block.{BlockSize};
 ghost use Rattle.dir_entry.specs.Entry.{header, place_at, name_at};
-ghost use Rattle.super_block.specs.Super.{area_in, Fit};
+ghost use Rattle.super_block.specs.Super.{area_in};
 ghost use Rattle.read_dir.specs.Walk.{walk};
 ghost use Rattle.read_dir.specs.Cursor.{start, at_offset, hop_move, over_move, move_at, Stepped};
 ghost use Rattle.read_dir.specs.Finds.{sum_from};
 
-use block::{Addr, LinkedBlock};
-use dir_entry::{DirEntry, Slot};
-use super_block::SuperBlock;
+use block::Addr;
+use dir_entry::DirEntry;
+use limits::Damage;
+use super_block::Volume;
 
 // The bytes of a record before the name.
 pub const RECORD: usize = 14;
@@ -33,54 +33,38 @@ pub struct Place {
     pub offset: usize,
 }
 
-// One move of reading: an entry, another place, the end or damage.
+// An entry with the place where it stands.
+#[derive(Clone, Copy)]
+pub struct Placed {
+    pub entry: DirEntry,
+    pub place: Place,
+}
+
+// One move of reading: an entry with the cursor past it, another place, or the end.
 #[derive(Clone, Copy)]
 enum Move {
-    Entry(DirEntry, Place, ReadDir),
+    Entry(Placed, ReadDir),
     Go(ReadDir),
     End,
-    Damaged,
 }
 
-// The next entry, with the cursor past it.
+// How many bytes the records of a listing have, and the number of the entry after them.
 #[derive(Clone, Copy)]
-pub enum Step {
-    Entry(DirEntry, Place, ReadDir),
-    End,
-    Damaged,
-}
-
-#[derive(Clone, Copy)]
-pub enum Found {
-    At(DirEntry, Place),
-    Missing,
-    Damaged,
-}
-
-#[derive(Clone, Copy)]
-pub enum Summed {
-    Total(u32),
-    Damaged,
-}
-
-// The bytes of the records and the number of the entry after them.
-#[derive(Clone, Copy)]
-pub enum Listed {
-    Records(usize, u32),
-    Damaged,
+pub struct Listed {
+    pub bytes: usize,
+    pub next: u32,
 }
 
 impl ReadDir {
     // At the first entry of the directory that begins at block dir.
-    pub fn new(s: SuperBlock, dir: Addr) -> ReadDir
-        requires { s.area.0 ≤ s.blocks }
-        ensures { result ≡ start (area_in s) dir }
+    pub fn new(v: Volume, dir: Addr) -> ReadDir
+        ensures { result ≡ start (area_in v.entry.s) dir }
     {
-        let d = s.area;
+        let d = v.s.area;
         ReadDir {
             block: dir,
             offset: 0,
-            left: s.blocks - d.0,
+            left: v.s.blocks - d.0,
         }
     }
 
@@ -93,14 +77,12 @@ impl ReadDir {
     }
 
     // From a block whose entries have stopped: to the next one, unless there is none.
-    fn hop(self, img: &[u8], size: u32) -> Move
-        requires block_size { BlockSize size }
-        requires size_in_bounds { size * self.block.0 + size ≤ length img.now }
+    fn hop(self, v: Volume) -> Move
+        requires block_lt_blocks { self.block.0 < v.s.blocks }
         requires left_nonzero { 0 < self.left }
-        ensures { result ≡ hop_move size img.now self }
+        ensures { result ≡ hop_move v.entry.s.size v.entry.img.now self }
     {
-        let b = self.block;
-        let next = LinkedBlock::new(size, b).next_addr(img);
+        let next = v.next_addr(self.block);
         if next.0 == 0 {
             return Move::End;
         }
@@ -127,97 +109,82 @@ impl ReadDir {
         if a.0 == 0 {
             return Move::Go(c);
         }
-        let p = Place {
+        let place = Place {
             block: b,
             offset: at,
         };
-        Move::Entry(e, p, c)
+        Move::Entry(Placed { entry: e, place }, c)
     }
 
     // One move. The block is looked at anew each time, so a cursor needs no promise.
-    fn advance(self, img: &[u8], s: SuperBlock) -> Move
-        requires { Fit s img.now }
-        ensures { result ≡ move_at (area_in s) img.now self }
+    fn advance(self, v: Volume) -> Result<Move, Damage>
+        ensures { result ≡ move_at (area_in v.entry.s) v.entry.img.now self }
     {
-        let b = self.block;
-        let d = s.area;
         if self.left == 0 {
-            return Move::Damaged;
+            return Err(Damage);
         }
-        if b.0 < d.0 {
-            return Move::Damaged;
+        if !v.has(self.block) {
+            return Err(Damage);
         }
-        if s.blocks <= b.0 {
-            return Move::Damaged;
-        }
-        match DirEntry::decode(img, LinkedBlock::new(s.size, b), self.offset) {
-            Slot::Stop => self.hop(img, s.size),
-            Slot::Entry(e) => self.over(e),
+        match DirEntry::decode(v.img, v.block(self.block), self.offset) {
+            None => Ok(self.hop(v)),
+            Some(e) => Ok(self.over(e)),
         }
     }
 
-    // The next entry and the cursor past it, the end, or damage.
-    pub fn next(self, img: &[u8], s: SuperBlock) -> Step
-        requires { Fit s img.now }
-        ensures { Stepped (area_in s) img.now self result }
+    // The next entry, with the cursor past it then, or the end.
+    pub fn next(&mut self, v: Volume) -> Result<Option<Placed>, Damage>
+        ensures { Stepped (area_in v.entry.s) v.entry.img.now self.old self.new result }
     {
-        let mut c = self;
         loop {
-            match c.advance(img, s) {
-                Move::Entry(e, p, d) => return Step::Entry(e, p, d),
-                Move::Go(d) => {
-                    c = d;
+            match self.advance(v)? {
+                Move::Entry(x, past) => {
+                    *self = past;
+                    return Ok(Some(x));
                 }
-                Move::End => return Step::End,
-                Move::Damaged => return Step::Damaged,
+                Move::Go(on) => *self = on,
+                Move::End => return Ok(None),
             }
         }
     }
 }
 
-// The name of an entry at its place.
-pub fn name_of(img: &[u8], size: u32, e: DirEntry, p: Place) -> &[u8]
-    requires block_size { BlockSize size }
-    requires size_in_bounds { size * p.block.0 + size ≤ length img.now }
-    requires len_bound { p.offset + header + e.len ≤ size - 5 }
-    ensures { result.now ≡ name_at img.now (place_at size p.block.0 p.offset) e.len }
-{
-    let b = p.block;
-    let from = dir_entry::place(size, b, p.offset) + DirEntry::HEADER;
-    let to = from + (e.len as usize);
-    &img[from..to]
-}
-
-// Whether an entry has that name.
-pub fn named(img: &[u8], size: u32, e: DirEntry, p: Place, name: &[u8]) -> bool
-    requires block_size { BlockSize size }
-    requires size_in_bounds { size * p.block.0 + size ≤ length img.now }
-    requires len_bound { p.offset + header + e.len ≤ size - 5 }
-    ensures { result ≡ same (name_at img.now (place_at size p.block.0 p.offset) e.len)
-        name.now }
-{
-    let x = name_of(img, size, e, p);
-    if x.len() != name.len() {
-        return false;
+impl Placed {
+    // The name of an entry at its place.
+    pub fn name<'a>(self, v: Volume<'a>) -> &'a [u8]
+        requires size_in_bounds { v.s.size * self.place.block.0 + v.s.size ≤ length v.img.now }
+        requires len_bound { self.place.offset + header + self.entry.len ≤ v.s.size - 5 }
+        ensures { result.now ≡ name_at v.entry.img.now
+            (place_at v.entry.s.size self.place.block.0 self.place.offset) self.entry.len }
+    {
+        let p = self.place;
+        let from = dir_entry::place(v.block(p.block), p.offset) + DirEntry::HEADER;
+        &v.img[from..from + (self.entry.len as usize)]
     }
-    wire::same_bytes(x, 0, name)
+
+    // Whether an entry has that name.
+    pub fn named(self, v: Volume, name: &[u8]) -> bool
+        requires size_in_bounds { v.s.size * self.place.block.0 + v.s.size ≤ length v.img.now }
+        requires len_bound { self.place.offset + header + self.entry.len ≤ v.s.size - 5 }
+        ensures { result ≡ same (name_at v.entry.img.now
+            (place_at v.entry.s.size self.place.block.0 self.place.offset) self.entry.len) name.now }
+    {
+        let x = self.name(v);
+        if x.len() != name.len() {
+            return false;
+        }
+        wire::same_bytes(x, 0, name)
+    }
 }
 
 // The bytes of its entries, which are a directory's size.
-pub fn sum(img: &[u8], s: SuperBlock, dir: Addr) -> Summed
-    requires { Fit s img.now }
-    ensures { result ≡ sum_from 0 (walk (area_in s) img.now dir.0) }
+pub fn sum(v: Volume, dir: Addr) -> Result<u32, Damage>
+    ensures { result ≡ sum_from 0 (walk (area_in v.entry.s) v.entry.img.now dir.0) }
 {
-    let mut c = ReadDir::new(s, dir);
+    let mut c = ReadDir::new(v, dir);
     let mut total: u32 = 0;
-    loop {
-        match c.next(img, s) {
-            Step::Entry(e, _, d) => {
-                total = total + ((DirEntry::HEADER as u32) + (e.len as u32));
-                c = d;
-            }
-            Step::End => return Summed::Total(total),
-            Step::Damaged => return Summed::Damaged,
-        }
+    while let Some(x) = c.next(v)? {
+        total += (DirEntry::HEADER as u32) + (x.entry.len as u32);
     }
+    Ok(total)
 }

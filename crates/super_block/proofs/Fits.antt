@@ -1,11 +1,13 @@
 -- What `Fit` gives: the places of superblock, bitmap and data in the image, and the volume of an image that was checked.
 use mathlib.Core.Path.{◌≡◌, refl, sym, ap, ◌∙◌, subst}
+use mathlib.Core.Bool.{Bool, true, false, ◌&&◌}
 use mathlib.Core.List.{List}
+use lib.Dec.{leb, ltb}
+use borrow.Author.Tests.{leb-true, ltb-true}
 use Prim.Native.Nat.{ℕ, suc, ◌+◌, ◌-◌, ◌*◌, ◌≤◌, ◌<◌}
 use native.Mathlib.Nat.{mul-suc, mul-add, mul_comm, mul-le-mul_left}
 use native.Mathlib.Omega.{arith}
 use lib.ListN.{length}
-use Rattle.block.specs.Block.{BlockSize}
 use Rattle.model.specs.Geometry.{Mount, Geo, block_size, map_at, area_of, numbered, geo_at, format_geo, Sound, open_refusal, format_refusal}
 use Rattle.model.proofs.Areas.{size_known, area, few}
 use Rattle.model.proofs.Opens.{opens_sound, format_sound}
@@ -111,10 +113,6 @@ area_is {s} f = λ i. record { size = f.size i; first = f.area i; end = s.blocks
 pub from_is : {s : SuperBlock} {I : List ℕ} {at : ℕ} → Fit s I → at ≡ s.size * s.bitmap.0 → at ≡ block_size (geo_of s) * map_at (geo_of s)
 from_is {s} f e = e ∙ ap (λ (a : ℕ). s.size * a) f.bitmap ∙ ap (λ (z : ℕ). z * map_at (geo_of s)) f.size
 
--- what has the struct's size has a size that blocks have,
-pub made_known : {z : ℕ} (s : SuperBlock) (I : List ℕ) → Fit s I → z ≡ s.size → BlockSize z
-made_known s I f e = subst BlockSize (sym e) f.known
-
 -- there is a data area,
 pub area_inside : {s : SuperBlock} {I : List ℕ} → Fit s I → s.area.0 ≤ s.blocks
 area_inside f = omega (arith, (placed f).some_data)
@@ -136,5 +134,16 @@ ready_volume s I r =
     let e : geo_at (mount_of s) I ≡ geo_of s = λ i. numbered (mount_of s) (sym r.version i) (sym r.count i) in
     subst (λ (g : Geo). Volume g I max_depth w.tree) (well_formed_geo (mount_of s) I w ∙ e) w.volume
 
-pub ready_fit : (s : SuperBlock) (I : List ℕ) → Ready s I → Fit s I
-ready_fit s I r = r.fit
+-- ---- whether a block is one of the data area's, as `has` tells
+
+has_both : (p q : Bool) → (p && q) ≡ true → (p ≡ true) × (q ≡ true)
+has_both true true e = (refl, refl)
+has_both true false e = (refl, e)
+has_both false q e = (e, absurd (let z : ◌≡◌ {A = ℕ} 0 1 = cc in omega arith))
+
+module _ (b : Bool) (first a end : ℕ) (e : b ≡ (leb first a && ltb a end)) (t : b ≡ true) where
+  pub has_first : first ≤ a
+  has_first = leb-true _ _ (has_both (leb first a) (ltb a end) (sym e ∙ t)).0
+
+  pub has_below : a < end
+  has_below = ltb-true _ _ (has_both (leb first a) (ltb a end) (sym e ∙ t)).1

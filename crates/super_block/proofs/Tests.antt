@@ -1,5 +1,5 @@
 -- The tests of refusals 1 to 3 as code makes them; the stores of a superblock.
-use mathlib.Core.Path.{◌≡◌, sym, ap, ◌∙◌, subst}
+use mathlib.Core.Path.{◌≡◌, refl, sym, ap, ◌∙◌, subst}
 use mathlib.Core.Bool.{Bool, true, false, not}
 use mathlib.Core.List.{List, [], ◌∷◌, ◌++◌, append_assoc}
 use Prim.Native.Nat.{ℕ, ◌+◌, ◌-◌, ◌*◌, ◌/◌, ◌%◌, ◌^◌, ◌≤◌, ◌<◌, min}
@@ -77,22 +77,13 @@ module _ (K c : ℕ) (I : List ℕ) {z at : ℕ} (q : z ≡ code_size c) (w : at
   unfolding count_at
   count_is e = e ∙ ap (λ (y : ℕ). be 4 I (y + 10)) at_is
 
-  pub mark_place : code_size c * K + 10 ≤ length I → at + 8 ≤ length I
-  mark_place h = omega (arith, at_is)
-
-  pub code_in : code_size c * K + 10 ≤ length I → at + 9 < length I
-  code_in h = omega (arith, at_is)
-
-  pub version_in : code_size c * K + 10 ≤ length I → at + 8 < length I
-  version_in h = omega (arith, at_is)
-
   pub mark_letters : {b : Bool} → b ≡ same (take 8 (drop at I)) signature → not b ≡ true → true ≡ bad_mark (mount K c) I
   unfolding bad_mark
   mark_letters {b} e h = sym (simp (sym letters_is, sym e, not-true b h))
 
-  pub mark_code : {b : Bool} → b ≡ same (take 8 (drop at I)) signature → not b ≡ false → {x : ℕ} → x ≡ get_or I (at + 9) 0 → (x ≡ c → ⊥) → true ≡ bad_mark (mount K c) I
+  pub mark_code : {b : Bool} → b ≡ same (take 8 (drop at I)) signature → not b ≡ false → {x : ℕ} → x ≡ get_or I (at + 9) 0 → (x ≡ c → ⊥) → not (eqb x c) ≡ bad_mark (mount K c) I
   unfolding bad_mark
-  mark_code {b} e h f d = sym (simp (sym letters_is, sym e, not-false b h, ne_eqb (code_at (mount K c) I) c (λ y. d (f ∙ code_is ∙ y))))
+  mark_code {b} e h {x} f d = ap not (ne_eqb x c d) ∙ sym (simp (sym letters_is, sym e, not-false b h, ne_eqb (code_at (mount K c) I) c (λ y. d (f ∙ code_is ∙ y))))
 
   pub mark_version : {b r : Bool} → b ≡ same (take 8 (drop at I)) signature → not b ≡ false → {x : ℕ} → x ≡ get_or I (at + 9) 0 → x ≡ c
       → r ≡ bad_version (get_or I (at + 8) 0) c → r ≡ bad_mark (mount K c) I
@@ -133,25 +124,6 @@ module _ (K c v n len : ℕ) {z : ℕ} (q : z ≡ code_size c) where
 told : {a b c : Bool} → a ≡ b → a ≡ c → b ≡ c
 told p q = sym p ∙ q
 
--- ---- the block size
-
--- a place in a superblock is within a word
-module _ {K z at : ℕ} (h : K < 2 ^ 32) (b : BlockSize z) (e : at ≡ z * K) where
-  pub version_fits : at + 8 < 2 ^ 64
-  version_fits = omega (arith, mul-le-mul_right K b.most)
-
-  pub code_fits : at + 9 < 2 ^ 64
-  code_fits = omega (arith, mul-le-mul_right K b.most)
-
-pub size_small : {c : ℕ} → c ≡ 0 → (512 ≡ code_size c) × BlockSize 512
-size_small e = (ap code_size (sym e), record { least = omega arith; most = omega arith })
-
-pub size_double : {c : ℕ} → c ≤ last_code → (c ≡ 0 → ⊥) → (1024 ≡ code_size c) × BlockSize 1024
-size_double {c} h n = let e : 1 ≡ c = one c h n in (ap code_size e, record { least = omega arith; most = omega arith })
-  where
-    one : (c : ℕ) → c ≤ 1 → (c ≡ 0 → ⊥) → 1 ≡ c
-    one c h n = omega arith
-
 -- ---- the numbers of n blocks at K
 
 pub maps_old : (v x y : ℕ) → v ≡ 1 → x ≡ pick (eqb v 1) x y
@@ -160,21 +132,12 @@ maps_old v x y e = sym (pick_true x y (eq-eqb v 1 e))
 pub maps_new : (v x y : ℕ) → (v ≡ 1 → ⊥) → y ≡ pick (eqb v 1) x y
 maps_new v x y e = sym (pick_false x y (ne_eqb v 1 e))
 
-pub span_few : {z p : ℕ} → BlockSize z → p ≡ 8 * z → p ≤ 8192
-span_few h e = omega (arith, h.most)
-
 module _ (K c v n : ℕ) (f : Fair (numbered (mount K c) v n)) where
   abbrev g : Geo
   g = numbered (mount K c) v n
 
   n_few : n ≤ 8388608
   n_few = few g f.image f.sound
-
-  pub left_few : (a : ℕ) → n - a ≤ 8388608
-  left_few a = omega (arith, n_few)
-
-  pub whole_fits : (p : ℕ) → p * (n / p) < 2 ^ 32
-  whole_fits p = omega (arith, n_few, mul-div-le n p)
 
   -- p bits for a bitmap block, b of them
   module _ {z p a b : ℕ} (ez : z ≡ code_size c) (ep : p ≡ 8 * z) (ea : a ≡ K + 2)
@@ -260,12 +223,6 @@ module _ (K c len : ℕ) {a : Bool} (p : a ≡ bad_image (mount K c) len) (q : a
 
     pub byte_in : at + 8 < len
     byte_in = omega (arith, at_in)
-
-    pub byte_fits : at + 8 < 2 ^ 64
-    byte_fits = omega (arith, at_in, image.2)
-
-    pub count_fits : at + 10 < 2 ^ 64
-    count_fits = omega (arith, at_in, image.2)
 
     pub count_in : at + 10 + 4 ≤ len
     count_in = omega (arith, at_in)
@@ -363,12 +320,15 @@ super_stored g I M v at m eat em eM h large =
     ∙ ap (λ (X : List ℕ). splice I (block_size g * g.K) ((X ++ (N ++ U)) ++ zeros (block_size g - length (X ++ (N ++ U))))) eM
 
 -- as code makes them, one after the other
-pub super_steps : (s : SuperBlock) (I J₁ J₂ J₃ J₄ M : List ℕ) (v at : ℕ) → Fit s I → at ≡ s.size * s.addr.0 → M ≡ signature ++ (s.version ∷ (s.code ∷ []))
-    → J₁ ≡ splice I at M → J₂ ≡ splice J₁ (at + 10) (bytes 4 s.blocks) → J₃ ≡ splice J₂ (at + 14) (bytes 4 v) → J₄ ≡ splice J₃ (at + 18) (zeros (s.size - 18))
-    → J₄ ≡ super_written (geo_of s) I v
+pub super_steps : (s : SuperBlock) (I J₀ J₁ J₂ J₃ J₄ : List ℕ) (v at : ℕ) → Fit s I → at ≡ s.size * s.addr.0
+    → J₀ ≡ splice I at signature → J₁ ≡ splice J₀ (at + 8) (s.version ∷ (s.code ∷ [])) → J₂ ≡ splice J₁ (at + 10) (bytes 4 s.blocks)
+    → J₃ ≡ splice J₂ (at + 14) (bytes 4 v) → J₄ ≡ splice J₃ (at + 18) (zeros (s.size - 18)) → J₄ ≡ super_written (geo_of s) I v
 unfolding super_written
-super_steps s I J₁ J₂ J₃ J₄ M v at f eat eM e₁ e₂ e₃ e₄ =
+super_steps s I J₀ J₁ J₂ J₃ J₄ v at f eat e₀ e₁ e₂ e₃ e₄ =
     let e = f.size in
-    e₄ ∙ ap (λ (L : List ℕ). splice L (at + 18) (zeros (s.size - 18))) (e₃ ∙ ap (λ (L : List ℕ). splice L (at + 14) (bytes 4 v)) (e₂ ∙ ap (λ (L : List ℕ). splice L (at + 10) (bytes 4 s.blocks)) e₁))
-    ∙ super_stored (geo_of s) I M v at (s.size - 18) (eat ∙ ap (λ (z : ℕ). z * s.addr.0) e) (ap (λ (z : ℕ). z - 18) e) eM
+    let i : at + 10 ≤ length I = omega (arith, f.top, f.known.least) in
+    let m : J₁ ≡ splice I at (signature ++ (s.version ∷ (s.code ∷ [])))
+    = e₁ ∙ ap (λ (L : List ℕ). splice L (at + 8) (s.version ∷ (s.code ∷ []))) e₀ ∙ splice-append signature (s.version ∷ (s.code ∷ [])) I at i in
+    e₄ ∙ ap (λ (L : List ℕ). splice L (at + 18) (zeros (s.size - 18))) (e₃ ∙ ap (λ (L : List ℕ). splice L (at + 14) (bytes 4 v)) (e₂ ∙ ap (λ (L : List ℕ). splice L (at + 10) (bytes 4 s.blocks)) m))
+    ∙ super_stored (geo_of s) I _ v at (s.size - 18) (eat ∙ ap (λ (z : ℕ). z * s.addr.0) e) (ap (λ (z : ℕ). z - 18) e) refl
     (subst (λ (z : ℕ). z * s.addr.0 + z ≤ length I) e (omega (arith, f.top))) (omega (arith, f.known.least, e))

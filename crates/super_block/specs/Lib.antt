@@ -1,1 +1,2 @@
 pub mod Super
+pub mod One

@@ -1,13 +1,12 @@
 -- The struct of a volume's numbers, and what reading, making and writing a superblock gives.
-use Rattle.std.specs.Prelude.{◌≡◌, List, ℕ, ◌+◌, ◌*◌, ◌≤◌, length}
+use Rattle.std.specs.Prelude.{◌≡◌, List, ℕ, ◌+◌, ◌*◌, ◌≤◌, length, Result, Ok, Err}
 use Rattle.wire.specs.Be.{bytes, splice}
 use Rattle.block.specs.Block.{Area, BlockSize}
 use Rattle.limits.specs.Refusals.{refusal_number}
+use Rattle.limits.specs.declared.Refusal.{Refusal}
 use Rattle.model.specs.Geometry.{Mount, Geo, block_size, map_at, data_at, map_bits, reach, version_at, count_at, geo_at, super_bytes, Sound, open_refusal, format_refusal, format_geo}
 use Rattle.model.specs.Volume.{WellFormed}
 use Rattle.super_block.specs.declared.SuperBlock.{SuperBlock}
-use Rattle.super_block.specs.declared.Opened.{Opened}
-use Rattle.super_block.specs.declared.Opened.TheVariants.{At, Refused}
 
 -- F1, F2: the mount and the numbers of a volume that a struct stands for, and the struct of such numbers.
 abbrev pub mount_of : SuperBlock → Mount
@@ -60,14 +59,14 @@ pub record Ready (s : SuperBlock) (I : List ℕ) : Type 0 where
   pub count : s.blocks ≡ count_at (mount_of s) I
 
 -- R1 to R3: reading gives the first of them that holds, or the numbers that the image's superblock says.
-abbrev pub OpenedIs : Mount → List ℕ → Opened → Type 0
-OpenedIs M I (At s) = (open_refusal M I ≡ 0) × (s ≡ super_block (geo_at M I))
-OpenedIs M I (Refused r) = open_refusal M I ≡ refusal_number r
+abbrev pub OpenedIs : Mount → List ℕ → Result SuperBlock Refusal → Type 0
+OpenedIs M I (Ok s) = (open_refusal M I ≡ 0) × (s ≡ super_block (geo_at M I))
+OpenedIs M I (Err r) = open_refusal M I ≡ refusal_number r
 
 -- Making: the first of 1, 3 that holds, or the numbers of an image of len bytes.
-abbrev pub MadeIs : Mount → ℕ → Opened → Type 0
-MadeIs M len (At s) = (format_refusal M len ≡ 0) × (s ≡ super_block (format_geo M len))
-MadeIs M len (Refused r) = format_refusal M len ≡ refusal_number r
+abbrev pub MadeIs : Mount → ℕ → Result SuperBlock Refusal → Type 0
+MadeIs M len (Ok s) = (format_refusal M len ≡ 0) × (s ≡ super_block (format_geo M len))
+MadeIs M len (Err r) = format_refusal M len ≡ refusal_number r
 
 -- The image with v as its used count.
 unfoldable pub counted : Geo → List ℕ → ℕ → List ℕ

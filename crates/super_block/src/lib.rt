@@ -2,20 +2,23 @@
 // Only this crate computes D and the reach; all others take them from the struct.
 #![tactic(auto)]
 
-ghost use Rattle.std.specs.Prelude.{◌≡◌, ◌+◌, ◌-◌, ◌*◌, ◌/◌, ◌≤◌, ◌<◌, min, eqb, length};
+ghost use Rattle.std.specs.Prelude.{◌≡◌, ◌+◌, ◌-◌, ◌*◌, ◌/◌, ◌≤◌, eqb, leb, ltb, ◌&&◌, ◌<◌, length, IfOk, IfErr};
 ghost use Rattle.wire.specs.Pick.{pick};
-ghost use Rattle.block.specs.Block.{BlockSize};
-ghost use Rattle.model.specs.Geometry.{mount, numbered, code_size, last_code, rest, bad_image, bad_version, bad_mark, bad_count, used_count};
+ghost use Rattle.block.specs.Block.{BlockSize, next};
+ghost use Rattle.model.specs.Geometry.{mount, numbered, code_size, last_code, rest, bad_image, bad_version, bad_mark};
+ghost use Rattle.model.specs.Geometry.{bad_count, used_count};
+ghost use Rattle.limits.specs.Refusals.{refusal_number};
+ghost use Rattle.super_block.specs.One.{fit_is_one};
 ghost use Rattle.super_block.specs.Super.{geo_of, super_block, Fair, Fit, OpenedIs, MadeIs, counted, super_written};
 
-use block::Addr;
+use block::{Addr, LinkedBlock};
 use limits::Refusal;
 
 // Bytes of the largest image.
 const MAX_IMAGE: usize = 4_294_967_296;
 
 // The letters that a superblock begins with.
-const SIGNATURE: [u8; 8] = [77, 79, 82, 79, 83, 32, 70, 83];
+const SIGNATURE: [u8; 8] = *b"MOROS FS";
 
 // The version that is written, and the one before it, which is read too.
 const VERSION: u8 = 2;
@@ -24,6 +27,21 @@ const OLD_VERSION: u8 = 1;
 
 // The last size code. (The old version has code 0 alone.)
 const MAX_CODE: u32 = 1;
+
+// Where a caller says that a volume stands in an image: the block of its superblock, in blocks of the size that the code says.
+// Any code may be named.
+#[derive(Clone, Copy)]
+pub struct Mount {
+    pub k: u32,
+    pub code: u32,
+}
+
+// A mount whose size code is known. `Mount::known` alone makes one; any other code is refused by 2.
+#[derive(Clone, Copy)]
+struct Known {
+    m: Mount,
+    ghost known: { m.code ≤ last_code },
+}
 
 // The numbers of a volume.
 #[derive(Clone, Copy)]
@@ -45,116 +63,30 @@ pub struct SuperBlock {
     pub reach: u32,
 }
 
+// An image with the numbers of its volume, which fit: every block of the volume lies in the image.
 #[derive(Clone, Copy)]
-pub enum Opened {
-    At(SuperBlock),
-    Refused(Refusal),
-}
-
-// The smaller of two numbers.
-fn least(a: u32, b: u32) -> u32
-    ensures { result ≡ min a b }
-{
-    if a < b { a } else { b }
-}
-
-// A byte as a number of four bytes.
-fn wide(x: u8) -> u32
-    ensures { result ≡ x }
-{
-    x as u32
-}
-
-// The bytes of a block.
-fn block_size(code: u32) -> u32
-    requires { code ≤ last_code }
-    ensures { (result ≡ code_size code) × BlockSize result }
-{
-    if code == 0 {
-        return block::BLOCK_SIZE;
-    }
-    2 * block::BLOCK_SIZE
-}
-
-// Refusal 1, by the image's length alone.
-fn bad_image(len: usize, k: u32, code: u32) -> bool
-    requires { code ≤ last_code }
-    ensures { result ≡ bad_image (mount k code) len }
-{
-    if len == 0 {
-        return true;
-    }
-    let size = block_size(code) as usize;
-    if len % size != 0 {
-        return true;
-    }
-    if MAX_IMAGE < len {
-        return true;
-    }
-    len / size <= (k as usize) + 2
+pub struct Volume<'a> {
+    pub img: &'a [u8],
+    pub s: SuperBlock,
+    ghost fit: { Fit s img.now } by { fit_is_one s img.now },
 }
 
 // Whether no volume of that size code has this version.
 fn bad_version(v: u8, code: u32) -> bool
     ensures { result ≡ bad_version v code }
 {
-    if v == VERSION {
-        return false;
+    match v {
+        VERSION => false,
+        OLD_VERSION => code != 0,
+        _ => true,
     }
-    if v != OLD_VERSION {
-        return true;
-    }
-    code != 0
-}
-
-// Refusal 2.
-fn bad_mark(img: &[u8], k: u32, code: u32) -> bool
-    requires code_le_last_code { code ≤ last_code }
-    requires k_in_bounds { code_size code * k + 10 ≤ length img.now }
-    ensures { result ≡ bad_mark (mount k code) img.now }
-{
-    let at = block::offset(block_size(code), Addr(k));
-    if !wire::same_bytes(img, at, &SIGNATURE) {
-        return true;
-    }
-    let c = img[at + 9];
-    let v = img[at + 8];
-    if wide(c) != code {
-        return true;
-    }
-    bad_version(v, code)
 }
 
 // The blocks from the bitmap on.
 fn after_bitmap(n: u32, k: u32) -> u32
     ensures { result ≡ n - (k + 2) }
 {
-    let a = (k as u64) + 2;
-    let n = n as u64;
-    if n < a {
-        return 0;
-    }
-    (n - a) as u32
-}
-
-// Refusal 3.
-fn bad_count(n: u32, k: u32, len: usize, v: u8, code: u32) -> bool
-    requires { code ≤ last_code }
-    ensures { result ≡ bad_count (numbered (mount k code) v n) len }
-{
-    let size = block_size(code);
-    if len / (size as usize) < (n as usize) {
-        return true;
-    }
-    let left = after_bitmap(n, k);
-    let unit = 8 * size + 1;
-    if v == OLD_VERSION {
-        return left < unit;
-    }
-    if left < 2 {
-        return true;
-    }
-    left % unit == 1
+    n.saturating_sub(k).saturating_sub(2)
 }
 
 // The blocks of the bitmap, of so many for it and the data. A bitmap block has so many bits.
@@ -164,26 +96,102 @@ fn map_blocks(left: u32, span: u32, v: u8) -> u32
     ensures { result ≡ pick (eqb v 1) (left / (span + 1)) ((left + span) / (span + 1)) }
 {
     if v == OLD_VERSION {
-        return left / (span + 1);
+        left / (span + 1)
+    } else {
+        (left + span) / (span + 1)
     }
-    (left + span) / (span + 1)
+}
+
+impl Mount {
+    // The same, where its size code is known: refusal 2, before all that is said of an image.
+    fn known(self) -> Result<Known, Refusal>
+        ensures ok { IfOk result (λ x. x.m ≡ self) }
+        ensures err { IfErr result (λ r. (last_code < self.code) × (refusal_number r ≡ 2)) }
+    {
+        if MAX_CODE < self.code {
+            return Err(Refusal::NotMfs);
+        }
+        Ok(Known { m: self })
+    }
+}
+
+impl Known {
+    // The bytes of a block.
+    fn block_size(self) -> u32
+        ensures { (result ≡ code_size self.m.code) × BlockSize result }
+    {
+        if self.m.code == 0 {
+            block::BLOCK_SIZE
+        } else {
+            2 * block::BLOCK_SIZE
+        }
+    }
+
+    // Refusal 1, by the image's length alone.
+    fn bad_image(self, len: usize) -> bool
+        ensures { result ≡ bad_image (mount self.m.k self.m.code) len }
+    {
+        if len == 0 {
+            return true;
+        }
+        let size = self.block_size() as usize;
+        if len % size != 0 {
+            return true;
+        }
+        if MAX_IMAGE < len {
+            return true;
+        }
+        len / size <= (self.m.k as usize) + 2
+    }
+
+    // Refusal 2, by what stands in block k.
+    fn bad_mark(self, img: &[u8]) -> bool
+        requires { code_size self.m.code * self.m.k + 10 ≤ length img.now }
+        ensures { result ≡ bad_mark (mount self.m.k self.m.code) img.now }
+    {
+        let code = self.m.code;
+        let at = block::offset(self.block_size(), Addr(self.m.k));
+        if !wire::same_bytes(img, at, &SIGNATURE) {
+            return true;
+        }
+        u32::from(img[at + 9]) != code || bad_version(img[at + 8], code)
+    }
+
+    // Refusal 3.
+    fn bad_count(self, n: u32, v: u8, len: usize) -> bool
+        ensures { result ≡ bad_count (numbered (mount self.m.k self.m.code) v n) len }
+    {
+        let size = self.block_size();
+        if len / (size as usize) < (n as usize) {
+            return true;
+        }
+        let left = after_bitmap(n, self.m.k);
+        let unit = 8 * size + 1;
+        if v == OLD_VERSION {
+            return left < unit;
+        }
+        if left < 2 {
+            return true;
+        }
+        left % unit == 1
+    }
 }
 
 impl SuperBlock {
-    // The numbers with the superblock at k and n blocks.
-    fn new(k: u32, n: u32, v: u8, code: u32) -> Self
-        requires code_le_last_code { code ≤ last_code }
-        requires fair { Fair (numbered (mount k code) v n) }
-        ensures { result ≡ super_block (numbered (mount k code) v n) }
+    // The numbers of n blocks.
+    fn new(known: Known, n: u32, v: u8) -> Self
+        requires { Fair (numbered (mount known.m.k known.m.code) v n) }
+        ensures { result ≡ super_block (numbered (mount known.m.k known.m.code) v n) }
     {
-        let size = block_size(code);
+        let size = known.block_size();
+        let Mount { k, code } = known.m;
         let span = 8 * size;
         let a = k + 2;
         let b = map_blocks(n - a, span, v);
         let d = a + b;
         let bits = span * b;
         let whole = span * (n / span);
-        let reach = least(least(n - d, whole), bits);
+        let reach = (n - d).min(whole).min(bits);
         SuperBlock {
             addr: Addr(k),
             blocks: n,
@@ -197,60 +205,40 @@ impl SuperBlock {
         }
     }
 
-    // The numbers of the image's superblock, at block k of a known size code.
-    fn read_known(img: &[u8], k: u32, code: u32) -> Opened
-        requires { code ≤ last_code }
-        ensures { OpenedIs (mount k code) img.now result }
+    // The numbers of the image's superblock, where it is mounted so.
+    pub fn read(img: &[u8], m: Mount) -> Result<SuperBlock, Refusal>
+        ensures { OpenedIs (mount m.k m.code) img.now result }
     {
+        let known = m.known()?;
         let len = img.len();
-        if bad_image(len, k, code) {
-            return Opened::Refused(Refusal::BadImage);
+        if known.bad_image(len) {
+            return Err(Refusal::BadImage);
         }
-        if bad_mark(img, k, code) {
-            return Opened::Refused(Refusal::NotMfs);
+        if known.bad_mark(img) {
+            return Err(Refusal::NotMfs);
         }
-        let at = block::offset(block_size(code), Addr(k));
+        let at = block::offset(known.block_size(), Addr(known.m.k));
         let v = img[at + 8];
         let n = wire::get32(img, at + 10);
-        if bad_count(n, k, len, v, code) {
-            return Opened::Refused(Refusal::BadCount);
+        if known.bad_count(n, v, len) {
+            return Err(Refusal::BadCount);
         }
-        Opened::At(SuperBlock::new(k, n, v, code))
+        Ok(SuperBlock::new(known, n, v))
     }
 
-    // The numbers of the image's superblock, at block k of that size code.
-    pub fn read(img: &[u8], k: u32, code: u32) -> Opened
-        ensures { OpenedIs (mount k code) img.now result }
+    // The numbers that a volume over a whole image of len bytes would have, to be mounted so.
+    pub fn for_image(len: usize, m: Mount) -> Result<SuperBlock, Refusal>
+        ensures { MadeIs (mount m.k m.code) len result }
     {
-        if MAX_CODE < code {
-            return Opened::Refused(Refusal::NotMfs);
+        let known = m.known()?;
+        if known.bad_image(len) {
+            return Err(Refusal::BadImage);
         }
-        SuperBlock::read_known(img, k, code)
-    }
-
-    // The numbers that a volume of a known size code over a whole image of len bytes would have.
-    fn known_for(len: usize, k: u32, code: u32) -> Opened
-        requires { code ≤ last_code }
-        ensures { MadeIs (mount k code) len result }
-    {
-        if bad_image(len, k, code) {
-            return Opened::Refused(Refusal::BadImage);
+        let n = (len / (known.block_size() as usize)) as u32;
+        if known.bad_count(n, VERSION, len) {
+            return Err(Refusal::BadCount);
         }
-        let n = (len / (block_size(code) as usize)) as u32;
-        if bad_count(n, k, len, VERSION, code) {
-            return Opened::Refused(Refusal::BadCount);
-        }
-        Opened::At(SuperBlock::new(k, n, VERSION, code))
-    }
-
-    // The numbers that a volume of that size code over a whole image of len bytes would have.
-    pub fn for_image(len: usize, k: u32, code: u32) -> Opened
-        ensures { MadeIs (mount k code) len result }
-    {
-        if MAX_CODE < code {
-            return Opened::Refused(Refusal::NotMfs);
-        }
-        SuperBlock::known_for(len, k, code)
+        Ok(SuperBlock::new(known, n, VERSION))
     }
 
     // The used count.
@@ -281,11 +269,36 @@ impl SuperBlock {
         let a = self.addr;
         let n = self.blocks;
         let at = block::offset(self.size, a);
-        let mark = [77, 79, 82, 79, 83, 32, 70, 83, self.version, self.code];
-        wire::copy(img, at, &mark, 0, 10);
+        wire::copy(img, at, &SIGNATURE, 0, 8);
+        wire::copy(img, at + 8, &[self.version, self.code], 0, 2);
         wire::put(img, at + 10, 4, n as u64);
         wire::put(img, at + 14, 4, v as u64);
         let rest = (self.size - 18) as usize;
         wire::fill(img, at + 18, rest, 0);
+    }
+}
+
+impl<'a> Volume<'a> {
+    // Whether a block is one of the data area's.
+    pub fn has(self, a: Addr) -> bool
+        ensures { result ≡ (leb self.entry.s.area.0 a.0 && ltb a.0 self.entry.s.blocks) }
+    {
+        let d = self.s.area;
+        d.0 <= a.0 && a.0 < self.s.blocks
+    }
+
+    // The block of an address, as one of a chain.
+    pub fn block(self, a: Addr) -> LinkedBlock
+        ensures { (result.size ≡ self.entry.s.size) × (result.addr.0 ≡ a.0) }
+    {
+        LinkedBlock::new(self.s.size, a)
+    }
+
+    // The next address of a block, 0 at the end of its chain.
+    pub fn next_addr(self, a: Addr) -> Addr
+        requires { a.0 < self.s.blocks }
+        ensures { result.0 ≡ next self.entry.s.size self.entry.img.now a.0 }
+    {
+        self.block(a).next_addr(self.img)
     }
 }

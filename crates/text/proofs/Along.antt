@@ -1,18 +1,23 @@
 -- How the code goes along the bytes: what is left to do is what was to be done.
 use mathlib.Core.Path.{◌≡◌, refl, sym, ap, ◌∙◌}
-use mathlib.Core.Bool.{Bool, true, false, and-true, and-false}
+use mathlib.Core.Bool.{Bool, true, false, ◌||◌, and-true, and-false}
+use mathlib.Core.Logic.{◌≢◌}
 use mathlib.Core.List.{List, [], ◌∷◌}
-use Prim.Native.Nat.{ℕ, zero, suc, ◌+◌, ◌≤◌, ◌<◌}
+use Prim.Native.Nat.{ℕ, zero, suc, ◌+◌, ◌-◌, ◌≤◌, ◌<◌}
 use native.Mathlib.Numerals.{add-one}
 use native.Mathlib.Omega.{arith}
 use lib.Dec.{eqb}
-use lib.ListN.{length, get_or, drop, drop_of_length-le}
+use lib.ListN.{length, get_or, take, drop, drop_of_length-le}
 use lib.Seq.{drop-cons}
-use borrow.Author.Tests.{eq-eqb, ne_eqb}
-use Rattle.text.specs.Text.{Range, is_done, step, text_from, is_text, slash, has_byte, is_name}
+use borrow.Author.Tests.{ne_eqb}
+use Rattle.std.specs.Prelude.{Option, Some, None, MatchOption, unwrap_or}
+use Rattle.std.specs.List.{AllWithin, HoldsAt, list_any}
+use Rattle.std.proofs.lemmas.Slice.{between_to_end}
+use Rattle.text.specs.Text.{Range, never, is_done, step, text_from, is_text, slash, has_byte, is_name}
 use Rattle.text.specs.Awaited.{ranges, due, Passed}
 use Rattle.text.specs.declared.Due.{Due}
 use Rattle.text.proofs.Rows.{plain_begun}
+use Rattle.text.proofs.Laws.{never_text}
 
 -- at byte i
 next_byte : (l : List ℕ) (i : ℕ) → i < length l → drop i l ≡ get_or l i 0 ∷ drop (i + 1) l
@@ -20,13 +25,18 @@ next_byte l i h = rw add-one (drop-cons l i 0 h)
 
 -- ---- the walk
 
-module _ (l : List ℕ) (from i : ℕ) (d : Due) (v : text_from (due d) (drop i l) ≡ is_text (drop from l)) where
-  pub walk_again : (x : List Range) → x ≡ step (due d) (get_or l i 0) → i < length l
-      → text_from x (drop (i + 1) l) ≡ is_text (drop from l)
+module _ (l : List ℕ) (i : ℕ) (d : Due) (v : text_from (due d) (drop i l) ≡ is_text l) where
+  walk_on : (x : List Range) → x ≡ step (due d) (get_or l i 0) → i < length l → text_from x (drop (i + 1) l) ≡ is_text l
   unfolding text_from
-  walk_again x e h = ap (λ (y : List Range). text_from y (drop (i + 1) l)) e ∙ sym (ap (text_from (due d)) (next_byte l i h)) ∙ v
+  walk_on x e h = ap (λ (y : List Range). text_from y (drop (i + 1) l)) e ∙ sym (ap (text_from (due d)) (next_byte l i h)) ∙ v
 
-  pub walk_done : length l ≤ i → eqb d.left 0 ≡ is_text (drop from l)
+  pub walk_again : (x : Due) → due x ≡ step (due d) (get_or l i 0) → i < length l → text_from (due x) (drop (i + 1) l) ≡ is_text l
+  walk_again x e h = walk_on (due x) e h
+
+  pub walk_ends : never ≡ step (due d) (get_or l i 0) → i < length l → false ≡ is_text l
+  walk_ends e h = sym (never_text (drop (i + 1) l)) ∙ walk_on never e h
+
+  pub walk_done : length l ≤ i → eqb d.left 0 ≡ is_text l
   unfolding text_from ranges
   walk_done h = go d.left ∙ sym (ap (text_from (due d)) (drop_of_length-le l h)) ∙ v
     where
@@ -34,16 +44,20 @@ module _ (l : List ℕ) (from i : ℕ) (d : Due) (v : text_from (due d) (drop i 
       go zero = refl
       go (suc k) = ne_eqb (suc k) 0 (λ e. omega arith)
 
-pub walk_start : (l : List ℕ) (from : ℕ) (x : List Range) → x ≡ ranges 0 0 0 → text_from x (drop from l) ≡ is_text (drop from l)
+pub walk_start : (l : List ℕ) → text_from (ranges 0 0 0) l ≡ is_text l
 unfolding ranges
-walk_start l from x e = ap (λ (y : List Range). text_from y (drop from l)) e
+walk_start l = refl
 
 -- ---- the plain bytes that stand first
 
-pub passed_none : (l : List ℕ) (a : ℕ) → Passed l a 0
+-- a plain byte that is not a
+abbrev pub Plain : ℕ → ℕ → Type 0
+Plain a c = (0x20 ≤ c) × (c ≤ 0x7E) × (c ≢ a)
+
+passed_none : (l : List ℕ) (a : ℕ) → Passed l a 0
 passed_none l a = record { high = omega arith; text = refl; without = refl }
 
-pub passed_on : (l : List ℕ) (a i : ℕ) → Passed l a i → i < length l → 0x20 ≤ get_or l i 0 → get_or l i 0 ≤ 0x7E
+passed_on : (l : List ℕ) (a i : ℕ) → Passed l a i → i < length l → 0x20 ≤ get_or l i 0 → get_or l i 0 ≤ 0x7E
     → (get_or l i 0 ≡ a → ⊥)
     → Passed l a (i + 1)
 unfolding text_from step has_byte
@@ -55,20 +69,29 @@ passed_on l a i p h low high n =
       without = sym (ap (has_byte a) (next_byte l i h) ∙ rw (ne_eqb (get_or l i 0) a n)) ∙ p.without;
     }
 
--- ---- whether a byte is there
+passed_to : (l : List ℕ) (a n : ℕ) → n ≤ length l → AllWithin (Plain a) l 0 n → Passed l a n
+passed_to l a zero h p = passed_none l a
+passed_to l a (suc i) h p =
+    let q = p i 0 (omega arith) (omega arith) in
+    rw (← add-one i) (passed_on l a i (passed_to l a i (omega arith) (λ k d m n. p k d m (omega arith))) (omega arith) q.0 q.1 q.2)
 
-module _ (l : List ℕ) (from i a : ℕ) (v : has_byte a (drop i l) ≡ has_byte a (drop from l)) where
-  pub has_found : i < length l → get_or l i 0 ≡ a → true ≡ has_byte a (drop from l)
-  unfolding has_byte
-  has_found h e = sym (ap (has_byte a) (next_byte l i h) ∙ rw (eq-eqb (get_or l i 0) a e)) ∙ v
+-- up to the first that is not plain, or to the end
+pub passed_first : (l : List ℕ) (a : ℕ) (r : Option ℕ) (other : ℕ → Type 0)
+    → MatchOption r (AllWithin (Plain a) l 0 (length l)) (λ i. (i < length l) × HoldsAt other l i × AllWithin (Plain a) l 0 i) → Passed l a (unwrap_or r (length l))
+passed_first l a None other h = passed_to l a (length l) (omega arith) h
+passed_first l a (Some i) other h = passed_to l a i (omega (arith, h.0)) h.2
 
-  pub has_again : i < length l → (get_or l i 0 ≡ a → ⊥) → has_byte a (drop (i + 1) l) ≡ has_byte a (drop from l)
-  unfolding has_byte
-  has_again h n = sym (ap (has_byte a) (next_byte l i h) ∙ rw (ne_eqb (get_or l i 0) a n)) ∙ v
+-- ---- what the library's slices say
 
-  pub has_none : length l ≤ i → false ≡ has_byte a (drop from l)
-  unfolding has_byte
-  has_none h = sym (ap (has_byte a) (drop_of_length-le l h)) ∙ v
+-- the test that a byte is there
+pub has_is : (a : ℕ) (l : List ℕ) → list_any (λ y. eqb y a) l ≡ has_byte a l
+unfolding has_byte
+has_is a [] = refl
+has_is a (c ∷ l) = ap (λ (b : Bool). eqb c a || b) (has_is a l)
+
+-- a slice to the end
+pub rest_is : (l : List ℕ) (n : ℕ) → take (length l - n) (drop n l) ≡ drop n l
+rest_is l n = between_to_end l n (length l) (omega arith)
 
 -- ---- the whole: n plain bytes stand first
 

@@ -9,23 +9,23 @@ use lib.Dec.{leb}
 use lib.ListN.{replicate}
 use borrow.Author.Tests.{le-leb, lt-leb, leb-true, leb-false}
 use Rattle.wire.proofs.Picks.{either, pick_true, pick_false}
-use Rattle.text.specs.Text.{Range, from_to, inside, Row, row, tail, table, never, begun, step}
+use Rattle.text.specs.Text.{Range, from_to, in_range, Row, row, tail, table, never, begun, step}
 use Rattle.text.specs.Awaited.{ranges, due}
 use Rattle.text.specs.declared.Due.{Due}
 
 -- ---- a range
 
 module _ (a b c : ℕ) where
-  range_in : a ≤ c → c ≤ b → inside (from_to a b) c ≡ true
-  unfolding inside
+  range_in : a ≤ c → c ≤ b → in_range (from_to a b) c ≡ true
+  unfolding in_range
   range_in h k = rw (le-leb a c h, le-leb c b k)
 
-  range_low : c < a → inside (from_to a b) c ≡ false
-  unfolding inside
+  range_low : c < a → in_range (from_to a b) c ≡ false
+  unfolding in_range
   range_low h = rw (lt-leb a c h)
 
-  pub range_high : b < c → inside (from_to a b) c ≡ false
-  unfolding inside
+  pub range_high : b < c → in_range (from_to a b) c ≡ false
+  unfolding in_range
   range_high h = rw (lt-leb c b h) (and-false (leb a c))
 
   -- ---- a row
@@ -159,6 +159,11 @@ module _ (c : ℕ) where
     pub above_all : x ≡ ranges 1 1 0 → 0xF4 ≤ c → (c ≡ 0xF4 → ⊥) → x ≡ begun table c
     unfolding ranges
     above_all e h k = e ∙ sym (past_F3 h ∙ high 0xF4 0xF4 c (from_to 0x80 0x8F ∷ tail ∷ tail ∷ []) [] (omega arith) ∙ no_row)
+
+-- a byte that there is not, as the code's range
+pub never_is : never ≡ ranges 1 1 0
+unfolding ranges
+never_is = refl
 
 -- ---- after one byte more
 

@@ -7,8 +7,8 @@ use Rattle.wire.specs.Pick.{pick}
 pub data Range : Type 0 where
   from_to : ℕ → ℕ → Range
 
-unfoldable pub inside : Range → ℕ → Bool
-inside (from_to a b) c = leb a c && leb c b
+unfoldable pub in_range : Range → ℕ → Bool
+in_range (from_to a b) c = leb a c && leb c b
 
 -- A kind of character: the range of its first byte, and the ranges of the bytes that follow it, in order.
 pub data Row : Type 0 where
@@ -40,12 +40,12 @@ never = from_to 1 0 ∷ []
 -- what is due after the first byte of a character: what follows in the first row that begins with it
 unfoldable pub begun : List Row → ℕ → List Range
 begun [] c = never
-begun (row r rs ∷ more) c = pick (inside r c) rs (begun more c)
+begun (row r rs ∷ more) c = pick (in_range r c) rs (begun more c)
 
 -- The walk: what is due of the character that it is in, nothing between two; and what is due after the next byte.
 unfoldable pub step : List Range → ℕ → List Range
 step [] c = begun table c
-step (r ∷ rs) c = pick (inside r c) rs never
+step (r ∷ rs) c = pick (in_range r c) rs never
 
 abbrev pub is_done : List Range → Bool
 is_done [] = true

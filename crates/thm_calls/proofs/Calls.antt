@@ -32,7 +32,7 @@ use Rattle.handle.specs.declared.Handle.{Handle}
 use Rattle.file_read.specs.Read.{read_refusal, bytes_read}
 use Rattle.call_read.specs.Reading.{path_call, size, area_at, handle_for, open_entry, open_on, open_reply, about, about_entry, about_root, info_on, info_reply, counts_of, list_on, list_reply, records_at, records_on}
 use Rattle.call_read.proofs.Opening.{entry_dir, entry_device, entry_file}
-use Rattle.call_read.proofs.Paths.{given_none}
+use Rattle.model.proofs.Replies.{given_none}
 use Rattle.thm_walk.specs.Shown.{walk_of}
 use Rattle.thm_walk.proofs.Walks.{walk_is}
 use Rattle.thm_path.specs.Shown.{way_to}
@@ -72,7 +72,7 @@ module _ (M : Mount) (I : List ℕ) (w : WellFormed M I) (cwd p : List ℕ) (goo
   call_passes = first_of_tail _ _ (well_formed_opens M I w) ∙ first_of_one _ ∙ when_false 4 good
 
   call_given : {A : Type 0} (r : Reply A) → given (path_call M I cwd p) r ≡ r
-  call_given r = sym (given_none (path_call M I cwd p) r call_passes)
+  call_given r = given_none r call_passes
 
   -- the entry at the path
   abbrev at_path : Reply Held

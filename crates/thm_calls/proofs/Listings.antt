@@ -1,4 +1,5 @@
 -- A listing of a directory's walk shows its entries in order, each once, as many as the buffer takes.
+use Rattle.std.specs.Prelude.{Ok}
 use mathlib.Core.Path.{◌≡◌, refl, sym, ap, ◌∙◌}
 use mathlib.Core.Bool.{true, false}
 use mathlib.Core.Logic.{◌⊎◌, inl, inr}
@@ -16,7 +17,6 @@ use Rattle.model.specs.Tree.{Entry, Block, entries_of, weight}
 use Rattle.model.specs.Render.{View}
 use Rattle.dir_entry.specs.declared.DirEntry.{DirEntry}
 use Rattle.dir_entry.specs.Shown.{head_of}
-use Rattle.read_dir.specs.declared.Listed.TheVariants as listed
 use Rattle.read_dir.specs.Walk.{Walk, item, finished, damaged}
 use Rattle.read_dir.specs.Finds.{record_of, skip, list_from, records_from}
 use Rattle.thm_walk.specs.Shown.{items_of, walk_of}
@@ -95,34 +95,34 @@ module _ {X : Type 0} (v : View X) where
 
   -- It shows the entries that go into the buffer: their bytes and the number after them are the answer,
   listing_counts : (cap : ℕ) (es : List (Entry X)) (w : Walk) (b i : ℕ) → Tells es w
-      → list_from cap b i w ≡ listed.Records (b + records_long (take (fitting cap b es) es)) (i + fitting cap b es)
+      → list_from cap b i w ≡ Ok (record { bytes = b + records_long (take (fitting cap b es) es); next = i + fitting cap b es })
   unfolding list_from records_long fitting
   listing_counts cap [] (item h a o x w) b i t = absurd t
-  listing_counts cap [] finished b i t = λ j. listed.Records (sym (add-zero b) j) (sym (add-zero i) j)
+  listing_counts cap [] finished b i t = λ j. Ok (record { bytes = sym (add-zero b) j; next = sym (add-zero i) j })
   listing_counts cap [] damaged b i t = absurd t
   listing_counts cap (e ∷ es) finished b i t = absurd t
   listing_counts cap (e ∷ es) damaged b i t = absurd t
   listing_counts cap (e ∷ es) (item h a o x w) b i t =
-      ap (λ (k : ℕ). pick (ltb (b + (14 + k)) cap) (list_from cap (b + (14 + k)) (i + 1) w) (listed.Records b i)) (len_is h e t.0)
+      ap (λ (k : ℕ). pick (ltb (b + (14 + k)) cap) (list_from cap (b + (14 + k)) (i + 1) w) (Ok (record { bytes = b; next = i }))) (len_is h e t.0)
       ∙ go (either (ltb c cap)) (listing_counts cap es w c (i + 1) t.2)
     where
       c : ℕ
       c = b + (14 + length e.name)
 
       go : (ltb c cap ≡ true) ⊎ (ltb c cap ≡ false)
-          → list_from cap c (i + 1) w ≡ listed.Records (c + records_long (take (fitting cap c es) es)) (i + 1 + fitting cap c es)
-          → pick (ltb c cap) (list_from cap c (i + 1) w) (listed.Records b i)
-          ≡ listed.Records (b + records_long (take (fitting cap b (e ∷ es)) (e ∷ es))) (i + fitting cap b (e ∷ es))
+          → list_from cap c (i + 1) w ≡ Ok (record { bytes = c + records_long (take (fitting cap c es) es); next = i + 1 + fitting cap c es })
+          → pick (ltb c cap) (list_from cap c (i + 1) w) (Ok (record { bytes = b; next = i }))
+          ≡ Ok (record { bytes = b + records_long (take (fitting cap b (e ∷ es)) (e ∷ es)); next = i + fitting cap b (e ∷ es) })
       go (inl y) r =
           let m : ℕ = fitting cap c es in
           let p : c + records_long (take m es) ≡ b + (14 + length e.name + records_long (take m es)) = omega arith in
           let q : i + 1 + m ≡ i + suc m = omega arith in
-          pick_true _ _ y ∙ r ∙ (λ j. listed.Records (p j) (q j))
-          ∙ sym (ap (λ (k : ℕ). listed.Records (b + records_long (take k (e ∷ es))) (i + k)) (pick_true (suc m) 0 y))
+          pick_true _ _ y ∙ r ∙ (λ j. Ok (record { bytes = p j; next = q j }))
+          ∙ sym (ap (λ (k : ℕ). Ok (record { bytes = b + records_long (take k (e ∷ es)); next = i + k })) (pick_true (suc m) 0 y))
       go (inr y) r =
           let m : ℕ = fitting cap c es in
-          pick_false _ _ y ∙ (λ j. listed.Records (sym (add-zero b) j) (sym (add-zero i) j))
-          ∙ sym (ap (λ (k : ℕ). listed.Records (b + records_long (take k (e ∷ es))) (i + k)) (pick_false (suc m) 0 y))
+          pick_false _ _ y ∙ (λ j. Ok (record { bytes = sym (add-zero b) j; next = sym (add-zero i) j }))
+          ∙ sym (ap (λ (k : ℕ). Ok (record { bytes = b + records_long (take k (e ∷ es)); next = i + k })) (pick_false (suc m) 0 y))
 
   -- and the bytes are those of their records.
   listing_records : (cap : ℕ) (es : List (Entry X)) (w : Walk) (b : ℕ) → Tells es w → records_from cap b w ≡ records_of v (take (fitting cap b es) es)
@@ -155,12 +155,12 @@ module _ {X : Type 0} (v : View X) where
     remaining = tells_skip i (entries_of bs) (walk_of v bs) (tells_walk bs)
 
     -- The answer is the bytes of the entries that it shows, and the number after them; the bytes are those of their records.
-    pub dir_counts : list_from cap 0 i (skip i (walk_of v bs)) ≡ listed.Records (records_long (listed_from i cap (entries_of bs))) (i + length (listed_from i cap (entries_of bs)))
+    pub dir_counts : list_from cap 0 i (skip i (walk_of v bs)) ≡ Ok (record { bytes = records_long (listed_from i cap (entries_of bs)); next = i + length (listed_from i cap (entries_of bs)) })
     unfolding listed_from
     dir_counts =
         let a : 0 + records_long (listed_from i cap (entries_of bs)) ≡ records_long (listed_from i cap (entries_of bs)) = zero-add _ in
         let c : i + fitting cap 0 (drop i (entries_of bs)) ≡ i + length (listed_from i cap (entries_of bs)) = ap (λ (k : ℕ). i + k) (listed_count i cap (entries_of bs)) in
-        listing_counts cap (drop i (entries_of bs)) (skip i (walk_of v bs)) 0 i remaining ∙ λ j. listed.Records (a j) (c j)
+        listing_counts cap (drop i (entries_of bs)) (skip i (walk_of v bs)) 0 i remaining ∙ λ j. Ok (record { bytes = a j; next = c j })
 
     pub dir_records : records_from cap 0 (skip i (walk_of v bs)) ≡ records_of v (listed_from i cap (entries_of bs))
     unfolding listed_from

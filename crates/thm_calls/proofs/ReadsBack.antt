@@ -20,11 +20,7 @@ use Rattle.model.proofs.Opens.{passes, first_of_none}
 use Rattle.limits.proofs.Numbers.{number_some}
 use Rattle.handle.specs.declared.Handle.{Handle}
 use Rattle.handle.specs.declared.SeekFrom.TheVariants.{Start}
-use Rattle.limits.specs.declared.Answer.{Answer}
-use Rattle.limits.specs.declared.Answer.TheVariants as answer
 use Rattle.handle.specs.declared.Sought.{Sought}
-use Rattle.handle.specs.declared.Counted.{Counted}
-use Rattle.handle.specs.declared.Counted.TheVariants as counted
 use Rattle.handle.specs.declared.CountedOut.{CountedOut}
 use Rattle.handle.specs.Handles.{name_of, stale_fields, moved, target, seek_refusal}
 use Rattle.file_read.specs.Read.{to_read, bytes_read}
@@ -40,6 +36,8 @@ use Rattle.call_change.specs.Changing.{Writes}
 use Rattle.thm_calls.specs.Handles.{HandleOf}
 use Rattle.thm_calls.proofs.Calls.{read_file, read_bytes}
 use Rattle.thm_calls.proofs.Changing.{volume_at, write_passed, write_handle}
+use Rattle.std.specs.Prelude.{Result, Ok, Err}
+use Rattle.limits.specs.declared.Refusal.{Refusal}
 
 -- ---- the file after a write
 
@@ -109,27 +107,27 @@ module _ (M : Mount) (I J : List ℕ) (w : WellFormed M I) (h : Handle) (now : �
 -- ---- the calls
 
 -- A read that is not refused counts its bytes and stores them.
-pub reads_given : (k : ℕ) (h f : Handle) (vs l m : List ℕ) (c : Counted) → k ≡ 0 → CountedIs k h f vs l m c → (c ≡ counted.Bytes (to_read h (length l))) × (m ≡ splice l 0 vs)
-reads_given k h f vs l m (counted.Bytes j) z a = (ap counted.Bytes a.count, a.stored)
-reads_given k h f vs l m (counted.Refused x) z a = absurd (omega (arith, a.refused, number_some x))
+pub reads_given : (k : ℕ) (h f : Handle) (vs l m : List ℕ) (c : Result ℕ Refusal) → k ≡ 0 → CountedIs k h f vs l m c → (c ≡ Ok (to_read h (length l))) × (m ≡ splice l 0 vs)
+reads_given k h f vs l m (Ok j) z a = (ap Ok a.count, a.stored)
+reads_given k h f vs l m (Err x) z a = absurd (omega (arith, a.refused, number_some x))
 
 -- A seek from the start to a position in the file moves there.
-pub seek_inside : (h : Handle) (i : ℕ) (r : Sought) → stale_fields h ≡ false → i ≤ h.size → SoughtIs h (Start i) r → (r.answer ≡ answer.Success) × (r.handle ≡ moved h i)
+pub seek_inside : (h : Handle) (i : ℕ) (r : Sought) → stale_fields h ≡ false → i ≤ h.size → SoughtIs h (Start i) r → (r.answer ≡ Ok tt) × (r.handle ≡ moved h i)
 seek_inside h i r f b a = go r.answer a
   where
     none-refused : seek_refusal h (Start i) ≡ 0
     none-refused = unfold seek_refusal target in passes 11 _ f ∙ passes 12 [] (ap not (le-leb i h.size b)) ∙ first_of_none
 
-    go : (c : Answer) → MovedIs h (Start i) r.handle c → (c ≡ answer.Success) × (r.handle ≡ moved h i)
-    go answer.Success a = (refl, a.1 ∙ (unfold target in refl))
-    go (answer.Refused x) a = absurd (omega (arith, a.0, none-refused, number_some x))
+    go : (c : Result (Unit {0}) Refusal) → MovedIs h (Start i) r.handle c → (c ≡ Ok tt) × (r.handle ≡ moved h i)
+    go (Ok u) a = (refl, a.1 ∙ (unfold target in refl))
+    go (Err x) a = absurd (omega (arith, a.0, none-refused, number_some x))
 
 module _ (M : Mount) (I W : List ℕ) (h : Handle) (buf : List ℕ) (now : ℕ) (o : CountedOut) (J Z : List ℕ) (c : Writes M I W h buf now o J Z) (k : ℕ)
-    (e : o.answer ≡ counted.Bytes k) (clock : now < 2 ^ 64) (name : length h.name ≡ 255) (w : WellFormed M I) (q : List Name)
+    (e : o.answer ≡ Ok k) (clock : now < 2 ^ 64) (name : length h.name ≡ 255) (w : WellFormed M I) (q : List Name)
     (s : DirAt max_depth h.dir.0 q w.tree) (m : TreeWrites (geo_at M I) max_depth q (name_of h) now h.position buf w.tree I J) (i : ℕ)
     (inside : i ≤ h.position + length buf) where
   -- After an accepted write a seek to any position of the file is accepted,
-  pub write_seek : (r : Sought) → SoughtIs o.handle (Start i) r → (r.answer ≡ answer.Success) × (r.handle ≡ moved o.handle i)
+  pub write_seek : (r : Sought) → SoughtIs o.handle (Start i) r → (r.answer ≡ Ok tt) × (r.handle ≡ moved o.handle i)
   write_seek r a =
       let p = write_passed M I W h buf now o J Z c k e in
       let g : o.handle ≡ grown_handle h (length buf) = (write_handle M I W h buf now o J Z c k e).1 in
@@ -137,7 +135,7 @@ module _ (M : Mount) (I W : List ℕ) (h : Handle) (buf : List ℕ) (now : ℕ) 
 
   -- and a read from there gives the old bytes before the write's position, then the written ones.
   pub write_read : (rbuf out : List ℕ) (r : CountedOut) → Reads M J (moved o.handle i) rbuf out r
-      → (r.answer ≡ counted.Bytes (min (length rbuf) (h.position + length buf - i)))
+      → (r.answer ≡ Ok (min (length rbuf) (h.position + length buf - i)))
       × (out ≡ splice rbuf 0 (take (min (length rbuf) (h.position + length buf - i)) (drop i (take h.position (contents m.size m.cells) ++ buf))))
   write_read rbuf out r a =
       let p = write_passed M I W h buf now o J Z c k e in

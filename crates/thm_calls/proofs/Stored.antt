@@ -1,4 +1,6 @@
 -- The stores keep an image a list of bytes: each of them stores bytes.
+use Rattle.std.specs.Prelude.{Some, None, Result, Ok, Err}
+use Rattle.limits.specs.declared.Damage.{Damage}
 use mathlib.Core.Path.{◌≡◌}
 use Rattle.create_store.specs.Create.{block_taken as with_fresh}
 use mathlib.Core.Bool.{Bool, true, false, not}
@@ -25,14 +27,10 @@ use Rattle.dir_entry.specs.declared.Kind.{Kind}
 use Rattle.dir_entry.specs.declared.Kind.TheVariants.{Dir, File, Device}
 use Rattle.dir_entry.specs.declared.DirEntry.{DirEntry}
 use Rattle.dir_entry.specs.Entry.{header, kind_byte, head_bytes, place_at}
-use Rattle.read_dir.specs.declared.Summed.{Summed}
-use Rattle.read_dir.specs.declared.Summed.TheVariants as summed
 use Rattle.read_dir.specs.declared.Place.{Place}
 use Rattle.read_dir.specs.Walk.{in_area, walk}
 use Rattle.read_dir.specs.Finds.{sum_from}
-use Rattle.own_entry.specs.declared.Own.{Own}
-use Rattle.own_entry.specs.declared.Own.TheVariants as own
-use Rattle.own_entry.specs.Own.{own_summed, sum_renewed}
+use Rattle.own_entry.specs.Own.{Own, own_summed, sum_renewed}
 use Rattle.create_store.specs.declared.Spot.{Spot}
 use Rattle.create_store.specs.declared.Spot.TheVariants as spot
 use Rattle.create_store.specs.Create.{new_head, opened, place_in, entered, inserted}
@@ -153,10 +151,10 @@ module _ (g : Geo) where
   unfolding sum_renewed
   bytes_renewed I b dir o time = summed_bytes o (sum_from 0 (walk (area_of g) I dir))
     where
-      summed_bytes : (o : Own) (s : Summed) → Bytes (own_summed (block_size g) I o time s)
-      summed_bytes own.Root (summed.Total z) = b
-      summed_bytes (own.At p) (summed.Total z) = bytes_sized I b _ _ z time
-      summed_bytes o summed.Damaged = b
+      summed_bytes : (o : Own) (s : Result ℕ Damage) → Bytes (own_summed (block_size g) I o time s)
+      summed_bytes None (Ok z) = b
+      summed_bytes (Some p) (Ok z) = bytes_sized I b _ _ z time
+      summed_bytes o (Err d) = b
 
   -- ---- create
 
@@ -167,7 +165,6 @@ module _ (g : Geo) where
   bytes_opened : (I : List ℕ) → Bytes I → (s : Spot) → Bytes (opened g I s)
   bytes_opened I b (spot.In p) = b
   bytes_opened I b (spot.After a) = bytes_linked (with_fresh g I) (bytes_fresh I b) a.0 (fresh g I)
-  bytes_opened I b spot.Damaged = b
 
   bytes_name : (n : Name) → is_name n ≡ true → Bytes n
   unfolding is_name

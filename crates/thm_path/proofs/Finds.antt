@@ -6,7 +6,6 @@ use mathlib.Core.Option.{some}
 use mathlib.Core.List.{List, [], ◌∷◌, ◌++◌, map, map-append}
 use Prim.Native.Nat.{ℕ, ◌+◌}
 use native.Mathlib.Nat.{add-zero, zero-add, add_assoc}
-use native.Mathlib.Omega.{arith}
 use Rattle.wire.proofs.Picks.{either, not_both, pick_true, pick_false, same_swap}
 use Rattle.model.specs.Tree.{Name, Entry, Block, Below, Tree, any, first, then, entries_of, called, holds, Absent, lookup, weight, sum, Some, find}
 use Rattle.model.specs.Render.{View, blocks_at, view, offset}
@@ -17,14 +16,26 @@ use Rattle.model.proofs.Others.{lookup_here, lookup_there}
 use Rattle.dir_entry.specs.declared.DirEntry.{DirEntry}
 use Rattle.dir_entry.specs.Shown.{head_of}
 use Rattle.read_dir.specs.declared.Place.{Place}
-use Rattle.read_dir.specs.declared.Found.TheVariants as found
-use Rattle.read_dir.specs.declared.Summed.TheVariants as summed
+use Rattle.std.specs.Prelude.{Option, Result, Ok}
+use Rattle.std.specs.declared.option.Option.TheVariants as option
+use Rattle.limits.specs.declared.Damage.{Damage}
+use Rattle.read_dir.specs.declared.Placed.{Placed}
 use Rattle.read_dir.specs.Walk.{Walk, walk}
 use Rattle.read_dir.specs.Finds.{placed, find_in, sum_from}
 use Rattle.thm_walk.specs.Shown.{items_of, walk_of, spot_of, items_in}
 use Rattle.thm_walk.proofs.Walks.{walk_is, walk-sum}
 
 -- ---- an entry by its name
+
+-- what a lookup gives: an entry with its place, or that there is none of that name
+abbrev pub Looked : Type 0
+Looked = Result (Option Placed) Damage
+
+abbrev pub found : DirEntry → Place → Looked
+found e p = Ok (option.Some (record { entry = e; place = p }))
+
+abbrev pub missing : Looked
+missing = Ok option.None
 
 module _ {X : Type 0} (n : Name) where
   -- a name is there, or it is not
@@ -56,23 +67,23 @@ module _ {X : Type 0} (n : Name) where
   module _ (v : View X) (a : ℕ) where
     -- in a block
     items_here : (es : List (Entry X)) (o : ℕ) (w : Walk) (e : Entry X) → first (called n) es ≡ some e
-        → find_in n (items_of v a o es w) ≡ found.At (head_of v e) (placed a (o + offset n es))
+        → find_in n (items_of v a o es w) ≡ found (head_of v e) (placed a (o + offset n es))
     unfolding first items_of find_in offset called
     items_here [] o w e f = absurd (not_some refl f)
     items_here (x ∷ es) o w e f = go (either (called n x)) (items_here es (o + weight x) w e)
       where
         go : (called n x ≡ true) ⊎ (called n x ≡ false)
-            → (first (called n) es ≡ some e → find_in n (items_of v a (o + weight x) es w) ≡ found.At (head_of v e) (placed a (o + weight x + offset n es)))
-            → find_in n (items_of v a o (x ∷ es) w) ≡ found.At (head_of v e) (placed a (o + offset n (x ∷ es)))
+            → (first (called n) es ≡ some e → find_in n (items_of v a (o + weight x) es w) ≡ found (head_of v e) (placed a (o + weight x + offset n es)))
+            → find_in n (items_of v a o (x ∷ es) w) ≡ found (head_of v e) (placed a (o + offset n (x ∷ es)))
         go (inl c) r =
             let both : some x ≡ some e = sym (first_here (called n) x es c) ∙ f in
             let k : x ≡ e = cc in
             let z : o ≡ o + offset n (x ∷ es) = sym (ap (λ (j : ℕ). o + j) (pick_true 0 (weight x + offset n es) c) ∙ add-zero o) in
-            pick_true _ _ (same_swap x.name n ∙ c) ∙ λ i. found.At (head_of v (k i)) (placed a (z i))
+            pick_true _ _ (same_swap x.name n ∙ c) ∙ λ i. found (head_of v (k i)) (placed a (z i))
         go (inr c) r =
             let z : o + weight x + offset n es ≡ o + offset n (x ∷ es)
             = add_assoc o (weight x) (offset n es) ∙ sym (ap (λ (j : ℕ). o + j) (pick_false 0 (weight x + offset n es) c)) in
-            pick_false _ _ (same_swap x.name n ∙ c) ∙ r (sym (first_there (called n) x es c) ∙ f) ∙ λ i. found.At (head_of v e) (placed a (z i))
+            pick_false _ _ (same_swap x.name n ∙ c) ∙ r (sym (first_there (called n) x es c) ∙ f) ∙ λ i. found (head_of v e) (placed a (z i))
 
     items_there : (es : List (Entry X)) (o : ℕ) (w : Walk) → any (called n) es ≡ false → find_in n (items_of v a o es w) ≡ find_in n w
     unfolding items_of find_in
@@ -82,23 +93,23 @@ module _ {X : Type 0} (n : Name) where
 
   module _ (v : View X) where
     -- The entry of a name is found in the walk, at its place,
-    pub walk_finds : (bs : List (Block X)) (e : Entry X) → lookup n bs ≡ some e → find_in n (walk_of v bs) ≡ found.At (head_of v e) (spot_of n bs)
+    pub walk_finds : (bs : List (Block X)) (e : Entry X) → lookup n bs ≡ some e → find_in n (walk_of v bs) ≡ found (head_of v e) (spot_of n bs)
     unfolding lookup first then walk_of spot_of
     walk_finds [] e l = absurd (not_some refl l)
     walk_finds (b ∷ bs) e l = go (either (holds n b)) (walk_finds bs e)
       where
-        go : (holds n b ≡ true) ⊎ (holds n b ≡ false) → (lookup n bs ≡ some e → find_in n (walk_of v bs) ≡ found.At (head_of v e) (spot_of n bs))
-            → find_in n (walk_of v (b ∷ bs)) ≡ found.At (head_of v e) (spot_of n (b ∷ bs))
+        go : (holds n b ≡ true) ⊎ (holds n b ≡ false) → (lookup n bs ≡ some e → find_in n (walk_of v bs) ≡ found (head_of v e) (spot_of n bs))
+            → find_in n (walk_of v (b ∷ bs)) ≡ found (head_of v e) (spot_of n (b ∷ bs))
         go (inl c) r =
             items_here v b.at b.entries 0 (walk_of v bs) e (sym (lookup_here n b bs c) ∙ l)
-            ∙ ap (λ (j : ℕ). found.At (head_of v e) (placed b.at j)) (zero-add (offset n b.entries))
-            ∙ ap (found.At (head_of v e)) (sym (pick_true (placed b.at (offset n b.entries)) (spot_of n bs) c))
+            ∙ ap (λ (j : ℕ). found (head_of v e) (placed b.at j)) (zero-add (offset n b.entries))
+            ∙ ap (found (head_of v e)) (sym (pick_true (placed b.at (offset n b.entries)) (spot_of n bs) c))
         go (inr c) r =
             items_there v b.at b.entries 0 (walk_of v bs) (unfold holds in c) ∙ r (sym (lookup_there n b bs c) ∙ l)
-            ∙ ap (found.At (head_of v e)) (sym (pick_false (placed b.at (offset n b.entries)) (spot_of n bs) c))
+            ∙ ap (found (head_of v e)) (sym (pick_false (placed b.at (offset n b.entries)) (spot_of n bs) c))
 
     -- and a name that is absent is missing there.
-    pub walk_misses : (bs : List (Block X)) → Absent n bs → find_in n (walk_of v bs) ≡ found.Missing
+    pub walk_misses : (bs : List (Block X)) → Absent n bs → find_in n (walk_of v bs) ≡ missing
     unfolding walk_of find_in
     walk_misses [] h = refl
     walk_misses (b ∷ bs) h = items_there v b.at b.entries 0 (walk_of v bs) (unfold holds in none_head (holds n) b bs h) ∙ walk_misses bs (none_tail (holds n) b bs h)
@@ -131,34 +142,39 @@ module _ (g : Geo) (I : List ℕ) (d : ℕ) (t : Tree d) (u : ℕ) (p : List Nam
   view_there = view (block_size g) s.0
 
   -- A name of the directory is found, with what its entry shows and its place.
-  pub find_is : (n : Name) (e : Entry (Below s.0)) → lookup n s.1 ≡ some e → find_in n at_path ≡ found.At (head_of view_there e) (spot_of n s.1)
+  pub find_is : (n : Name) (e : Entry (Below s.0)) → lookup n s.1 ≡ some e → find_in n at_path ≡ found (head_of view_there e) (spot_of n s.1)
   find_is n e k = ap (find_in n) (walk_is g I d t u p s l f) ∙ walk_finds n view_there s.1 e k
 
   -- A name that the directory has not is missing.
-  pub find-missing : (n : Name) → Absent n s.1 → find_in n at_path ≡ found.Missing
+  pub find-missing : (n : Name) → Absent n s.1 → find_in n at_path ≡ missing
   find-missing n k = ap (find_in n) (walk_is g I d t u p s l f) ∙ walk_misses n view_there s.1 k
 
   -- There is no third case: what is found is an entry of the tree,
-  pub found_is : (n : Name) (r : DirEntry) (q : Place) → find_in n at_path ≡ found.At r q
-      → (e : Entry (Below s.0)) × (lookup n s.1 ≡ some e) × (r ≡ head_of view_there e) × (q ≡ spot_of n s.1)
-  found_is n r q k = go (lookup_or n s.1)
+  pub found_is : (n : Name) (y : Placed) → find_in n at_path ≡ Ok (option.Some y)
+      → (e : Entry (Below s.0)) × (lookup n s.1 ≡ some e) × (y.entry ≡ head_of view_there e) × (y.place ≡ spot_of n s.1)
+  found_is n y k = go (lookup_or n s.1)
     where
       go : ((e : Entry (Below s.0)) × (lookup n s.1 ≡ some e)) ⊎ Absent n s.1
-          → (e : Entry (Below s.0)) × (lookup n s.1 ≡ some e) × (r ≡ head_of view_there e) × (q ≡ spot_of n s.1)
-      go (inl h) = let m = find_is n h.0 h.1 in let x : r ≡ head_of view_there h.0 = cc in let y : q ≡ spot_of n s.1 = cc in (h.0, h.1, x, y)
-      go (inr h) = let m = find-missing n h in let z : ◌≡◌ {A = ℕ} 0 1 = cc in absurd (omega arith)
+          → (e : Entry (Below s.0)) × (lookup n s.1 ≡ some e) × (y.entry ≡ head_of view_there e) × (y.place ≡ spot_of n s.1)
+      go (inl h) =
+          let m = find_is n h.0 h.1 in
+          let z : Placed = record { entry = head_of view_there h.0; place = spot_of n s.1 } in
+          let both : Ok (option.Some y) ≡ Ok (option.Some z) = sym k ∙ m in
+          let x : y ≡ z = cc in
+          (h.0, h.1, ap (λ (v : Placed). v.entry) x, ap (λ (v : Placed). v.place) x)
+      go (inr h) = let m = find-missing n h in cc
 
   -- a name that is missing is absent,
-  pub missing_is : (n : Name) → find_in n at_path ≡ found.Missing → Absent n s.1
+  pub missing_is : (n : Name) → find_in n at_path ≡ missing → Absent n s.1
   missing_is n k = go (lookup_or n s.1)
     where
       go : ((e : Entry (Below s.0)) × (lookup n s.1 ≡ some e)) ⊎ Absent n s.1 → Absent n s.1
-      go (inl h) = let m = find_is n h.0 h.1 in let z : ◌≡◌ {A = ℕ} 0 1 = cc in absurd (omega arith)
+      go (inl h) = let m = find_is n h.0 h.1 in cc
       go (inr h) = h
 
   -- The sum is the directory's size.
-  pub sum_is : sum_from 0 at_path ≡ summed.Total (sum s.1)
-  sum_is = ap (sum_from 0) (walk_is g I d t u p s l f) ∙ walk-sum view_there s.1 0 ∙ ap summed.Total (zero-add (sum s.1))
+  pub sum_is : sum_from 0 at_path ≡ Ok (sum s.1)
+  sum_is = ap (sum_from 0) (walk_is g I d t u p s l f) ∙ walk-sum view_there s.1 0 ∙ ap Ok (zero-add (sum s.1))
 
   -- The entries of the walk are those of the directory, each once, in order.
   pub list_is : items_in at_path ≡ map (pair_of view_there) (entries_of s.1)

@@ -16,21 +16,19 @@ use Rattle.model.proofs.Lists.{not_some, then_some}
 use Rattle.model.proofs.Replies.{not_accepted, accepted-one, then-accepted}
 use Rattle.dir_entry.specs.Entry.{is_dir}
 use Rattle.dir_entry.specs.Shown.{kind_is, head_of}
-use Rattle.read_dir.specs.declared.Found.{Found}
+use Rattle.std.specs.declared.option.Option.TheVariants as option
 use Rattle.read_dir.specs.declared.Place.{Place}
 use Rattle.read_dir.specs.Walk.{walk}
 use Rattle.read_dir.specs.Finds.{find_in}
-use Rattle.own_entry.specs.declared.Own.{Own}
-use Rattle.own_entry.specs.declared.Own.TheVariants as own
-use Rattle.own_entry.specs.Own.{OwnOf}
-use Rattle.dir.specs.Resolve.{on_name}
-use Rattle.dir.specs.Hold.{Hold, root_hold, on_placed, hold_at, entered, hold_from}
+use Rattle.own_entry.specs.Own.{Own, OwnOf}
+use Rattle.dir.specs.Resolve.{on_placed, on_name}
+use Rattle.dir.specs.Hold.{Hold, root_hold, hold_at, entered, hold_from}
 use Rattle.dir.proofs.HoldLaws.{below, hold_none, hold_step, hold_resolve}
 use Rattle.thm_walk.specs.Shown.{spot_of}
 use Rattle.thm_walk.proofs.Parts.{Part, laid_part, part_sub}
 use Rattle.thm_walk.proofs.Walks.{part_walk, spot_place}
 use Rattle.thm_path.specs.Held.{HeldAt}
-use Rattle.thm_path.proofs.Finds.{lookup_or, walk_finds, walk_misses}
+use Rattle.thm_path.proofs.Finds.{Looked, lookup_or, walk_finds, walk_misses}
 use Rattle.thm_path.proofs.Resolves.{unresolved_is}
 
 -- ---- one name
@@ -43,7 +41,7 @@ enters_node v (file z cs) k p r e = absurd (not_accepted 6 r e)
 enters_node v (device z cs) k p r e = absurd (not_accepted 6 r e)
 enters_node v (sub y) k p r e = (y, refl, accepted-one (below k p (v.from y)) r e)
 
-enters_entry : {X : Type 0} (v : View X) (n : Name) (x : Entry X) (k : ℕ) (p : Place) (r : Hold) → on_name n (hold_at k (head_of v x) p) ≡ accepted r
+enters_entry : {X : Type 0} (v : View X) (n : Name) (x : Entry X) (k : ℕ) (p : Place) (r : Hold) → on_name n (hold_at k (record { entry = head_of v x; place = p })) ≡ accepted r
     → (y : X) × (x.node ≡ sub y) × (below k p (v.from y) ≡ r)
 unfolding head_of
 enters_entry v [] x k p r e = absurd (not_accepted 5 r e)
@@ -55,17 +53,17 @@ module _ (g : Geo) (I : List ℕ) where
   inside_of h n = entered (area_of g) I h n
 
   entered_finds : (d : ℕ) (t : Tree d) (h : Hold) (n : Name) (e : Entry (Below d)) → Part g I d t → h.dir ≡ blocks_at t → lookup n t ≡ some e
-      → inside_of h n ≡ on_name n (hold_at h.depth (head_of (view (block_size g) d) e) (spot_of n t))
+      → inside_of h n ≡ on_name n (hold_at h.depth (record { entry = head_of (view (block_size g) d) e; place = spot_of n t }))
   entered_finds d t h [] e a s l = refl
   entered_finds d t h (c ∷ n) e a s l =
-      ap (λ (r : Found). on_placed r (hold_at h.depth))
+      ap (λ (r : Looked). on_placed r (hold_at h.depth))
       (ap (λ (b : ℕ). find_in (c ∷ n) (walk (area_of g) I b)) s ∙ ap (find_in (c ∷ n)) (part_walk g I d t a)
       ∙ walk_finds (c ∷ n) (view (block_size g) d) t e l)
 
   entered_misses : (d : ℕ) (t : Tree d) (h : Hold) (n : Name) → Part g I d t → h.dir ≡ blocks_at t → Absent n t → inside_of h n ≡ refused 5
   entered_misses d t h [] a s l = refl
   entered_misses d t h (c ∷ n) a s l =
-      ap (λ (r : Found). on_placed r (hold_at h.depth))
+      ap (λ (r : Looked). on_placed r (hold_at h.depth))
       (ap (λ (b : ℕ). find_in (c ∷ n) (walk (area_of g) I b)) s ∙ ap (find_in (c ∷ n)) (part_walk g I d t a)
       ∙ walk_misses (c ∷ n) (view (block_size g) d) t l)
 
@@ -96,13 +94,13 @@ module _ (d : ℕ) (t : Tree (suc d)) (n : Name) (e : Entry (Tree d)) (y : Tree 
   unfolding own_time inside
   time_down B m p = then_some (λ (x : Entry (Tree d)). inside (own_time B d (m ∷ p)) x.node) l ∙ ap (inside (own_time B d (m ∷ p))) k
 
-  own_here : (B : ℕ) → OwnOf B (suc d) (n ∷ []) t (own.At (spot_of n t))
+  own_here : (B : ℕ) → OwnOf B (suc d) (n ∷ []) t (option.Some (spot_of n t))
   unfolding own_time
   own_here B = ap (λ (j : ℕ). some (j + 9)) (sym (spot_place B n t e l))
 
   own_down : (B : ℕ) (m : Name) (p : List Name) (o : Own) → OwnOf B d (m ∷ p) y o → OwnOf B (suc d) (n ∷ m ∷ p) t o
-  own_down B m p own.Root x = absurd (omega (arith, ap length x))
-  own_down B m p (own.At q) x = time_down B m p ∙ x
+  own_down B m p option.None x = absurd (omega (arith, ap length x))
+  own_down B m p (option.Some q) x = time_down B m p ∙ x
 
 -- its own entry: that of the directory itself where there are no names
 abbrev Past : ℕ → (d : ℕ) → List Name → Tree d → Hold → Hold → Type 0

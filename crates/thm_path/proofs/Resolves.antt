@@ -19,15 +19,14 @@ use Rattle.model.proofs.Reached.{lookup_entries}
 use Rattle.dir_entry.specs.declared.DirEntry.{DirEntry}
 use Rattle.dir_entry.specs.Entry.{is_dir}
 use Rattle.dir_entry.specs.Shown.{kind_is, head_of}
-use Rattle.read_dir.specs.declared.Found.{Found}
 use Rattle.read_dir.specs.Finds.{find_in}
 use Rattle.path.specs.Path.{last_name, dir_part, steps}
-use Rattle.dir.specs.Resolve.{on_found, on_name, Held, lookup_in, resolve, entry_of}
+use Rattle.dir.specs.Resolve.{on_placed, on_name, Held, lookup_in, resolve, entry_of}
 use Rattle.dir.proofs.Answers.{name_some}
 use Rattle.thm_walk.proofs.Parts.{Part, laid_part, part_sub}
 use Rattle.thm_walk.proofs.Walks.{part_walk}
 use Rattle.thm_path.specs.Shown.{on_node, on_entry, way_to}
-use Rattle.thm_path.proofs.Finds.{lookup_or, walk_finds, walk_misses, find_is, find-missing}
+use Rattle.thm_path.proofs.Finds.{Looked, lookup_or, walk_finds, walk_misses, find_is, find-missing}
 
 -- ---- names
 
@@ -52,7 +51,7 @@ pub data Agree (r : Reply Some) (o : Option Some) : Type 0 where
 module _ {X : Type 0} (f : X → Reply Some) (h : X → Option Some) (below : (x : X) → Agree (f x) (h x)) where
   agree_node : (x : Node X) → Agree (on_node f x) (inside h x)
   unfolding on_node inside
-  agree_node (file z cs) = stops 6 refl refl (inr refl)
+  agree_node (file z cs) = stops 6 (search) refl (inr refl)
   agree_node (device z cs) = stops 6 refl refl (inr refl)
   agree_node (sub x) = below x
 
@@ -102,13 +101,13 @@ module _ (g : Geo) (I : List ℕ) where
   resolve_here d t [] p e a l =
       absurd (omega (arith, (good_lookup (block_size g) (GoodBelow (block_size g) d) [] t e a.good l).good_name.some_bytes, ap length (lookup_name [] t e l)))
   resolve_here d t (c ∷ n) p e a l =
-      ap (λ (r : Found). on_found r (enter p)) (ap (find_in (c ∷ n)) (part_walk g I d t a) ∙ walk_finds (c ∷ n) (view (block_size g) d) t e l)
+      ap (λ (r : Looked). on_placed r (λ y. enter p y.entry)) (ap (find_in (c ∷ n)) (part_walk g I d t a) ∙ walk_finds (c ∷ n) (view (block_size g) d) t e l)
 
   resolve_not : (d : ℕ) (t : Tree d) (n : Name) (p : List Name) → Part g I d t → Absent n t → onward (n ∷ p) (blocks_at t) ≡ refused 5
   unfolding resolve
   resolve_not d t [] p a l = refl
   resolve_not d t (c ∷ n) p a l =
-      ap (λ (r : Found). on_found r (enter p)) (ap (find_in (c ∷ n)) (part_walk g I d t a) ∙ walk_misses (c ∷ n) (view (block_size g) d) t l)
+      ap (λ (r : Looked). on_placed r (λ y. enter p y.entry)) (ap (find_in (c ∷ n)) (part_walk g I d t a) ∙ walk_misses (c ∷ n) (view (block_size g) d) t l)
 
   -- a node, where it is known for a subdirectory
   enter_node : {X : Type 0} (v : View X) (p : List Name) (f : X → Reply Some) (x : Node X) → ((y : X) → x ≡ sub y → onward p (v.from y) ≡ starts (f y))
@@ -200,14 +199,14 @@ module _ (g : Geo) (I : List ℕ) (d : ℕ) (t : Tree d) (u : ℕ) (q : List ℕ
       let j : length (last_name q) ≡ length e.name = ap length (lookup_name (last_name q) s.1 e k) in
       name_some (last_name q) _ (λ z. omega arith)
       ∙ ap (λ (r : Reply ℕ). and_then r last_in) (resolve_is g I d t u (steps (dir_part q)) l s f)
-      ∙ ap (λ (r : Found). on_found r (λ x. accepted (record { dir = blocks_at s.1; entry = x }))) (find_is g I d t u (steps (dir_part q)) s l f (last_name q) e k)
+      ∙ ap (λ (r : Looked). on_placed r (λ x. accepted (record { dir = blocks_at s.1; entry = x.entry }))) (find_is g I d t u (steps (dir_part q)) s l f (last_name q) e k)
 
   -- a name that the directory has not gives 5,
   pub entry_missing : (s : Some) → find d (steps (dir_part q)) t ≡ some s → Absent (last_name q) s.1 → entry_of (area_of g) I q ≡ refused 5
   unfolding entry_of and_then
   entry_missing s f k =
       name_either (last_name q) _ (ap (λ (r : Reply ℕ). and_then r last_in) (resolve_is g I d t u (steps (dir_part q)) l s f)
-      ∙ ap (λ (r : Found). on_found r (λ x. accepted (record { dir = blocks_at s.1; entry = x }))) (find-missing g I d t u (steps (dir_part q)) s l f (last_name q) k))
+      ∙ ap (λ (r : Looked). on_placed r (λ x. accepted (record { dir = blocks_at s.1; entry = x.entry }))) (find-missing g I d t u (steps (dir_part q)) s l f (last_name q) k))
 
   -- and a way that stops gives its number, but for an empty last name.
   pub entry_stops : (k : ℕ) → way_to d (steps (dir_part q)) t ≡ refused k → entry_of (area_of g) I q ≡ on_name (last_name q) (refused k)

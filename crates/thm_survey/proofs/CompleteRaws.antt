@@ -1,4 +1,5 @@
 -- The entries of a directory's block that an image shows are those that the check reads.
+use Rattle.std.specs.Prelude as prelude
 use mathlib.Core.Path.{◌≡◌, ap, ◌∙◌}
 use mathlib.Core.Bool.{true}
 use mathlib.Core.Option.{Option, some}
@@ -15,12 +16,11 @@ use Rattle.model.specs.Tree.{Name, Entry, then, weight, used}
 use Rattle.model.specs.Render.{View, padded, entry_bytes, entries_bytes, Shows}
 use Rattle.model.specs.Volume.{All}
 use Rattle.dir_entry.specs.declared.DirEntry.{DirEntry}
-use Rattle.dir_entry.specs.declared.Slot.{Slot}
 use Rattle.dir_entry.specs.Entry.{place_at, name_at}
 use Rattle.dir_entry.specs.Shown.{head_of}
 use Rattle.dir_entry.proofs.Shown.{Legible, less_left, first_shown, zero_at, block_stops, slot_is, name_is}
 use Rattle.text.specs.Text.{is_name}
-use Rattle.thm_survey.specs.Survey.{Raw, passes, on_slot, raws_from}
+use Rattle.thm_survey.specs.Survey.{Raw, passes, by_slot, raws_from}
 
 -- ---- an entry as its bytes show it
 
@@ -53,14 +53,14 @@ module _ {X : Type 0} (A : Area) (I : List ℕ) (v : View X) (a : ℕ) (known : 
   -- A block that shows entries from offset o on, and zeros after them: they are read, with any bound that the block's rest does not pass.
   pub find_raws : (es : List (Entry X)) (f o : ℕ) → A.size - o ≤ f → o + used es ≤ A.size - 5 → All (Legible v) es
       → Shows I (place_at A.size a o) (padded (A.size - 4 - o) (entries_bytes v es)) → raws_from A.size I f a o ≡ some (raws_of v es)
-  unfolding raws_from raws_of on_slot used entries_bytes
+  unfolding raws_from raws_of by_slot used entries_bytes
   find_raws es zero o k h l s = absurd (omega arith)
   find_raws [] (suc f) o k h l s =
-      ap (λ (z : Slot). on_slot z (reads A.size I a f o) (stops A.size I a o)) (block_stops A.size I v a o (omega arith) s)
+      ap (λ (z : prelude.Option DirEntry). by_slot z (reads A.size I a f o) (stops A.size I a o)) (block_stops A.size I v a o (omega arith) s)
       ∙ pick_true _ _ (zeros_pass I (A.size - 4 - o) (place_at A.size a o) (zero_at A.size I v a o s))
   find_raws (e ∷ es) (suc f) o k h l s =
       let q = first_shown A.size I v a o e es (unfold entries_bytes in s) in
       let g : 18 ≤ weight e = unfold weight in omega arith in
       let m : raws_from A.size I f a (o + weight e) ≡ some (raws_of v es) = find_raws es f (o + weight e) (less_left A.size o f (weight e) k (omega arith)) (omega arith) l.1 q.1 in
-      ap (λ (z : Slot). on_slot z (reads A.size I a f o) (stops A.size I a o)) (slot_is A.size I v a o e l.0 (omega arith) q.0)
+      ap (λ (z : prelude.Option DirEntry). by_slot z (reads A.size I a f o) (stops A.size I a o)) (slot_is A.size I v a o e l.0 (omega arith) q.0)
       ∙ reads_entry f o e (raws_of v es) l.0 (omega arith) q.0 m

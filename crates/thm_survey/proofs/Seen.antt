@@ -3,7 +3,7 @@ use mathlib.Core.Path.{◌≡◌, refl}
 use mathlib.Core.Bool.{Bool, true, false}
 use mathlib.Core.Option.{Option, none, some}
 use mathlib.Core.List.{List}
-use Prim.Native.Nat.{ℕ, ◌-◌}
+use Prim.Native.Nat.{ℕ}
 use Rattle.wire.specs.Pick.{pick}
 use Rattle.model.specs.Tree.{then}
 use Rattle.thm_survey.specs.Survey.{Claimed, with_found, seen_of}

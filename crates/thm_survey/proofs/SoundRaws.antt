@@ -1,4 +1,6 @@
 -- The blocks of entries that the check finds: the image shows the entries' bytes, then zeros.
+use Rattle.std.specs.Prelude.{Some, None}
+use Rattle.std.specs.Prelude as prelude
 use mathlib.Core.Path.{◌≡◌, refl, sym, ap, ◌∙◌, subst}
 use mathlib.Core.Bool.{true, not}
 use mathlib.Core.Option.{Option, some}
@@ -22,13 +24,11 @@ use Rattle.model.proofs.Full.{length-padded, padded-none, padded-after}
 use Rattle.model.proofs.Entries.{bytes_shown, be_fits}
 use Rattle.model.proofs.Areas.{row_inside}
 use Rattle.dir_entry.specs.declared.DirEntry.{DirEntry}
-use Rattle.dir_entry.specs.declared.Slot.{Slot}
-use Rattle.dir_entry.specs.declared.Slot.TheVariants as slot
 use Rattle.dir_entry.specs.Entry.{header, entry_at, head_bytes, place_at, name_at, slot_at}
 use Rattle.dir_entry.proofs.Heads.{head_shown, length_head}
 use Rattle.dir_entry.proofs.Slots.{Stands, slot_stands}
 use Rattle.text.specs.Text.{is_name}
-use Rattle.thm_survey.specs.Survey.{Raw, passes, RawBlock, has_some, Claimed, on_slot, claim, raws_from, later_of, blocks_of}
+use Rattle.thm_survey.specs.Survey.{Raw, passes, RawBlock, has_some, Claimed, by_slot, claim, raws_from, later_of, blocks_of}
 use Rattle.thm_survey.proofs.SoundLaws.{Each, each_none, each_some, each_then, each_pick, each_test, each_with, Claims, claims_none, claims_both, Claim, each_claim}
 use Rattle.thm_survey.proofs.SoundCells.{part_shown, part_long}
 
@@ -70,11 +70,11 @@ pub record RawsFound (B : ℕ) (I : List ℕ) (a o : ℕ) (rs : List Raw) : Type
   pub good : All GoodRaw rs
   pub ends : o + raws_used rs ≤ B - 5
 
-each_slot : {X : Type 0} (P : X → Type 0) (s : Slot) (f : DirEntry → Option X) (o : Option X)
-    → ((e : DirEntry) → s ≡ slot.Entry e → Each P (f e)) → Each P o → Each P (on_slot s f o)
-unfolding on_slot
-each_slot P (slot.Entry e) f o h k = h e refl
-each_slot P slot.Stop f o h k = k
+each_slot : {X : Type 0} (P : X → Type 0) (s : prelude.Option DirEntry) (f : DirEntry → Option X) (o : Option X)
+    → ((e : DirEntry) → s ≡ Some e → Each P (f e)) → Each P o → Each P (by_slot s f o)
+unfolding by_slot
+each_slot P (Some e) f o h k = h e refl
+each_slot P None f o h k = k
 
 module _ (A : Area) (I : List ℕ) (all_bytes : Bytes I) (a : ℕ) (whole : A.size * a + A.size ≤ length I) where
   abbrev raw_at : ℕ → DirEntry → Raw

@@ -1,4 +1,6 @@
 -- The blocks of a directory, as the check finds them, and the walk of that directory: the same entries in the same order.
+use Rattle.std.specs.Prelude.{Some, None}
+use Rattle.std.specs.Prelude as prelude
 use mathlib.Core.Path.{◌≡◌, refl, sym, ap, ◌∙◌}
 use mathlib.Core.Bool.{true, false, not, ◌&&◌}
 use mathlib.Core.Option.{Option, some}
@@ -16,15 +18,13 @@ use Rattle.model.specs.Render.{count}
 use Rattle.model.specs.Volume.{All}
 use Rattle.model.proofs.Areas.{row_inside}
 use Rattle.dir_entry.specs.declared.DirEntry.{DirEntry}
-use Rattle.dir_entry.specs.declared.Slot.{Slot}
-use Rattle.dir_entry.specs.declared.Slot.TheVariants as slot
 use Rattle.dir_entry.specs.Entry.{header, place_at, name_at, slot_at}
 use Rattle.dir_entry.proofs.Slots.{Stands, slot_stands}
 use Rattle.read_dir.specs.Walk.{Walk, item, finished, in_area, shown, entries_from, chain_from, walk}
 use Rattle.read_dir.specs.Walk as walks
 use Rattle.text.specs.Text.{is_name}
 use Rattle.check_names.specs.Names.{distinct, names_in, ends}
-use Rattle.thm_survey.specs.Survey.{Raw, RawBlock, names_of, all_names, has_some, Claimed, on_slot, passes, claim, raws_from, later_of, blocks_of}
+use Rattle.thm_survey.specs.Survey.{Raw, RawBlock, names_of, all_names, has_some, Claimed, by_slot, passes, claim, raws_from, later_of, blocks_of}
 use Rattle.thm_survey.proofs.SoundLaws.{Each, each_none, each_some, each_then, each_pick, each_test, each_with, Claim, each_claim}
 use Rattle.thm_survey.proofs.SoundCells.{part_long}
 
@@ -70,11 +70,11 @@ abbrev pub LongNames : List RawBlock → Type 0
 LongNames [] = Unit {0}
 LongNames (b ∷ bs) = All LongName b.raws × LongNames bs
 
-each_at : {X : Type 0} (P : X → Type 0) (s : Slot) (f : DirEntry → Option X) (o : Option X)
-    → ((e : DirEntry) → s ≡ slot.Entry e → Each P (f e)) → (s ≡ slot.Stop → Each P o) → Each P (on_slot s f o)
-unfolding on_slot
-each_at P (slot.Entry e) f o h k = h e refl
-each_at P slot.Stop f o h k = k refl
+each_at : {X : Type 0} (P : X → Type 0) (s : prelude.Option DirEntry) (f : DirEntry → Option X) (o : Option X)
+    → ((e : DirEntry) → s ≡ Some e → Each P (f e)) → (s ≡ None → Each P o) → Each P (by_slot s f o)
+unfolding by_slot
+each_at P (Some e) f o h k = h e refl
+each_at P None f o h k = k refl
 
 passes_address : (e : DirEntry) (x : Name) → passes e x ≡ true → eqb e.addr.0 0 ≡ false
 unfolding passes
@@ -82,16 +82,16 @@ passes_address e x h = not-true (eqb e.addr.0 0) (and_both (not (eqb e.addr.0 0)
 
 module _ (A : Area) (I : List ℕ) where
   -- the walk at an entry that passes, and where the entries stop
-  entry_walk : (f a o : ℕ) (e : DirEntry) (w : Walk) → slot_at A.size I a o ≡ slot.Entry e → eqb e.addr.0 0 ≡ false
+  entry_walk : (f a o : ℕ) (e : DirEntry) (w : Walk) → slot_at A.size I a o ≡ Some e → eqb e.addr.0 0 ≡ false
       → entries_from A I (suc f) a o w ≡ item e a o (name_at I (place_at A.size a o) e.len) (entries_from A I f a (o + header + e.len) w)
   unfolding entries_from walks.on_slot shown
   entry_walk f a o e w s z =
-      ap (λ (x : Slot). walks.on_slot x (λ e. shown A I e a o (entries_from A I f a (o + header + e.len) w)) w) s
+      ap (λ (x : prelude.Option DirEntry). walks.on_slot x (λ e. shown A I e a o (entries_from A I f a (o + header + e.len) w)) w) s
       ∙ pick_false _ _ z
 
-  stop_walk : (f a o : ℕ) (w : Walk) → slot_at A.size I a o ≡ slot.Stop → entries_from A I (suc f) a o w ≡ w
+  stop_walk : (f a o : ℕ) (w : Walk) → slot_at A.size I a o ≡ None → entries_from A I (suc f) a o w ≡ w
   unfolding entries_from walks.on_slot
-  stop_walk f a o w s = ap (λ (x : Slot). walks.on_slot x (λ e. shown A I e a o (entries_from A I f a (o + header + e.len) w)) w) s
+  stop_walk f a o w s = ap (λ (x : prelude.Option DirEntry). walks.on_slot x (λ e. shown A I e a o (entries_from A I f a (o + header + e.len) w)) w) s
 
   abbrev Walks : ℕ → ℕ → ℕ → List Raw → Type 0
   Walks f a o rs = (w : Walk) → entries_from A I f a o w ≡ raws_walk a o rs w

@@ -1,4 +1,5 @@
 -- The check of a directory and of an entry in the steps of their code, over the walk of the directory.
+use Rattle.std.specs.Prelude.{Ok}
 use mathlib.Core.Path.{◌≡◌, refl, sym, ap, ◌∙◌}
 use mathlib.Core.Bool.{Bool}
 use mathlib.Core.Option.{Option, none, some}
@@ -17,7 +18,6 @@ use Rattle.dir_entry.specs.declared.DirEntry.{DirEntry}
 use Rattle.dir_entry.specs.Entry.{header}
 use Rattle.read_dir.specs.Walk.{Walk, walk}
 use Rattle.read_dir.specs.Finds.{sum_from}
-use Rattle.read_dir.specs.declared.Summed.TheVariants as summed
 use Rattle.check_names.specs.Names.{distinct}
 use Rattle.thm_survey.specs.Survey.{Raw, RawBlock, all_names, Claimed, cells_of, chain_of, blocks_of, sub_of, node_of, entries_of, dir_of, check_dir, survey, seen_of}
 use Rattle.thm_survey.specs.Steps.{through, is_total, sum_below, open_dir, check_below, entry_check, dir_check, sub_check}
@@ -41,15 +41,15 @@ raws_sum s a o (r ∷ rs) w l =
     let e : s + (header + r.head.len) + raws_used rs ≡ s + (18 + length r.name + raws_used rs) = omega (arith, l.0) in
     raws_sum (s + (header + r.head.len)) a (o + header + r.head.len) rs w l.1 ∙ ap (λ (j : ℕ). sum_from j w) e
 
-blocks-sum : (s : ℕ) (bs : List RawBlock) → LongNames bs → sum_from s (blocks_walk bs) ≡ summed.Total (s + raw_sum bs)
+blocks-sum : (s : ℕ) (bs : List RawBlock) → LongNames bs → sum_from s (blocks_walk bs) ≡ Ok (s + raw_sum bs)
 unfolding blocks_walk sum_from raw_sum
-blocks-sum s [] l = let e : s ≡ s + 0 = omega arith in ap summed.Total e
+blocks-sum s [] l = let e : s ≡ s + 0 = omega arith in ap Ok e
 blocks-sum s (b ∷ bs) l =
     let e : s + raws_used b.raws + raw_sum bs ≡ s + (raws_used b.raws + raw_sum bs) = omega arith in
-    raws_sum s b.at 0 b.raws (blocks_walk bs) l.0 ∙ blocks-sum (s + raws_used b.raws) bs l.1 ∙ ap summed.Total e
+    raws_sum s b.at 0 b.raws (blocks_walk bs) l.0 ∙ blocks-sum (s + raws_used b.raws) bs l.1 ∙ ap Ok e
 
-walk-sum : (bs : List RawBlock) → LongNames bs → sum_from 0 (blocks_walk bs) ≡ summed.Total (raw_sum bs)
-walk-sum bs l = let e : 0 + raw_sum bs ≡ raw_sum bs = omega arith in blocks-sum 0 bs l ∙ ap summed.Total e
+walk-sum : (bs : List RawBlock) → LongNames bs → sum_from 0 (blocks_walk bs) ≡ Ok (raw_sum bs)
+walk-sum bs l = let e : 0 + raw_sum bs ≡ raw_sum bs = omega arith in blocks-sum 0 bs l ∙ ap Ok e
 
 -- ---- over any check of what is below
 

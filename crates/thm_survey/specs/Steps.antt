@@ -1,5 +1,5 @@
 -- What the code of the check computes, step by step: what is claimed, without the tree that is found. Definitions alone.
-use Rattle.std.specs.Prelude.{Bool, false, List, ℕ, zero, suc, eqb}
+use Rattle.std.specs.Prelude.{Bool, false, List, ℕ, zero, suc, eqb, Result, Ok, Err}
 use Rattle.std.proofs.Math.Option.{Option, none, some}
 use Rattle.wire.specs.Pick.{pick}
 use Rattle.block.specs.Block.{Area}
@@ -7,10 +7,9 @@ use Rattle.model.specs.Tree.{Below, then, sum}
 use Rattle.dir_entry.specs.declared.DirEntry.{DirEntry}
 use Rattle.read_dir.specs.Walk.{Walk, item, finished, damaged, walk}
 use Rattle.read_dir.specs.Finds.{sum_from}
-use Rattle.read_dir.specs.declared.Summed.{Summed}
-use Rattle.read_dir.specs.declared.Summed.TheVariants as summed
 use Rattle.check_names.specs.Names.{distinct}
 use Rattle.thm_survey.specs.Survey.{RawBlock, all_names, Claimed, blocks_of, node_of, survey, seen_of}
+use Rattle.limits.specs.declared.Damage.{Damage}
 
 -- ---- the entries of a directory, in the order of its walk, each checked by f
 
@@ -20,9 +19,9 @@ through f finished seen = some seen
 through f damaged seen = none
 
 -- W4: the size in a directory's entry is the sum
-unfoldable pub is_total : ℕ → Summed → Bool
-is_total size (summed.Total t) = eqb size t
-is_total size summed.Damaged = false
+unfoldable pub is_total : ℕ → Result ℕ Damage → Bool
+is_total size (Ok t) = eqb size t
+is_total size (Err e) = false
 
 -- the sum of what may be below a directory with d levels
 abbrev pub sum_below : (d : ℕ) → Below d → ℕ

@@ -1,7 +1,8 @@
 -- The check of W2 to W4 as a function on the bytes of any image: the tree that stands at an address, or nothing.
 -- Definitions alone.
 -- A is the data area: the size of its blocks, its first address and the volume's end.
-use Rattle.std.specs.Prelude.{Bool, true, false, not, ◌&&◌, List, [], ◌∷◌, ◌++◌, ℕ, zero, suc, ◌+◌, ◌-◌, ◌*◌, leb, eqb, take, drop}
+use Rattle.std.specs.Prelude.{Bool, true, false, not, ◌&&◌, List, [], ◌∷◌, ◌++◌, ℕ, zero, suc, ◌+◌, ◌-◌, ◌*◌, leb, eqb, take, drop, Some, None}
+use Rattle.std.specs.Prelude as prelude
 use Rattle.std.proofs.Math.Option.{Option, none, some}
 use Rattle.wire.specs.Pick.{pick, zero_from}
 use Rattle.block.specs.Block.{Area, next}
@@ -11,8 +12,6 @@ use Rattle.model.specs.Volume.{file_limit, blocks_for}
 use Rattle.dir_entry.specs.declared.Kind.{Kind}
 use Rattle.dir_entry.specs.declared.Kind.TheVariants as kind
 use Rattle.dir_entry.specs.declared.DirEntry.{DirEntry}
-use Rattle.dir_entry.specs.declared.Slot.{Slot}
-use Rattle.dir_entry.specs.declared.Slot.TheVariants as slot
 use Rattle.dir_entry.specs.Entry.{header, place_at, name_at, slot_at}
 use Rattle.read_dir.specs.Walk.{in_area}
 use Rattle.text.specs.Text.{is_name}
@@ -54,9 +53,9 @@ unfoldable pub seen_of : {X : Type 0} → Option (Claimed X) → Option (List �
 seen_of o = then o (λ c. some c.seen)
 
 -- what follows where there is an entry, and where the entries stop
-unfoldable pub on_slot : {X : Type 0} → Slot → (DirEntry → X) → X → X
-on_slot (slot.Entry e) f x = f e
-on_slot slot.Stop f x = x
+unfoldable pub by_slot : {X : Type 0} → prelude.Option DirEntry → (DirEntry → X) → X → X
+by_slot (Some e) f x = f e
+by_slot None f x = x
 
 -- W3: the address is not 0 (that it lies in the area says the claim of its block), and the name's bytes are good
 unfoldable pub passes : DirEntry → Name → Bool
@@ -66,7 +65,7 @@ passes e x = not (eqb e.addr.0 0) && is_name x
 unfoldable pub raws_from : ℕ → List ℕ → ℕ → ℕ → ℕ → Option (List Raw)
 raws_from B I zero a o = none
 raws_from B I (suc f) a o =
-    on_slot (slot_at B I a o)
+    by_slot (slot_at B I a o)
     (λ e. pick (passes e (name_at I (place_at B a o) e.len))
     (then (raws_from B I f a (o + header + e.len))
     (λ rs. some (record { head = e; name = name_at I (place_at B a o) e.len } ∷ rs))) none)

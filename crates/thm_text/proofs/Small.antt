@@ -9,7 +9,7 @@ use lib.Dec.{ltb}
 use lib.ListN.{get_or}
 use borrow.Author.Tests.{ltb-true, ltb-false}
 use Rattle.wire.proofs.Picks.{either, not_both, pick_false, pick_case}
-use Rattle.text.specs.Text.{Range, from_to, inside, Row, row, table, never, begun, step, text_from, is_text}
+use Rattle.text.specs.Text.{Range, from_to, in_range, Row, row, table, never, begun, step, text_from, is_text}
 use Rattle.text.specs.Awaited.{ranges}
 use Rattle.text.proofs.Laws.{never_text}
 use Rattle.text.proofs.Rows.{range_high, above_all}
@@ -60,15 +60,15 @@ table_low =
 begun_low : (t : List Row) (c : ℕ) → Lows t → Low (begun t c)
 unfolding begun
 begun_low [] c h = never_low
-begun_low (row r rs ∷ more) c h = pick_case Low (inside r c) rs (begun more c) (λ e. h.0) (λ e. begun_low more c h.1)
+begun_low (row r rs ∷ more) c h = pick_case Low (in_range r c) rs (begun more c) (λ e. h.0) (λ e. begun_low more c h.1)
 
 step_low : (rs : List Range) (c : ℕ) → Low rs → Low (step rs c)
 unfolding step
 step_low [] c h = begun_low table c table_low
-step_low (r ∷ rs) c h = pick_case Low (inside r c) rs never (λ e. h.1) (λ e. never_low)
+step_low (r ∷ rs) c h = pick_case Low (in_range r c) rs never (λ e. h.1) (λ e. never_low)
 
 -- no text goes on with more than a byte
-high_range : (r : Range) (c : ℕ) → Ends r → 256 ≤ c → inside r c ≡ false
+high_range : (r : Range) (c : ℕ) → Ends r → 256 ≤ c → in_range r c ≡ false
 high_range (from_to a b) c h k = range_high a b c (omega arith)
 
 high_never : (rs : List Range) (c : ℕ) → Low rs → 256 ≤ c → step rs c ≡ never

@@ -9,7 +9,7 @@ use lib.Dec.{leb}
 use borrow.Author.Tests.{lt-ltb, le-ltb, le-leb, leb-true}
 use Rattle.wire.specs.Pick.{pick}
 use Rattle.wire.proofs.Picks.{either, not_both, pick_true, pick_false}
-use Rattle.text.specs.Text.{Range, from_to, inside, tail, table, never, begun, step, text_from, is_text}
+use Rattle.text.specs.Text.{Range, from_to, in_range, tail, table, never, begun, step, text_from, is_text}
 use Rattle.text.specs.Awaited.{ranges}
 use Rattle.text.proofs.Laws.{never_text}
 use Rattle.thm_text.specs.Characters.{encoded}
@@ -20,8 +20,8 @@ Tested b = (b ≡ true) ⊎ (b ≡ false)
 
 -- ---- the walk forward
 
-range_in : (a b c : ℕ) → a ≤ c → c ≤ b → inside (from_to a b) c ≡ true
-unfolding inside
+range_in : (a b c : ℕ) → a ≤ c → c ≤ b → in_range (from_to a b) c ≡ true
+unfolding in_range
 range_in a b c h k = rw (le-leb a c h, le-leb c b k)
 
 first_on : (c : ℕ) (m : List ℕ) (rs : List Range) → rs ≡ begun table c → is_text (c ∷ m) ≡ text_from rs m
@@ -65,7 +65,7 @@ pub record Next (a b : ℕ) (rs : List Range) (l : List ℕ) : Type 0 where
   pub goes_on : text_from rs rest ≡ true
 
 pub next_back : (a b : ℕ) (rs : List Range) (l : List ℕ) → text_from (from_to a b ∷ rs) l ≡ true → Next a b rs l
-unfolding text_from step inside
+unfolding text_from step in_range
 next_back a b rs [] h = absurd (not_both h refl)
 next_back a b rs (c ∷ m) h = go (either (leb a c)) (either (leb c b))
   where

@@ -1,4 +1,5 @@
 -- The walk of a directory of the tree is the tree's: its entries, each at its place, and the end.
+use Rattle.std.specs.Prelude.{Option, Ok}
 use mathlib.Core.Path.{◌≡◌, refl, ap, ◌∙◌, sym}
 use mathlib.Core.Bool.{true, false}
 use mathlib.Core.Logic.{◌⊎◌, inl, inr}
@@ -21,14 +22,13 @@ use Rattle.model.proofs.Areas.{area, block_inside}
 use Rattle.model.proofs.Sums.{chain_long}
 use Rattle.model.proofs.Lists.{not_some}
 use Rattle.model.proofs.Others.{lookup_there}
-use Rattle.dir_entry.specs.declared.Slot.{Slot}
+use Rattle.dir_entry.specs.declared.DirEntry.{DirEntry}
 use Rattle.dir_entry.specs.Entry.{header, place_at}
 use Rattle.dir_entry.specs.Shown.{head_of}
 use Rattle.dir_entry.proofs.Shown.{Legible, head_weight, less_left, first_shown, block_stops, slot_is, name_is}
 use Rattle.read_dir.specs.Walk.{Walk, item, finished, on_slot, in_area, shown, entries_from, chain_from, walk}
 use Rattle.read_dir.specs.Finds.{placed, sum_from}
 use Rattle.read_dir.specs.declared.Place.{Place}
-use Rattle.read_dir.specs.declared.Summed.TheVariants as summed
 use Rattle.thm_walk.specs.Shown.{items_of, walk_of, spot_of}
 use Rattle.thm_walk.proofs.Parts.{Stored, Part, laid_part, part_find, stored_in, stored_few, entries_legible, block_data, chain-after, below_stored, block_next, block_shown}
 
@@ -49,14 +49,14 @@ module _ {X : Type 0} (A : Area) (I : List ℕ) (v : View X) (a : ℕ) (inside :
   unfolding entries_from items_of on_slot used entries_bytes
   entries_walk [] zero o w k h l s = refl
   entries_walk [] (suc f) o w k h l s =
-      ap (λ (z : Slot). on_slot z (λ d. shown A I d a o (entries_from A I f a (o + header + d.len) w)) w) (block_stops A.size I v a o (omega arith) s)
+      ap (λ (z : Option DirEntry). on_slot z (λ d. shown A I d a o (entries_from A I f a (o + header + d.len) w)) w) (block_stops A.size I v a o (omega arith) s)
   entries_walk (e ∷ es) zero o w k h l s = let y : 18 ≤ weight e = unfold weight in omega arith in absurd (omega arith)
   entries_walk (e ∷ es) (suc f) o w k h l s =
       let q = first_shown A.size I v a o e es (unfold entries_bytes in s) in
       let g : 18 ≤ weight e = unfold weight in omega arith in
       let m : entries_from A I f a (o + weight e) w ≡ items_of v a (o + weight e) es w
       = entries_walk es f (o + weight e) w (less_left A.size o f (weight e) k (omega arith)) (omega arith) l.1 q.1 in
-      ap (λ (z : Slot). on_slot z (λ d. shown A I d a o (entries_from A I f a (o + header + d.len) w)) w) (slot_is A.size I v a o e l.0 (omega arith) q.0)
+      ap (λ (z : Option DirEntry). on_slot z (λ d. shown A I d a o (entries_from A I f a (o + header + d.len) w)) w) (slot_is A.size I v a o e l.0 (omega arith) q.0)
       ∙ shown_item o e (entries_from A I f a (o + header + (head_of v e).len) w) l.0 (omega arith) q.0
       ∙ ap (item (head_of v e) a o e.name) (ap (λ (z : ℕ). entries_from A I f a z w) (head_weight v o e) ∙ m)
 
@@ -132,14 +132,14 @@ module _ {X : Type 0} (v : View X) where
       let k : s + (header + (head_of v e).len) + used es ≡ s + (weight e + used es) = omega (arith, head_weight v s e) in
       items-sum a es (o + weight e) (s + (header + (head_of v e).len)) w ∙ ap (λ (j : ℕ). sum_from j w) k
 
-  pub walk-sum : (bs : List (Block X)) (s : ℕ) → sum_from s (walk_of v bs) ≡ summed.Total (s + sum bs)
+  pub walk-sum : (bs : List (Block X)) (s : ℕ) → sum_from s (walk_of v bs) ≡ Ok (s + sum bs)
   unfolding walk_of sum_from sum
-  walk-sum [] s = ap summed.Total (sym (add-zero s))
-  walk-sum (b ∷ bs) s = items-sum b.at b.entries 0 s (walk_of v bs) ∙ walk-sum bs (s + used b.entries) ∙ ap summed.Total (add_assoc s (used b.entries) (sum bs))
+  walk-sum [] s = ap Ok (sym (add-zero s))
+  walk-sum (b ∷ bs) s = items-sum b.at b.entries 0 s (walk_of v bs) ∙ walk-sum bs (s + used b.entries) ∙ ap Ok (add_assoc s (used b.entries) (sum bs))
 
 -- The sum of a directory that the image holds is the tree's.
-pub part_sum : (g : Geo) (I : List ℕ) (d : ℕ) (t : Tree d) → Part g I d t → sum_from 0 (walk (area_of g) I (blocks_at t)) ≡ summed.Total (sum t)
-part_sum g I d t p = ap (sum_from 0) (part_walk g I d t p) ∙ walk-sum (view (block_size g) d) t 0 ∙ ap summed.Total (zero-add (sum t))
+pub part_sum : (g : Geo) (I : List ℕ) (d : ℕ) (t : Tree d) → Part g I d t → sum_from 0 (walk (area_of g) I (blocks_at t)) ≡ Ok (sum t)
+part_sum g I d t p = ap (sum_from 0) (part_walk g I d t p) ∙ walk-sum (view (block_size g) d) t 0 ∙ ap Ok (zero-add (sum t))
 
 -- The byte of the image where the entry of a name begins.
 pub spot_place : {X : Type 0} (B : ℕ) (n : Name) (bs : List (Block X)) (e : Entry X) → lookup n bs ≡ some e → place_at B (spot_of n bs).block.0 (spot_of n bs).offset ≡ place_of B n bs

@@ -8,7 +8,10 @@ use native.Mathlib.Omega.{arith}
 use native.Mathlib.Numerals.{add-one}
 use lib.Dec.{lit<}
 use lib.ListN.{length, get_or, take, drop, set, take-append-drop, length-append, length-take, length-drop, get_or-append, get_or-eq_default, length-replicate, get_or-replicate}
-use lib.Seq.{sets, sets-eq, take-suc, length-take-le, get_or-take, get_or-drop, get_or-append-add, get_or_at, ext_get_or, take-append-add, drop-append-add}
+use borrow.Rule.Slice.PartMut.{put_mid}
+use Rattle.std.proofs.lemmas.Slice.{put_mid-paste}
+use Rattle.std.proofs.lemmas.List.Edits.{paste_all}
+use lib.Seq.{paste, sets, sets-eq, length-take-le, get_or-take, get_or-drop, get_or-append-add, get_or_at, ext_get_or, take-append-add, drop-append-add}
 use Rattle.wire.specs.Be.{be, bytes, splice, zeros}
 
 -- ---- zeros
@@ -58,6 +61,20 @@ module _ (l : List ℕ) (at : ℕ) (vs : List ℕ) (h : at + length vs ≤ lengt
       ∙ get_or-append-add vs (drop (at + length vs) l) (j - (at + length vs)) 0
       ∙ get_or-drop (at + length vs) l (j - (at + length vs)) 0
       ∙ ap (λ (k : ℕ). get_or l k 0) r
+
+-- a store over a part of a slice
+pub splice_part : (l : List ℕ) (at n : ℕ) (vs : List ℕ) → length vs ≡ n → put_mid at (at + n - at) l vs ≡ splice l at vs
+unfolding splice
+splice_part l at n vs h =
+    let e : length vs ≡ at + n - at = omega arith in
+    put_mid-paste at (at + n - at) l vs vs (length vs) refl e refl ∙ paste_all l at vs (length vs) refl
+
+-- a run of n bytes at `from` copied to `at`
+pub splice_run : (l m : List ℕ) (at from n : ℕ) → from + n ≤ length m → paste l at (drop from m) n ≡ splice l at (take n (drop from m))
+unfolding splice
+splice_run l m at from n h =
+    let e : length (take n (drop from m)) ≡ n = simp (length-take, length-drop) (omega arith) in
+    rw (e, append_assoc (take at l) (take n (drop from m)) (drop (at + n) l))
 
 -- ---- be
 
@@ -159,17 +176,6 @@ pub splice-past : (a m : List ℕ) (k : ℕ) (x : List ℕ) → splice (a ++ m) 
 unfolding splice
 splice-past a m k x =
     rw (take-append-add a m k, add_assoc (length a) k (length x), drop-append-add a m (k + length x), append_assoc a (take k m) (x ++ drop (k + length x) m))
-
--- a splice that grows by one store: what a loop that copies or fills does
-pub splice-more : (l : List ℕ) (at : ℕ) (vs : List ℕ) (i : ℕ) → i < length vs → at + length vs ≤ length l
-    → set (splice l at (take i vs)) (at + i) (get_or vs i 0) ≡ splice l at (take (i + 1) vs)
-splice-more l at vs i p h =
-    let k : length (take i vs) ≡ i = length-take-le i vs (omega arith) in
-    let e : take (i + 1) vs ≡ take i vs ++ (get_or vs i 0 ∷ []) = rw add-one (take-suc vs i 0 p) in
-    let f : at + length (take i vs) ≤ length l = omega arith in
-    let g : at + length (take i vs ++ (get_or vs i 0 ∷ [])) ≤ length l = rw length-append (omega arith) in
-    let a = sets_append (take i vs) (get_or vs i 0 ∷ []) l at in
-    rw (e, ← sets_splice (take i vs) l at f, ← sets_splice (take i vs ++ (get_or vs i 0 ∷ [])) l at g) (sym (rw k at a))
 
 -- one store is a splice
 pub set-splice : (l : List ℕ) (i b : ℕ) → i < length l → set l i b ≡ splice l i (b ∷ [])

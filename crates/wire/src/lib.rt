@@ -1,17 +1,11 @@
 // Bytes of a lent slice: big-endian numbers at a place, and runs of bytes filled, copied and moved.
 // Every store is a `splice` of the list of bytes, and every number read is a `be`; their laws are in proofs/Numbers.antt.
+// (A place is given beside the slice, not by a part of it: what is promised is a `splice` of the whole list at that place.)
 #![tactic(auto)]
 
-ghost use Rattle.std.specs.Prelude.{◌≡◌, ◌&&◌, ◌+◌, ◌≤◌, ◌<◌, ◌^◌, eqb, length, take, drop, replicate};
+ghost use Rattle.std.specs.Prelude.{◌≡◌, ◌+◌, ◌≤◌, ◌<◌, ◌^◌, length, take, drop, replicate};
 ghost use Rattle.wire.specs.Be.{be, bytes, splice};
 ghost use Rattle.wire.specs.Pick.{same, zero_from};
-
-// A byte as a wider number, with its bound: what a cast in place would leave to the caller.
-fn wide(x: u8) -> u64
-    ensures { (result ≡ x) × (result < 256) }
-{
-    x as u64
-}
 
 // The number in the n bytes at `at`, byte by byte.
 fn digits(s: &[u8], at: usize, n: usize) -> u64
@@ -20,10 +14,8 @@ fn digits(s: &[u8], at: usize, n: usize) -> u64
     ensures { (result ≡ be n s.now at) × (result < 256 ^ n) }
 {
     let mut v: u64 = 0;
-    let mut i: usize = 0;
-    while i < n {
-        v = v * 256 + wide(s[at + i]);
-        i += 1;
+    for b in &s[at..at + n] {
+        v = v * 256 + u64::from(*b);
     }
     v
 }
@@ -54,12 +46,10 @@ pub fn put(s: &mut [u8], at: usize, n: usize, v: u64)
     requires { at + n ≤ length s.old }
     ensures { s.new ≡ splice s.old at (bytes n v) }
 {
-    let mut i = n;
     let mut w = v;
-    while 0 < i {
-        i -= 1;
+    for i in (0..n).rev() {
         s[at + i] = (w % 256) as u8;
-        w = w / 256;
+        w /= 256;
     }
 }
 
@@ -68,11 +58,7 @@ pub fn fill(s: &mut [u8], at: usize, n: usize, b: u8)
     requires { at + n ≤ length s.old }
     ensures { s.new ≡ splice s.old at (replicate n b) }
 {
-    let mut i: usize = 0;
-    while i < n {
-        s[at + i] = b;
-        i += 1;
-    }
+    s[at..at + n].fill(b);
 }
 
 // n bytes of src from `from` on go to dst from `at` on.
@@ -81,11 +67,7 @@ pub fn copy(dst: &mut [u8], at: usize, src: &[u8], from: usize, n: usize)
     requires n_in_bounds_2 { from + n ≤ length src.now }
     ensures { dst.new ≡ splice dst.old at (take n (drop from src.now)) }
 {
-    let mut i: usize = 0;
-    while i < n {
-        dst[at + i] = src[from + i];
-        i += 1;
-    }
+    dst[at..at + n].copy_from_slice(&src[from..from + n]);
 }
 
 // n bytes from at + gap on move down to `at`: the two runs may overlap.
@@ -93,51 +75,7 @@ pub fn move_down(s: &mut [u8], at: usize, gap: usize, n: usize)
     requires { at + gap + n ≤ length s.old }
     ensures { s.new ≡ splice s.old at (take n (drop (at + gap) s.old)) }
 {
-    let mut i: usize = 0;
-    while i < n {
-        s[at + i] = s[at + gap + i];
-        i += 1;
-    }
-}
-
-// Whether a test that held so far holds of one pair of bytes more. A loop over it has no way out but its end, and only
-// such a loop does the compiler turn into one over many bytes at a time.
-fn still(ok: bool, x: u8, y: u8) -> bool
-    ensures { result ≡ (ok && eqb x y) }
-{
-    if x != y {
-        return false;
-    }
-    ok
-}
-
-// Whether the bytes of t stand in s from `at` on: for many bytes, all of which are looked at.
-fn same_run(s: &[u8], at: usize, t: &[u8]) -> bool
-    requires { at + length t.now ≤ length s.now }
-    ensures { result ≡ same (take (length t.now) (drop at s.now)) t.now }
-{
-    let mut ok = true;
-    let mut i: usize = 0;
-    while i < t.len() {
-        ok = still(ok, s[at + i], t[i]);
-        i += 1;
-    }
-    ok
-}
-
-// The same for few bytes, as those of a name: most names differ soon.
-fn same_word(s: &[u8], at: usize, t: &[u8]) -> bool
-    requires { at + length t.now ≤ length s.now }
-    ensures { result ≡ same (take (length t.now) (drop at s.now)) t.now }
-{
-    let mut i: usize = 0;
-    while i < t.len() {
-        if s[at + i] != t[i] {
-            return false;
-        }
-        i += 1;
-    }
-    true
+    s.copy_within(at + gap..at + gap + n, at);
 }
 
 // Whether the bytes of t stand in s from `at` on.
@@ -145,22 +83,18 @@ pub fn same_bytes(s: &[u8], at: usize, t: &[u8]) -> bool
     requires { at + length t.now ≤ length s.now }
     ensures { result ≡ same (take (length t.now) (drop at s.now)) t.now }
 {
-    if t.len() < 64 {
-        return same_word(s, at, t);
-    }
-    same_run(s, at, t)
+    &s[at..at + t.len()] == t
 }
 
-// Whether n bytes from `at` on are zero.
+// Whether n bytes from `at` on are zero. The loop has no way out but its end: only such a loop does the compiler turn into
+// one over many bytes at a time.
 pub fn zero_bytes(s: &[u8], at: usize, n: usize) -> bool
     requires { at + n ≤ length s.now }
     ensures { result ≡ zero_from s.now at n }
 {
     let mut ok = true;
-    let mut i: usize = 0;
-    while i < n {
-        ok = still(ok, s[at + i], 0);
-        i += 1;
+    for b in &s[at..at + n] {
+        ok &= *b == 0;
     }
     ok
 }

@@ -6,38 +6,38 @@ use Prim.Native.Nat.{ℕ, zero, suc, ◌+◌, ◌-◌, ◌≤◌, ◌<◌}
 use native.Mathlib.Omega.{arith}
 use lib.Dec.{ltb}
 use lib.ListN.{length}
-use borrow.Author.Tests.{lt-ltb, le-ltb, ltb-false, eq-eqb, ne_eqb}
+use borrow.Author.Tests.{le-ltb, ltb-false, eq-eqb, ne_eqb}
 use Rattle.model.specs.Answers.{Reply, accepted, refused, and_then, when, given}
 use Rattle.limits.specs.Refusals.{refusal_number}
 use Rattle.limits.specs.declared.Refusal.{Refusal}
 use Rattle.block.specs.Block.{Area}
 use Rattle.model.specs.Geometry.{Geo, block_size, area_of}
-use Rattle.model.specs.Volume.{file_limit, blocks_for, max_depth}
+use Rattle.model.specs.Volume.{blocks_for, max_depth}
 use Rattle.model.proofs.Replies.{given_yes, given_no}
 use Rattle.super_block.specs.declared.SuperBlock.{SuperBlock}
 use Rattle.super_block.specs.Super.{area_in, geo_of, Fit}
 use Rattle.super_block.proofs.Fits.{area_is}
 use Rattle.bitmap_block.specs.Bitmap.{clears}
-use Rattle.dir_entry.specs.declared.DirEntry.{DirEntry}
-use Rattle.read_dir.specs.declared.Found.{Found}
-use Rattle.read_dir.specs.declared.Found.TheVariants as found
-use Rattle.read_dir.specs.declared.Place.{Place}
+use Rattle.limits.specs.Says.{says}
+use Rattle.limits.specs.declared.Damage.{Damage}
+use Rattle.limits.specs.declared.Refusal.TheVariants.{Stale, Damaged}
 use Rattle.read_dir.specs.Walk.{walk}
 use Rattle.reached.specs.Reach.{reaches}
 use Rattle.handle.specs.declared.Handle.{Handle}
 use Rattle.handle.specs.Handles.{stale_fields, current_in}
 use Rattle.write.specs.Writing.{Target, on_current, too_long, blocks_to_add, unreached, no_room, where_held, held_at, target_of}
-use Rattle.write.specs.declared.Targeted.{Targeted}
-use Rattle.write.specs.declared.Targeted.TheVariants as targeted
-use Rattle.write.specs.Written.{targeted_says, fits_at}
+use Rattle.std.specs.Prelude.{Option, Some, None, Result, Ok, Err, IsErrAnd}
+use Rattle.std.specs.Option.{ok_or}
+use Rattle.write.specs.Written.{fits_at}
+
+-- what an error says that came through a `?`
+pub refused_as : {A : Type 0} (t : Result A Refusal) (k : Refusal) → IsErrAnd t (λ x. x ≡ k) → says t ≡ refused (refusal_number k)
+refused_as (Ok a) k d = absurd d
+refused_as (Err x) k d = ap (λ (y : Refusal). refused (refusal_number y)) d
 
 -- ---- the limit and the room
 
 module _ (h : Handle) (len : ℕ) where
-  pub long_alone : 2147483647 < len → true ≡ too_long h len
-  unfolding too_long
-  long_alone p = sym (lt-ltb file_limit (h.position + len) (omega arith))
-
   pub long_fits : (b : Bool) → b ≡ too_long h len → b ≡ false → h.position + len ≤ 2147483647
   unfolding too_long
   long_fits b e q = ltb-false _ _ (sym e ∙ q)
@@ -66,15 +66,15 @@ reach_told s I h b f e = ap not (e ∙ λ i. reaches (area_is f i) I h.dir.0 max
 
 -- ---- 10, 9
 
-module _ (g : Geo) (I : List ℕ) (h : Handle) (len : ℕ) (e : DirEntry) (p : Place) (a : Bool) (ea : a ≡ too_long h len) where
-  pub fits_long : a ≡ true → refused 10 ≡ fits_at g I h len e p
+module _ (g : Geo) (I : List ℕ) (h : Handle) (len : ℕ) (x : Target) (a : Bool) (ea : a ≡ too_long h len) where
+  pub fits_long : a ≡ true → refused 10 ≡ fits_at g I h len x
   fits_long t = sym (given_yes 10 _ (omega arith) (sym ea ∙ t))
 
   module _ (b : Bool) (na : a ≡ false) (eb : b ≡ no_room g I h len) where
-    pub fits_full : b ≡ true → refused 9 ≡ fits_at g I h len e p
+    pub fits_full : b ≡ true → refused 9 ≡ fits_at g I h len x
     fits_full t = sym (given_no 10 _ (sym ea ∙ na) ∙ given_yes 9 _ (omega arith) (sym eb ∙ t))
 
-    pub fits_in : b ≡ false → accepted (record { entry = e; place = p }) ≡ fits_at g I h len e p
+    pub fits_in : b ≡ false → accepted x ≡ fits_at g I h len x
     fits_in t = sym (given_no 10 _ (sym ea ∙ na) ∙ given_no 9 _ (sym eb ∙ t))
 
 -- ---- 11
@@ -85,28 +85,28 @@ unfolding given and_then
 given_then zero q f = refl
 given_then (suc k) q f = refl
 
--- the entry itself
-abbrev found_at : DirEntry → Place → Reply Target
-found_at e p = accepted (record { entry = e; place = p })
+-- what the walk gives
+abbrev Found : Type 0
+Found = Result (Option Target) Damage
 
-on_then : {A : Type 0} (x : Found) (f : DirEntry → Place → Reply A)
-    → on_current x f ≡ and_then (on_current x (λ e p. accepted (record { entry = e; place = p }))) (λ (t : Target). f t.entry t.place)
+abbrev itself : Found → Reply Target
+itself x = on_current x (λ t. accepted t)
+
+on_then : {A : Type 0} (x : Found) (f : Target → Reply A) → on_current x f ≡ and_then (itself x) f
 unfolding and_then
-on_then (found.At e p) f = refl
-on_then found.Missing f = refl
-on_then found.Damaged f = refl
+on_then (Ok (Some t)) f = refl
+on_then (Ok None) f = refl
+on_then (Err e) f = refl
 
 module _ (g : Geo) (I : List ℕ) (h : Handle) where
   -- What follows a handle's entry, as an answer after another.
-  pub held_then : {A : Type 0} (f : DirEntry → Place → Reply A) → where_held g I h f ≡ and_then (held_at g I h) (λ t. f t.entry t.place)
+  pub held_then : {A : Type 0} (f : Target → Reply A) → where_held g I h f ≡ and_then (held_at g I h) f
   unfolding held_at
   held_then {A} f =
-      let c : Target → Reply A = λ t. f t.entry t.place in
       let x : Found = current_in h (walk (area_of g) I h.dir.0) in
-      let r : Reply Target = on_current x (λ e p. accepted (record { entry = e; place = p })) in
       ap (λ (q : Reply A). given (when 11 (stale_fields h)) (given (when 11 (unreached g I h)) q)) (on_then x f)
-      ∙ ap (given (when 11 (stale_fields h))) (given_then (when 11 (unreached g I h)) r c)
-      ∙ given_then (when 11 (stale_fields h)) (given (when 11 (unreached g I h)) r) c
+      ∙ ap (given (when 11 (stale_fields h))) (given_then (when 11 (unreached g I h)) (itself x) f)
+      ∙ given_then (when 11 (stale_fields h)) (given (when 11 (unreached g I h)) (itself x)) f
 
   module _ (a : Bool) (ea : a ≡ stale_fields h) where
     pub held_stale : a ≡ true → refused 11 ≡ held_at g I h
@@ -119,29 +119,25 @@ module _ (g : Geo) (I : List ℕ) (h : Handle) where
       held_unreached t = sym (given_no 11 _ (sym ea ∙ na) ∙ given_yes 11 _ (omega arith) (sym eb ∙ t))
 
       -- what follows from what the directory holds
-      pub held_entry : (x : Found) → b ≡ false → x ≡ current_in h (walk (area_of g) I h.dir.0)
-          → on_current x (λ e p. accepted (record { entry = e; place = p })) ≡ held_at g I h
+      pub held_entry : (x : Found) → b ≡ false → x ≡ current_in h (walk (area_of g) I h.dir.0) → itself x ≡ held_at g I h
       unfolding held_at
       held_entry x nb q =
-          ap (λ (y : Found). on_current y found_at) q
-          ∙ sym (given_no 11 _ (sym ea ∙ na) ∙ given_no 11 _ (sym eb ∙ nb))
+          ap itself q ∙ sym (given_no 11 _ (sym ea ∙ na) ∙ given_no 11 _ (sym eb ∙ nb))
 
--- the same with the struct's own numbers
+-- the same with the struct's own numbers: t is what code answers then
 module _ (s : SuperBlock) (I : List ℕ) (h : Handle) (a : Bool) (ea : a ≡ stale_fields h) (na : a ≡ false) (b : Bool) (eb : b ≡ unreached (geo_of s) I h) (nb : b ≡ false)
-    (f : Fit s I) (m : Found) (em : m ≡ current_in h (walk (area_in s) I h.dir.0)) where
-  by_entry : (x : Found) → m ≡ x → on_current x (λ e p. accepted (record { entry = e; place = p })) ≡ held_at (geo_of s) I h
+    (f : Fit s I) (m : Found) (em : m ≡ current_in h (walk (area_in s) I h.dir.0)) (t : Result Target Refusal) where
+  by_entry : (x : Found) → m ≡ x → itself x ≡ held_at (geo_of s) I h
   by_entry x q =
       held_entry (geo_of s) I h a ea na b eb x nb
       (sym q ∙ em ∙ ap (λ (A : Area). current_in h (walk A I h.dir.0)) (area_is f))
 
-  pub held_at_lem : (e : DirEntry) (p : Place) → m ≡ found.At e p → accepted (record { entry = e; place = p }) ≡ held_at (geo_of s) I h
-  held_at_lem e p q = by_entry (found.At e p) q
+  pub held_found : (o : Option Target) → m ≡ Ok o → t ≡ ok_or o Stale → says t ≡ held_at (geo_of s) I h
+  held_found (Some y) q e = ap says e ∙ by_entry (Ok (Some y)) q
+  held_found None q e = ap says e ∙ by_entry (Ok None) q
 
-  pub held_missing : m ≡ found.Missing → refused 11 ≡ held_at (geo_of s) I h
-  held_missing q = by_entry found.Missing q
-
-  pub held_damaged : m ≡ found.Damaged → refused 17 ≡ held_at (geo_of s) I h
-  held_damaged q = by_entry found.Damaged q
+  pub held_damaged : (d : Damage) → m ≡ Err d → IsErrAnd t (λ x. x ≡ Damaged) → says t ≡ held_at (geo_of s) I h
+  held_damaged d q e = refused_as t Damaged e ∙ by_entry (Err d) q
 
 -- ---- 13, 11, then 10, 9
 
@@ -151,15 +147,17 @@ module _ (g : Geo) (I : List ℕ) (h : Handle) (len : ℕ) where
   aim_empty e = sym (given_yes 13 _ (omega arith) (eq-eqb len 0 e))
 
   module _ (z : len ≡ 0 → ⊥) where
-    pub aim_then : target_of g I h len ≡ and_then (held_at g I h) (λ t. fits_at g I h len t.entry t.place)
+    pub aim_then : target_of g I h len ≡ and_then (held_at g I h) (fits_at g I h len)
     unfolding target_of
-    aim_then = given_no 13 _ (ne_eqb len 0 z) ∙ held_then g I h (λ e p. fits_at g I h len e p)
+    aim_then = given_no 13 _ (ne_eqb len 0 z) ∙ held_then g I h (fits_at g I h len)
 
-    module _ (m : Targeted) (em : targeted_says m ≡ held_at g I h) where
-      pub aim_held : (e : DirEntry) (p : Place) (r : Reply Target) → m ≡ targeted.At e p → r ≡ fits_at g I h len e p → r ≡ target_of g I h len
-      unfolding and_then
-      aim_held e p r q k = k ∙ sym (aim_then ∙ ap (λ (x : Reply Target). and_then x (λ t. fits_at g I h len t.entry t.place)) (sym em ∙ ap targeted_says q))
+    -- the entry that was found, and what is refused of it
+    pub aim_held : (x : Target) (r : Reply Target) → accepted x ≡ held_at g I h → r ≡ fits_at g I h len x → r ≡ target_of g I h len
+    unfolding and_then
+    aim_held x r q k = k ∙ sym (aim_then ∙ ap (λ (y : Reply Target). and_then y (fits_at g I h len)) (sym q))
 
-      pub aim_not : (k : Refusal) → m ≡ targeted.Refused k → refused (refusal_number k) ≡ target_of g I h len
-      unfolding and_then
-      aim_not k q = sym (aim_then ∙ ap (λ (x : Reply Target). and_then x (λ t. fits_at g I h len t.entry t.place)) (sym em ∙ ap targeted_says q))
+    -- or none: t is what code answers then
+    pub aim_not : (k : Refusal) (t : Result Target Refusal) → refused (refusal_number k) ≡ held_at g I h → IsErrAnd t (λ x. x ≡ k) → says t ≡ target_of g I h len
+    unfolding and_then
+    aim_not k t q d =
+        refused_as t k d ∙ sym (aim_then ∙ ap (λ (y : Reply Target). and_then y (fits_at g I h len)) (sym q))

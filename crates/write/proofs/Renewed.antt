@@ -20,9 +20,7 @@ use Rattle.model.proofs.Dirs.{lookup-change}
 use Rattle.model.proofs.Edits.{find-edit, refiled_name}
 use Rattle.model.proofs.Opens.{false_or}
 use Rattle.model.proofs.Reached.{path_is}
-use Rattle.dir_entry.specs.declared.DirEntry.{DirEntry}
-use Rattle.read_dir.specs.declared.Place.{Place}
-use Rattle.read_dir.specs.declared.Found.TheVariants as found
+use Rattle.handle.proofs.Currents.{found_at}
 use Rattle.read_dir.specs.Walk.{walk}
 use Rattle.write_store.proofs.Writes.{good_file}
 use Rattle.handle.specs.declared.Handle.{Handle}
@@ -162,5 +160,5 @@ module _ (g : Geo) (I : List ℕ) (t : Tree max_depth) (v : Volume g I max_depth
       (_, r.2.makes.volume, renewed_on g I (written_image g I h buf now) t v h now buf r.0 r.1 r.2 a.on_file)
 
   -- and its entry is found in the new image.
-  pub still_current : (x : DirEntry) × (p : Place) × (current_in (grown_handle h (length buf)) (walk (area_of g) (written_image g I h buf now) h.dir.0) ≡ found.At x p)
+  pub still_current : (x : Target) × (current_in (grown_handle h (length buf)) (walk (area_of g) (written_image g I h buf now) h.dir.0) ≡ found_at x.entry x.place)
   still_current = let r = still_on in found_there g (written_image g I h buf now) r.0 r.1 (grown_handle h (length buf)) r.2

@@ -21,11 +21,8 @@ use Rattle.model.proofs.Full.{good_find}
 use Rattle.model.proofs.Lists.{not_some}
 use Rattle.model.proofs.Reached.{path_found, path_is}
 use Rattle.bitmap_block.proofs.Stores.{volume_clears}
-use Rattle.dir_entry.specs.declared.DirEntry.{DirEntry}
 use Rattle.dir_entry.specs.Shown.{head_of}
-use Rattle.read_dir.specs.declared.Place.{Place}
-use Rattle.read_dir.specs.declared.Found.{Found}
-use Rattle.read_dir.specs.declared.Found.TheVariants as found
+use Rattle.std.specs.Prelude.{Some, None, Ok}
 use Rattle.read_dir.specs.Walk.{walk}
 use Rattle.thm_walk.specs.Shown.{walk_of, spot_of}
 use Rattle.thm_walk.proofs.Walks.{walk_is}
@@ -40,7 +37,7 @@ use Rattle.write.specs.Written.{fits_at}
 use Rattle.handle.specs.OnTree.{FileIn, OnFile, Lost, Stale}
 use Rattle.write.specs.OnTree.{to_add, NoRoom, Accepts}
 use Rattle.write.proofs.Aims.{fits_long, fits_full, fits_in, held_stale, held_unreached, held_entry, aim_empty, aim_then}
-use Rattle.handle.proofs.Currents.{own, own_file, file_own, walk-current, walk-missing}
+use Rattle.handle.proofs.Currents.{Found, own, own_file, file_own, walk-current, walk-missing}
 use Rattle.handle.proofs.Seeks.{fresh}
 
 -- the number of a refusal, 0 for none
@@ -60,24 +57,24 @@ module _ (g : Geo) (I : List ℕ) (t : Tree max_depth) (v : Volume g I max_depth
       ∙ ap (current_in h) (walk_is g I max_depth t _ p s.dir v.laid s.there)
 
   -- The directory has the handle's file, or the walk ends without.
-  file_or : (p : List Name) (s : DirAt max_depth h.dir.0 p t) → FileIn h s.dir ⊎ ((FileIn h s.dir → ⊥) × (here ≡ found.Missing))
+  file_or : (p : List Name) (s : DirAt max_depth h.dir.0 p t) → FileIn h s.dir ⊎ ((FileIn h s.dir → ⊥) × (here ≡ Ok None))
   file_or p s = go (lookup (name_of h) s.dir.1) refl
     where
       w : View (Below s.dir.0)
       w = view (block_size g) s.dir.0
 
-      none_there : ((e : Entry (Below s.dir.0)) → lookup (name_of h) s.dir.1 ≡ some e → own w h e ≡ false) → FileIn h s.dir ⊎ ((FileIn h s.dir → ⊥) × (here ≡ found.Missing))
+      none_there : ((e : Entry (Below s.dir.0)) → lookup (name_of h) s.dir.1 ≡ some e → own w h e ≡ false) → FileIn h s.dir ⊎ ((FileIn h s.dir → ⊥) × (here ≡ Ok None))
       none_there c =
           inr (
             λ f. not_both (file_own w h f.time f.cells f.starts) (c _ f.held),
             here_is p s ∙ walk-missing w h s.dir.1 (good_find (block_size g) max_depth p t s.dir v.laid.good s.there).distinct c,
           )
 
-      go : (o : Option (Entry (Below s.dir.0))) → lookup (name_of h) s.dir.1 ≡ o → FileIn h s.dir ⊎ ((FileIn h s.dir → ⊥) × (here ≡ found.Missing))
+      go : (o : Option (Entry (Below s.dir.0))) → lookup (name_of h) s.dir.1 ≡ o → FileIn h s.dir ⊎ ((FileIn h s.dir → ⊥) × (here ≡ Ok None))
       go none l = none_there (λ e k. absurd (not_some l k))
       go (some e) l = by (either (own w h e))
         where
-          by : (own w h e ≡ true) ⊎ (own w h e ≡ false) → FileIn h s.dir ⊎ ((FileIn h s.dir → ⊥) × (here ≡ found.Missing))
+          by : (own w h e ≡ true) ⊎ (own w h e ≡ false) → FileIn h s.dir ⊎ ((FileIn h s.dir → ⊥) × (here ≡ Ok None))
           by (inl c) = let r = own_file w h e c in inl (record { time = e.time; cells = r.0; held = l ∙ ap some r.1; starts = r.2 })
           by (inr c) = none_there (λ x k. let m : some e ≡ some x = sym l ∙ k in let q : e ≡ x = cc in sym (ap (own w h) q) ∙ c)
 
@@ -91,7 +88,7 @@ module _ (g : Geo) (I : List ℕ) (t : Tree max_depth) (v : Volume g I max_depth
         place = spot_of (name_of h) q.there.dir.1;
       }
 
-  here_at : (q : OnFile max_depth t h) → here ≡ found.At (aimed q).entry (aimed q).place
+  here_at : (q : OnFile max_depth t h) → here ≡ Ok (Some (aimed q))
   unfolding aimed
   here_at q =
       let w : View (Below q.there.dir.0) = view (block_size g) q.there.dir.0 in
@@ -129,14 +126,14 @@ module _ (g : Geo) (I : List ℕ) (t : Tree max_depth) (v : Volume g I max_depth
       go (inr (inl e)) (inr b) = sym (held_unreached g I h (stale_fields h) refl b true (unreached_by e) refl)
       go (inr (inr s)) (inr b) = by (file_or s.0 s.1)
         where
-          by : FileIn h s.1.dir ⊎ ((FileIn h s.1.dir → ⊥) × (here ≡ found.Missing)) → held_at g I h ≡ refused 11
+          by : FileIn h s.1.dir ⊎ ((FileIn h s.1.dir → ⊥) × (here ≡ Ok None)) → held_at g I h ≡ refused 11
           by (inl f) = absurd (s.2 f)
-          by (inr m) = sym (held_entry g I h (stale_fields h) refl b false (reached_by s.0 s.1) found.Missing refl (sym m.1))
+          by (inr m) = sym (held_entry g I h (stale_fields h) refl b false (reached_by s.0 s.1) (Ok None) refl (sym m.1))
 
   -- and one on a file has its own.
   pub on_held : stale_fields h ≡ false → (q : OnFile max_depth t h) → held_at g I h ≡ accepted (aimed q)
   unfolding aimed
-  on_held fields q = sym (held_entry g I h (stale_fields h) refl fields false (reached_by q.path q.there) (found.At (aimed q).entry (aimed q).place) refl (sym (here_at q)))
+  on_held fields q = sym (held_entry g I h (stale_fields h) refl fields false (reached_by q.path q.there) (Ok (Some (aimed q))) refl (sym (here_at q)))
 
   -- ---- each answer
 
@@ -146,16 +143,16 @@ module _ (g : Geo) (I : List ℕ) (t : Tree max_depth) (v : Volume g I max_depth
 
     stale_target : Stale max_depth t h → target_of g I h len ≡ refused 11
     unfolding and_then
-    stale_target s = aim_then g I h len nonzero ∙ ap (λ (x : Reply Target). and_then x (λ t. fits_at g I h len t.entry t.place)) (stale_held s)
+    stale_target s = aim_then g I h len nonzero ∙ ap (λ (x : Reply Target). and_then x (fits_at g I h len)) (stale_held s)
 
     module _ (fields : stale_fields h ≡ false) (q : OnFile max_depth t h) where
-      on_file : target_of g I h len ≡ fits_at g I h len (aimed q).entry (aimed q).place
+      on_file : target_of g I h len ≡ fits_at g I h len (aimed q)
       unfolding and_then
-      on_file = aim_then g I h len nonzero ∙ ap (λ (x : Reply Target). and_then x (λ t. fits_at g I h len t.entry t.place)) (on_held fields q)
+      on_file = aim_then g I h len nonzero ∙ ap (λ (x : Reply Target). and_then x (fits_at g I h len)) (on_held fields q)
 
       long_target : file_limit < h.position + len → target_of g I h len ≡ refused 10
       unfolding too_long
-      long_target l = on_file ∙ sym (fits_long g I h len (aimed q).entry (aimed q).place true (sym (lt-ltb file_limit (h.position + len) l)) refl)
+      long_target l = on_file ∙ sym (fits_long g I h len (aimed q) true (sym (lt-ltb file_limit (h.position + len) l)) refl)
 
       module _ (limit : h.position + len ≤ file_limit) where
         short : false ≡ too_long h len
@@ -164,12 +161,12 @@ module _ (g : Geo) (I : List ℕ) (t : Tree max_depth) (v : Volume g I max_depth
 
         full_target : length (free_blocks g max_depth t) < adds len q → target_of g I h len ≡ refused 9
         full_target l =
-            on_file ∙ sym (fits_full g I h len (aimed q).entry (aimed q).place false short true refl (sym (room_is len q ∙ lt-ltb _ _ l)) refl)
+            on_file ∙ sym (fits_full g I h len (aimed q) false short true refl (sym (room_is len q ∙ lt-ltb _ _ l)) refl)
 
         pub good_target : adds len q ≤ length (free_blocks g max_depth t) → target_of g I h len ≡ accepted (aimed q)
         unfolding aimed
         good_target l =
-            on_file ∙ sym (fits_in g I h len (aimed q).entry (aimed q).place false short false refl (sym (room_is len q ∙ le-ltb _ _ l)) refl)
+            on_file ∙ sym (fits_in g I h len (aimed q) false short false refl (sym (room_is len q ∙ le-ltb _ _ l)) refl)
 
   -- The handle is on a file, or the tree has lost it.
   pub file_lost : OnFile max_depth t h ⊎ Lost max_depth t h
@@ -182,7 +179,7 @@ module _ (g : Geo) (I : List ℕ) (t : Tree max_depth) (v : Volume g I max_depth
           by : DirAt max_depth h.dir.0 p t → OnFile max_depth t h ⊎ Lost max_depth t h
           by s = at_last (file_or p s)
             where
-              at_last : FileIn h s.dir ⊎ ((FileIn h s.dir → ⊥) × (here ≡ found.Missing)) → OnFile max_depth t h ⊎ Lost max_depth t h
+              at_last : FileIn h s.dir ⊎ ((FileIn h s.dir → ⊥) × (here ≡ Ok None)) → OnFile max_depth t h ⊎ Lost max_depth t h
               at_last (inl f) = inl (record { path = p; there = s; file = f })
               at_last (inr m) = inr (inr (p, s, m.0))
 
@@ -231,8 +228,8 @@ module _ (g : Geo) (I : List ℕ) (t : Tree max_depth) (v : Volume g I max_depth
   )
 
   -- The entry of a handle on a file is found in the image.
-  pub found_there : OnFile max_depth t h → (e : DirEntry) × (p : Place) × (current_in h (walk (area_of g) I h.dir.0) ≡ found.At e p)
-  found_there q = ((aimed q).entry, (aimed q).place, here_at q)
+  pub found_there : OnFile max_depth t h → (x : Target) × (current_in h (walk (area_of g) I h.dir.0) ≡ Ok (Some x))
+  found_there q = (aimed q, here_at q)
 
   -- What `write` requires holds where a write is accepted.
   pub accepted_can : (buf : List ℕ) (τ : Target) → target_of g I h (length buf) ≡ accepted τ → CanWrite g I τ.entry τ.place h.position (length buf)

@@ -1,14 +1,12 @@
 -- Writing by a handle, on an opened volume: the refusals in the order O11, the image and the handle. Definitions alone.
 -- (Those of the check come before: O8.)
-use Rattle.std.specs.Prelude.{Bool, not, List, ℕ, ◌+◌, ◌-◌, ltb, eqb, length}
+use Rattle.std.specs.Prelude.{Bool, not, List, ℕ, ◌+◌, ◌-◌, ltb, eqb, length, Option, Some, None, Result, Ok, Err}
 use Rattle.model.specs.Answers.{Reply, accepted, refused, and_then, when, given}
 use Rattle.model.specs.Geometry.{area_of, Geo, block_size, data_at}
 use Rattle.model.specs.Volume.{file_limit, blocks_for, max_depth}
 use Rattle.bitmap_block.specs.Bitmap.{clears}
-use Rattle.dir_entry.specs.declared.DirEntry.{DirEntry}
-use Rattle.read_dir.specs.declared.Place.{Place}
-use Rattle.read_dir.specs.declared.Found.{Found}
-use Rattle.read_dir.specs.declared.Found.TheVariants as found
+use Rattle.limits.specs.declared.Damage.{Damage}
+use Rattle.read_dir.specs.declared.Placed.{Placed}
 use Rattle.read_dir.specs.Walk.{walk}
 use Rattle.reached.specs.Reach.{reaches}
 use Rattle.write_store.specs.Write.{wrote}
@@ -16,15 +14,14 @@ use Rattle.handle.specs.Handles.{stale_fields, current_in}
 use Rattle.handle.specs.declared.Handle.{Handle}
 
 -- Where a write goes: the entry of the handle's file, and its place.
-pub record Target : Type 0 where
-  pub entry : DirEntry
-  pub place : Place
+abbrev pub Target : Type 0
+Target = Placed
 
 -- R11 where there is none; damage on the walk is 17
-abbrev pub on_current : {A : Type 0} → Found → (DirEntry → Place → Reply A) → Reply A
-on_current (found.At e p) f = f e p
-on_current found.Missing f = refused 11
-on_current found.Damaged f = refused 17
+abbrev pub on_current : {A : Type 0} → Result (Option Placed) Damage → (Target → Reply A) → Reply A
+on_current (Ok (Some t)) f = f t
+on_current (Ok None) f = refused 11
+on_current (Err e) f = refused 17
 
 -- R10: with len bytes at the position
 unfoldable pub too_long : Handle → ℕ → Bool
@@ -45,21 +42,21 @@ module _ (g : Geo) (I : List ℕ) where
 
   -- H3, H4, R11: what follows for the entry of a handle that is current; 11 where its own fields refuse it, its directory is not
   -- reached or has no such entry
-  abbrev pub where_held : {A : Type 0} → Handle → (DirEntry → Place → Reply A) → Reply A
+  abbrev pub where_held : {A : Type 0} → Handle → (Target → Reply A) → Reply A
   where_held h f =
       given (when 11 (stale_fields h))
       (given (when 11 (unreached h)) (on_current (current_in h (walk (area_of g) I h.dir.0)) f))
 
   -- that entry itself
   unfoldable pub held_at : Handle → Reply Target
-  held_at h = where_held h (λ e p. accepted (record { entry = e; place = p }))
+  held_at h = where_held h (λ t. accepted t)
 
   -- O11, R13: a write of len bytes: 13, 11, 10, 9, or where it goes.
   unfoldable pub target_of : Handle → ℕ → Reply Target
   target_of h len =
       given (when 13 (eqb len 0))
       (where_held h
-      (λ e p. given (when 10 (too_long h len)) (given (when 9 (no_room h len)) (accepted (record { entry = e; place = p })))))
+      (λ t. given (when 10 (too_long h len)) (given (when 9 (no_room h len)) (accepted t))))
 
   -- The image afterwards: the file is rewritten, or all is as it was.
   abbrev pub image_at : Handle → List ℕ → ℕ → Reply Target → List ℕ

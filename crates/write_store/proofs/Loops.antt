@@ -1,14 +1,13 @@
 -- What the code's loops need and give, one law for each place. An address or a count that code holds is a variable with an equation.
 use mathlib.Core.Path.{◌≡◌, refl, sym, ap, ◌∙◌, subst}
-use mathlib.Core.List.{List}
+use mathlib.Core.List.{List, ◌++◌}
 use Prim.Native.Nat.{ℕ, suc, ◌+◌, ◌-◌, ◌*◌, ◌/◌, ◌%◌, ◌≤◌, ◌<◌, min}
 use native.Mathlib.Nat.{mod-lt, div-le_of_le-mul}
 use native.Mathlib.Decide.{dec_lt}
 use native.Mathlib.Omega.{arith}
 use borrow.Author.Tests.{lt-ltb, le-ltb}
-use mir.Syntax.{w64}
-use mir.Val.{Fits}
-use lib.ListN.{length, get_or, take, drop, length-take, length-drop, drop_of_length-le}
+use borrow.Rule.Slice.PartMut.{put_mid}
+use lib.ListN.{length, get_or, take, drop, length-take, drop_of_length-le}
 use lib.Seq.{take_all, drop-drop}
 use Rattle.wire.specs.Be.{splice}
 use Rattle.wire.proofs.Picks.{pick_true, pick_false}
@@ -28,36 +27,36 @@ use Rattle.chain_store.specs.Chain.{chain_freed}
 use Rattle.dir_entry.specs.declared.DirEntry.{DirEntry}
 use Rattle.read_dir.specs.declared.Place.{Place}
 use Rattle.model.proofs.Contents.{blocks_enough}
-use Rattle.own_entry.specs.declared.Own.TheVariants as own
-use Rattle.own_entry.specs.Own.{OwnIn, own_renewed}
+use Rattle.std.specs.declared.option.Option.TheVariants as option
+use Rattle.own_entry.specs.Own.{own_renewed}
 use Rattle.write_store.specs.Write.{hop, Along, grown, extended, cut_after, resized, poured, spread, wrote, Chained, Resizable, CanWrite}
 use Rattle.write_store.proofs.Hops.{hop-none, hop-more, along_here, along_next, along_less, along_drop, along_kept, along_cells, SameNext}
 use Rattle.write_store.proofs.Resizes.{Outcome, resized_is, resized_same}
 use Rattle.write_store.proofs.Grows.{grown_kept, grown_room, grown-set}
 
--- ---- along a chain: b is the block, and left are to be passed
+-- ---- along a chain: b is the block, left are to be passed, and fewer behind it
 
-step : {left : ℕ} → 0 < left → left ≡ suc (left - 1)
-step h = omega arith
+module _ (s : SuperBlock) (I : List ℕ) (b left fewer : ℕ) (f : Fit s I) (h : left ≡ suc fewer) (w : Along (geo_of s) I b left) where
+  pub chain_next : (to : ℕ) → to ≡ next s.size I b → Along (geo_of s) I to fewer
+  chain_next to q =
+      subst (λ (x : ℕ). Along (geo_of s) I x fewer) (sym (q ∙ λ i. next (f.size i) I b))
+      (along_next (geo_of s) I b fewer (subst (Along (geo_of s) I b) h w))
 
-module _ (s : SuperBlock) (I : List ℕ) (b left : ℕ) (f : Fit s I) (h : 0 < left) (w : Along (geo_of s) I b left) where
-  -- z and m are the size and the address of the linked block that code makes
-  pub chain_next : (z m to : ℕ) → z ≡ s.size → m ≡ b → to ≡ next z I m → Along (geo_of s) I to (left - 1)
-  chain_next z m to d e q =
-      subst (λ (x : ℕ). Along (geo_of s) I x (left - 1)) (sym (q ∙ λ i. next ((d ∙ f.size) i) I (e i)))
-      (along_next (geo_of s) I b (left - 1) (subst (Along (geo_of s) I b) (step h) w))
+-- the block is one of the volume's,
+pub chain_below : (s : SuperBlock) (I : List ℕ) (b left : ℕ) → 0 < left → Along (geo_of s) I b left → b < s.blocks
+chain_below s I b left h w = (along_here (geo_of s) I b left w h).1
 
--- the block lies in the image, which keeps its length
+-- and lies in the image, which keeps its length
 pub chain_inside : (s : SuperBlock) (L I : List ℕ) (b left : ℕ) → Fit s L → length I ≡ length L → 0 < left → Along (geo_of s) I b left
     → s.size * b + s.size ≤ length I
 chain_inside s L I b left f e h w = fit_inside s L I b b f e refl (along_here (geo_of s) I b left w h).1
 
 module _ (B : ℕ) (I : List ℕ) (a k b left : ℕ) where
-  pub follow_more : hop B I left b ≡ hop B I k a → 0 < left → (z m to : ℕ) → z ≡ B → m ≡ b → to ≡ next z I m
-      → hop B I (left - 1) to ≡ hop B I k a
-  follow_more r h z m to d e q =
-      ap (hop B I (left - 1)) (q ∙ λ i. next (d i) I (e i))
-      ∙ sym (hop-more B I (left - 1) b) ∙ ap (λ (x : ℕ). hop B I x b) (sym (step h)) ∙ r
+  pub follow_more : hop B I left b ≡ hop B I k a → (fewer : ℕ) → left ≡ suc fewer → (to : ℕ) → to ≡ next B I b
+      → hop B I fewer to ≡ hop B I k a
+  follow_more r fewer h to q =
+      ap (hop B I fewer) q
+      ∙ sym (hop-more B I fewer b) ∙ ap (λ (x : ℕ). hop B I x b) (sym h) ∙ r
 
   pub follow_ends : hop B I left b ≡ hop B I k a → left ≤ 0 → b ≡ hop B I k a
   follow_ends r h = let e : 0 ≡ left = omega arith in sym (hop-none B I b) ∙ ap (λ (x : ℕ). hop B I x b) e ∙ r
@@ -81,16 +80,13 @@ module _ (s : SuperBlock) (I : List ℕ) (x : ℕ) (f : Fit s I) (e : data_at (g
   unfolding fresh
   grow_fresh = e
 
--- ---- blocks added: left are to be added after b
+-- ---- blocks added: left are to be added after b, and fewer after the next one
 
 -- the room of one, and that no bit is below 0
 pub room_one : (g : Geo) (I : List ℕ) (left : ℕ) → Room g I left → 0 < left → Room g I 1
 room_one g I left r h = record { clear = omega (arith, r.clear); count = omega (arith, r.count) }
 
-pub set-none : (I : List ℕ) (at : ℕ) → AllSet I at 0 0
-set-none I at k p q = absurd (omega arith)
-
-module _ (s : SuperBlock) (I : List ℕ) (b left : ℕ) (f : Fit s I) (r : Room (geo_of s) I left) (h : 0 < left) (x : ℕ) (e : data_at (geo_of s) + x ≡ fresh (geo_of s) I) where
+module _ (s : SuperBlock) (I : List ℕ) (b left fewer : ℕ) (f : Fit s I) (r : Room (geo_of s) I left) (h : left ≡ suc fewer) (x : ℕ) (e : data_at (geo_of s) + x ≡ fresh (geo_of s) I) where
   one : 1 ≤ length (clears (geo_of s) I)
   one = omega (arith, r.clear)
 
@@ -116,11 +112,11 @@ module _ (s : SuperBlock) (I : List ℕ) (b left : ℕ) (f : Fit s I) (r : Room 
     pub extend_long : (L : List ℕ) → length I ≡ length L → length J ≡ length L
     extend_long L q = long ∙ q
 
-    pub extend_room : Room (geo_of s) J (left - 1)
+    pub extend_room : Room (geo_of s) J fewer
     extend_room =
-        let q : left ≡ left - 1 + 1 = omega arith in
-        subst (λ (z : List ℕ). Room (geo_of s) z (left - 1)) (sym j)
-        (grown_room (geo_of s) I f.sound one b low.0 low.1 (left - 1) (subst (Room (geo_of s) I) q r))
+        let q : left ≡ fewer + 1 = omega arith in
+        subst (λ (z : List ℕ). Room (geo_of s) z fewer) (sym j)
+        (grown_room (geo_of s) I f.sound one b low.0 low.1 fewer (subst (Room (geo_of s) I) q r))
 
     pub extend_set : AllSet J (block_size (geo_of s) * map_at (geo_of s)) 0 (x + 1)
     extend_set =
@@ -128,47 +124,47 @@ module _ (s : SuperBlock) (I : List ℕ) (b left : ℕ) (f : Fit s I) (r : Room 
         subst (λ (z : List ℕ). AllSet z (block_size (geo_of s) * map_at (geo_of s)) 0 (x + 1)) (sym j)
         (subst (AllSet (grown (geo_of s) I b) (block_size (geo_of s) * map_at (geo_of s)) 0) q (grown-set (geo_of s) I f.sound one b low.0 low.1))
 
-    pub extend_more : (L : List ℕ) (last k a d : ℕ) → d ≡ s.area.0 → a ≡ d + x → extended (geo_of s) I b left ≡ extended (geo_of s) L last k → extended (geo_of s) J a (left - 1) ≡ extended (geo_of s) L last k
+    pub extend_more : (L : List ℕ) (last k a d : ℕ) → d ≡ s.area.0 → a ≡ d + x → extended (geo_of s) I b left ≡ extended (geo_of s) L last k → extended (geo_of s) J a fewer ≡ extended (geo_of s) L last k
     unfolding extended
     extend_more L last k a d q p t =
         let z : a ≡ fresh (geo_of s) I = omega (arith, f.area) in
-        (λ i. extended (geo_of s) (j i) (z i) (left - 1)) ∙ sym (ap (extended (geo_of s) I b) (step h)) ∙ t
+        (λ i. extended (geo_of s) (j i) (z i) fewer) ∙ sym (ap (extended (geo_of s) I b) h) ∙ t
 
 pub extend_ends : (g : Geo) (I L : List ℕ) (b left last k : ℕ) → extended g I b left ≡ extended g L last k → left ≤ 0 → I ≡ extended g L last k
 unfolding extended
 extend_ends g I L b left last k t h = let e : 0 ≡ left = omega arith in ap (extended g I b) e ∙ t
 
--- ---- the bytes: left blocks are to be filled from b on, and i bytes are stored
+-- ---- the bytes: left blocks are to be filled from b on with the bytes vs
 
--- a run of a block has as many bytes as are left, or as the n that the block has room for
-module _ (buf : List ℕ) (i n r : ℕ) (e : r ≡ min (length buf - i) n) where
-  run_short : (l : List ℕ) (m : ℕ) → m ≡ min (length l) n → (take m l ≡ take n l) × (drop m l ≡ drop n l)
-  run_short l m q = go (dec_lt (length l) n)
+-- bytes copied over a part as long
+put-splice : (a k : ℕ) (I us : List ℕ) → k ≡ length us → put_mid a k I us ≡ splice I a us
+unfolding splice
+put-splice a k I us e = ap (λ (l : List ℕ). take a I ++ (us ++ l)) (drop-drop k a I ∙ ap (λ (j : ℕ). drop (a + j) I) e)
+
+-- a run of a block has as many bytes as are left, or as the n that the block has room for; k is its capacity
+module _ (vs : List ℕ) (B at k r : ℕ) (c : k ≡ B - 4) (e : r ≡ min (length vs) (k - at)) where
+  abbrev n : ℕ
+  n = B - 4 - at
+
+  run_same : (take r vs ≡ take n vs) × (drop r vs ≡ drop n vs)
+  run_same = go (dec_lt (length vs) n)
     where
-      go : Dec (length l < n) → (take m l ≡ take n l) × (drop m l ≡ drop n l)
+      go : Dec (length vs < n) → (take r vs ≡ take n vs) × (drop r vs ≡ drop n vs)
       go (yes p) =
-          let z : length l ≤ m = omega arith in
-          let y : length l ≤ n = omega arith in
-          (take_all m l z ∙ sym (take_all n l y), drop_of_length-le l z ∙ sym (drop_of_length-le l y))
-      go (no p) = let z : m ≡ n = omega arith in (ap (λ (x : ℕ). take x l) z, ap (λ (x : ℕ). drop x l) z)
+          let z : length vs ≤ r = omega arith in
+          let y : length vs ≤ n = omega arith in
+          (take_all r vs z ∙ sym (take_all n vs y), drop_of_length-le vs z ∙ sym (drop_of_length-le vs y))
+      go (no p) = let z : r ≡ n = omega arith in (ap (λ (x : ℕ). take x vs) z, ap (λ (x : ℕ). drop x vs) z)
 
-  run_of_rest : r ≡ min (length (drop i buf)) n
-  run_of_rest = omega (arith, length-drop i buf)
+  pub run_dropped : (ws : List ℕ) → ws ≡ drop r vs → ws ≡ drop n vs
+  run_dropped ws q = q ∙ run_same.1
 
-  run_taken : take r (drop i buf) ≡ take n (drop i buf)
-  run_taken = (run_short (drop i buf) r run_of_rest).0
-
-  -- stored at a place
-  pub run_stored : (I J : List ℕ) (p q : ℕ) → p ≡ q → J ≡ splice I p (take r (drop i buf)) → J ≡ splice I q (take n (drop i buf))
-  run_stored I J p q ep ej = ej ∙ (λ j. splice I (ep j) (run_taken j))
-
-  run_dropped : drop (i + r) buf ≡ drop n (drop i buf)
-  run_dropped = sym (drop-drop r i buf) ∙ (run_short (drop i buf) r run_of_rest).1
-
--- the run lies in the image
-pub run_inside : (B b at n i r p : ℕ) {len : ℕ} → r ≡ min (n - i) (B - 4 - at) → at < B - 4 → p ≡ B * b + 4 + at → B * b + B ≤ len
-    → p + r ≤ len
-run_inside B b at n i r p e l q h = omega arith
+  -- us is the run, and zs what was copied
+  pub run_stored : (I us zs : List ℕ) (a p : ℕ) → us ≡ take r vs → zs ≡ us → a ≡ p → put_mid a (a + length us - a) I zs ≡ splice I p (take n vs)
+  run_stored I us zs a p q z w =
+      let k : a + length us - a ≡ length us = omega arith in
+      let l : zs ≡ take n vs = z ∙ q ∙ run_same.0 in
+      put-splice a (a + length us - a) I zs (k ∙ sym (ap length z)) ∙ λ i. splice I (w i) (l i)
 
 -- after a run of one block every next address is what it was
 module _ (s : SuperBlock) (I : List ℕ) (f : Fit s I) (b at : ℕ) (vs : List ℕ) (l : at < s.size - 4) (high : b < s.blocks)
@@ -181,42 +177,43 @@ module _ (s : SuperBlock) (I : List ℕ) (f : Fit s I) (b at : ℕ) (vs : List �
       subst (λ (B : ℕ). next B (splice I (s.size * b + 4 + at) vs) c ≡ next B I c) f.size
       (rw e (next_kept s.size _ I (splice I (s.size * b + (4 + at)) vs) k c four (λ o m _ p _. omega arith)))
 
-module _ (s : SuperBlock) (L buf I : List ℕ) (b at i left : ℕ) (h : 0 < left) (l : at < s.size - 4) (z m to : ℕ) (J : List ℕ)
-    (ez : z ≡ s.size) (em : m ≡ b) (et : to ≡ next z I m)
-    (stored : J ≡ splice I (s.size * b + 4 + at) (take (s.size - 4 - at) (drop i buf))) where
-  pub pour_along : Fit s L → length I ≡ length L → Along (geo_of s) I b left → Along (geo_of s) J to (left - 1)
+module _ (s : SuperBlock) (L vs I : List ℕ) (b at left fewer : ℕ) (h : left ≡ suc fewer) (l : at < s.size - 4) (to : ℕ) (J : List ℕ)
+    (et : to ≡ next s.size I b) (z m : ℕ) (ez : z ≡ s.size) (em : m ≡ b)
+    (filled : J ≡ splice I (z * m + 4 + at) (take (z - 4 - at) vs)) where
+  stored : J ≡ splice I (s.size * b + 4 + at) (take (s.size - 4 - at) vs)
+  stored = rw (ez, em) at filled
+
+  pub pour_along : Fit s L → length I ≡ length L → Along (geo_of s) I b left → Along (geo_of s) J to fewer
   pour_along f long w =
       let g : Fit s I = fit_long long f in
-      let n : Along (geo_of s) I to (left - 1) = chain_next s I b left g h w z m to ez em et in
-      let vs : List ℕ = take (s.size - 4 - at) (drop i buf) in
-      let few : at + length vs ≤ s.size - 4 = omega (arith, length-take (s.size - 4 - at) (drop i buf)) in
-      subst (λ (y : List ℕ). Along (geo_of s) y to (left - 1)) (sym stored)
-      (along_kept (geo_of s) I (splice I (s.size * b + 4 + at) vs)
-      (run_kept s I g b at vs l (along_here (geo_of s) I b left w h).1 few) (left - 1) to n)
+      let n : Along (geo_of s) I to fewer = chain_next s I b left fewer g h w to et in
+      let us : List ℕ = take (s.size - 4 - at) vs in
+      let few : at + length us ≤ s.size - 4 = omega (arith, length-take (s.size - 4 - at) vs) in
+      subst (λ (y : List ℕ). Along (geo_of s) y to fewer) (sym stored)
+      (along_kept (geo_of s) I (splice I (s.size * b + 4 + at) us)
+      (run_kept s I g b at us l (along_here (geo_of s) I b left w (omega arith)).1 few) fewer to n)
 
-  pub pour_more : (a k o run : ℕ) (vs : List ℕ) → run ≡ min (length buf - i) (s.size - 4 - at)
-      → poured s.size I b at (drop i buf) left ≡ poured s.size L a o vs k
-      → poured s.size J to 0 (drop (i + run) buf) (left - 1) ≡ poured s.size L a o vs k
+  pub pour_more : (a k o : ℕ) (us ws : List ℕ) → ws ≡ drop (z - 4 - at) vs
+      → poured s.size I b at vs left ≡ poured s.size L a o us k → poured s.size J to 0 ws fewer ≡ poured s.size L a o us k
   unfolding poured
-  pour_more a k o run vs er t =
-      let y : to ≡ next s.size I b = et ∙ λ j. next (ez j) I (em j) in
-      (λ j. poured s.size (stored j) (y j) 0 (run_dropped buf i (s.size - 4 - at) run er j) (left - 1))
-      ∙ sym (ap (poured s.size I b at (drop i buf)) (step h)) ∙ t
+  pour_more a k o us ws er t =
+      let rest : ws ≡ drop (s.size - 4 - at) vs = rw ez at er in
+      (λ j. poured s.size (stored j) (et j) 0 (rest j) fewer) ∙ sym (ap (poured s.size I b at vs) h) ∙ t
 
-pub pour_ends : (B : ℕ) (L : List ℕ) (a k : ℕ) (buf I : List ℕ) (b at i left o : ℕ)
-    → poured B I b at (drop i buf) left ≡ poured B L a o buf k → left ≤ 0 → I ≡ poured B L a o buf k
+pub pour_ends : (B : ℕ) (L : List ℕ) (a k o : ℕ) (us I : List ℕ) (b at : ℕ) (vs : List ℕ) (left : ℕ)
+    → poured B I b at vs left ≡ poured B L a o us k → left ≤ 0 → I ≡ poured B L a o us k
 unfolding poured
-pour_ends B L a k buf I b at i left o t h = let e : 0 ≡ left = omega arith in ap (poured B I b at (drop i buf)) e ∙ t
+pour_ends B L a k o us I b at vs left t h = let e : 0 ≡ left = omega arith in ap (poured B I b at vs) e ∙ t
 
 -- ---- the chain cut
 
--- z and m are the linked block that is read, y and p that which is stored in
-pub cut_is : (s : SuperBlock) (I J L : List ℕ) (last k z m a y p v : ℕ) → Fit s I → z ≡ s.size → m ≡ last → a ≡ next z I m
+-- y and p are the linked block that is stored in
+pub cut_is : (s : SuperBlock) (I J L : List ℕ) (last k a y p v : ℕ) → Fit s I → a ≡ next s.size I last
     → J ≡ chain_freed (geo_of s) I k a → y ≡ s.size → p ≡ last → v ≡ 0 → L ≡ linked y J p v → L ≡ cut_after (geo_of s) I last k
 unfolding cut_after
-cut_is s I J L last k z m a y p v f ez em ea ej ey ep ev el =
+cut_is s I J L last k a y p v f ea ej ey ep ev el =
     el ∙ (λ i. linked ((ey ∙ f.size) i) (ej i) (ep i) (ev i))
-    ∙ ap (λ (x : ℕ). linked (block_size (geo_of s)) (chain_freed (geo_of s) I k x) last 0) (ea ∙ λ i. next ((ez ∙ f.size) i) I (em i))
+    ∙ ap (λ (x : ℕ). linked (block_size (geo_of s)) (chain_freed (geo_of s) I k x) last 0) (ea ∙ λ i. next (f.size i) I last)
 
 -- ---- the chain resized
 
@@ -243,9 +240,6 @@ module _ (s : SuperBlock) (I : List ℕ) (a old new : ℕ) (f : Fit s I) (r : Re
   pub grows_high : (last : ℕ) → last ≡ hop s.size I (old - 1) a → last < s.blocks
   grows_high last e = omega (arith, hops (old - 1), whole.at (old - 1) (omega (arith, r.some_old)))
 
-  pub grows_room : Room (geo_of s) I (new - old)
-  grows_room = r.room
-
   pub grows_is : (last : ℕ) (J : List ℕ) → last ≡ hop s.size I (old - 1) a → J ≡ extended (geo_of s) I last (new - old) → old < new
       → J ≡ resized (geo_of s) I a old new
   unfolding resized
@@ -267,16 +261,10 @@ module _ (s : SuperBlock) (I : List ℕ) (a old new : ℕ) (f : Fit s I) (r : Re
 -- ---- the buffer put in from byte c on
 
 module _ (s : SuperBlock) (I : List ℕ) (c : ℕ) (f : Fit s I) where
-  pub put_from : c % (s.size - 4) < s.size - 4
+  put_from : c % (s.size - 4) < s.size - 4
   put_from = mod-lt c (omega (arith, f.known.least))
 
-  pub put_cast : Fits w64 (c % (s.size - 4))
-  put_cast = record { fits = omega (arith, put_from, f.known.most) }
-
 module _ (s : SuperBlock) (I : List ℕ) (a m q : ℕ) (h : q ≤ m) (w : Along (geo_of s) I a m) where
-  pub put_first : Along (geo_of s) I a q
-  put_first = along_less (geo_of s) I a m q h w
-
   pub put_along : (b : ℕ) → Fit s I → b ≡ hop s.size I q a → Along (geo_of s) I b (m - q)
   put_along b f e =
       subst (λ (x : ℕ). Along (geo_of s) I x (m - q)) (sym (e ∙ ap (λ (B : ℕ). hop B I q a) f.size))
@@ -297,7 +285,7 @@ module _ (s : SuperBlock) (I : List ℕ) (f : Fit s I) (a old new : ℕ) (r : Re
       (resized_is (geo_of s) I f.sound r.chain.cells new r.chain.held (omega (arith, r.some_old)) r.some_new
       (subst (λ (z : ℕ). Room (geo_of s) I (new - z)) (sym n) r.room) (omega (arith, r.enough)))
 
-  pub resized_fit : Fit s J
+  resized_fit : Fit s J
   resized_fit = fit_long outcome.is.kept.size f
 
   pub resized_along : Along (geo_of s) J a new
@@ -320,23 +308,17 @@ module _ (s : SuperBlock) (I : List ℕ) (f : Fit s I) (e : DirEntry) (p : Place
       let five : 5 ≤ s.size = omega (arith, f.known.least) in
       div-le_of_le-mul (s.size - 4) (omega (arith, blocks_enough s.size five size, ap (λ (x : ℕ). (s.size - 4) * x) n))
 
--- the entry lies in the image, which keeps its length
-pub entry_in_lem : (s : SuperBlock) (I L : List ℕ) (e : DirEntry) (p : Place) (c len : ℕ) → Fit s I
-    → CanWrite (geo_of s) I e p c len → length L ≡ length I → OwnIn s.size L (own.At p)
-entry_in_lem s I L e p c len f w k =
-    (fit_inside s I L p.block.0 p.block.0 f k refl w.entry.block, omega (arith, w.entry.fits, f.size))
-
 -- the stores, one after the other
 pub write_is : (s : SuperBlock) (I J L M : List ℕ) (e : DirEntry) (p : Place) (c : ℕ) (vs : List ℕ) (time size old new : ℕ)
     → Fit s I → size ≡ c + length vs → old ≡ blocks_for s.size e.size → new ≡ blocks_for s.size size → J ≡ resized (geo_of s) I e.addr.0 old new
-    → L ≡ spread s.size J e.addr.0 c vs new → M ≡ own_renewed s.size L (own.At p) size time
+    → L ≡ spread s.size J e.addr.0 c vs new → M ≡ own_renewed s.size L (option.Some p) size time
     → M ≡ wrote (geo_of s) I e p c vs time
 unfolding wrote
 write_is s I J L M e p c vs time size old new f z o n j l m =
     let x : old ≡ blocks_for (block_size (geo_of s)) e.size = o ∙ ap (λ (B : ℕ). blocks_for B e.size) f.size in
     let y : new ≡ blocks_for (block_size (geo_of s)) (c + length vs) = n ∙ λ i. blocks_for (f.size i) (z i) in
     let count : ℕ = blocks_for (block_size (geo_of s)) (c + length vs) in
-    let stored : List ℕ → List ℕ = λ J. own_renewed (block_size (geo_of s)) J (own.At p) (c + length vs) time in
-    m ∙ (λ i. own_renewed (f.size i) (l i) (own.At p) (z i) time)
+    let stored : List ℕ → List ℕ = λ J. own_renewed (block_size (geo_of s)) J (option.Some p) (c + length vs) time in
+    m ∙ (λ i. own_renewed (f.size i) (l i) (option.Some p) (z i) time)
     ∙ (λ i. stored (spread (f.size i) (j i) e.addr.0 c vs (y i)))
     ∙ (λ i. stored (spread (block_size (geo_of s)) (resized (geo_of s) I e.addr.0 (x i) (y i)) e.addr.0 c vs count))

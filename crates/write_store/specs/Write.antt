@@ -13,7 +13,7 @@ use Rattle.chain_store.specs.Chain.{chain_freed}
 use Rattle.dir_entry.specs.Entry.{header, place_at}
 use Rattle.dir_entry.specs.declared.DirEntry.{DirEntry}
 use Rattle.read_dir.specs.declared.Place.{Place}
-use Rattle.own_entry.specs.declared.Own.TheVariants as own
+use Rattle.std.specs.declared.option.Option.TheVariants as option
 use Rattle.own_entry.specs.Own.{own_renewed}
 
 -- ---- along a chain
@@ -71,7 +71,7 @@ wrote g I e p c vs time =
     (spread (block_size g)
     (resized g I e.addr.0 (blocks_for (block_size g) e.size) (blocks_for (block_size g) (c + length vs)))
     e.addr.0 c vs (blocks_for (block_size g) (c + length vs)))
-    (own.At p) (c + length vs) time
+    (option.Some p) (c + length vs) time
 
 -- ---- what it asks
 

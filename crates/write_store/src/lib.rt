@@ -1,34 +1,31 @@
 // The stores of a write, the writing half of file.rs: blocks added or freed,
 // the buffer along the chain, size and time into the entry.
 // Every store is a function of specs/ on the list of bytes; that they are the edit of `model` is proved in proofs/Writes.antt.
+// (Image and numbers are lent apart, as bitmap_block says.)
 #![tactic(auto)]
 
-ghost use Rattle.std.specs.Prelude.{◌≡◌, ◌+◌, ◌-◌, ◌*◌, ◌/◌, ◌≤◌, ◌<◌, min, length, take, drop};
+ghost use Rattle.std.specs.Prelude.{◌≡◌, ◌+◌, ◌-◌, ◌*◌, ◌/◌, ◌≤◌, ◌<◌, length, take, drop};
 ghost use Rattle.wire.specs.Be.{splice};
 ghost use Rattle.bits.specs.Bit.{AllSet};
-ghost use Rattle.block.specs.Block.{BlockSize};
 ghost use Rattle.model.specs.Geometry.{block_size, map_at, data_at};
 ghost use Rattle.super_block.specs.Super.{geo_of, Fit};
 ghost use Rattle.dir_entry.specs.Entry.{place_at};
 ghost use Rattle.bitmap_block.specs.Bitmap.{fresh, Room};
-ghost use Rattle.write_store.specs.Write.{hop, Along, grown, extended, cut_after, resized, poured, spread, wrote, Resizable, CanWrite};
+ghost use Rattle.write_store.specs.Write.{hop, Along, grown, extended, cut_after, resized, poured, spread};
+ghost use Rattle.write_store.specs.Write.{wrote, Resizable, CanWrite};
 
 use block::{Addr, Index, LinkedBlock};
-use dir_entry::DirEntry;
-use read_dir::Place;
-use super_block::SuperBlock;
+use read_dir::Placed;
+use super_block::{SuperBlock, Volume};
 
-// The address k links after a.
-fn follow(img: &[u8], s: SuperBlock, a: Addr, k: u32) -> Addr
-    requires fit { Fit s img.now }
-    requires along { Along (geo_of s) img.now a.0 k }
-    ensures { result.0 ≡ hop s.size img.now k a.0 }
+// The address k links after a. Its blocks are known to lie in the data area, so that it cannot fail as the one of file_read can.
+fn follow(v: Volume, a: Addr, k: u32) -> Addr
+    requires { Along (geo_of v.s) v.img.now a.0 k }
+    ensures { result.0 ≡ hop v.entry.s.size v.entry.img.now k a.0 }
 {
     let mut b = a;
-    let mut left = k;
-    while 0 < left {
-        b = LinkedBlock::new(s.size, b).next_addr(img);
-        left -= 1;
+    for _ in 0..k {
+        b = v.next_addr(b);
     }
     b
 }
@@ -58,12 +55,10 @@ fn extend(img: &mut [u8], s: SuperBlock, last: Addr, k: u32)
     let d = s.area;
     let mut b = last;
     let mut from: u32 = 0;
-    let mut left = k;
-    while 0 < left {
+    for _ in 0..k {
         let x = grow(img, s, b, Index(from));
         b = x.addr(d);
         from = x.0 + 1;
-        left -= 1;
     }
 }
 
@@ -73,7 +68,7 @@ fn cut(img: &mut [u8], s: SuperBlock, last: Addr, k: u32)
     requires last_lt_blocks { last.0 < s.blocks }
     ensures { img.new ≡ cut_after (geo_of s) img.old last.0 k }
 {
-    let a = LinkedBlock::new(s.size, last).next_addr(img);
+    let a = Volume { img, s }.next_addr(last);
     chain_store::free_chain(img, s, a, k);
     LinkedBlock::new(s.size, last).set_next_addr(img, Addr(0));
 }
@@ -88,28 +83,26 @@ fn resize(img: &mut [u8], s: SuperBlock, a: Addr, old: u32, new: u32)
         return;
     }
     if old < new {
-        let last = follow(img, s, a, old - 1);
+        let last = follow(Volume { img, s }, a, old - 1);
         extend(img, s, last, new - old);
     } else {
-        let last = follow(img, s, a, new - 1);
+        let last = follow(Volume { img, s }, a, new - 1);
         cut(img, s, last, old - new);
     }
 }
 
-// As many bytes of the buffer from i on as block b has room for from data byte `at` on; answers how many.
-fn put_run(img: &mut [u8], size: u32, b: Addr, at: usize, buf: &[u8], i: usize) -> usize
-    requires block_size { BlockSize size }
-    requires at_bound { at < size - 4 }
-    requires i_in_bounds { i ≤ length buf.now }
-    requires size_in_bounds { size * b.0 + size ≤ length img.old }
-    ensures { (img.new ≡ splice img.old (place_at size b.0 at)
-        (take (size - 4 - at) (drop i buf.now)))
-        × (result ≡ min (length buf.now - i) (size - 4 - at)) }
+// As many of the bytes as a block has room for from data byte `at` on; answers the others.
+fn put_run<'a>(img: &mut [u8], block: LinkedBlock, at: usize, bytes: &'a [u8]) -> &'a [u8]
+    requires at_bound { at < block.size - 4 }
+    requires size_in_bounds { block.size * block.addr.0 + block.size ≤ length img.old }
+    ensures { (img.new ≡ splice img.old (place_at block.size block.addr.0 at) (take (block.size - 4 - at) bytes.now))
+        × (result.now ≡ drop (block.size - 4 - at) bytes.now) }
 {
-    let capacity = (size - LinkedBlock::LINK) as usize;
-    let run = limits::run_of(capacity, at, buf.len() - i);
-    wire::copy(img, dir_entry::place(size, b, at), buf, i, run);
-    run
+    let capacity = block.capacity() as usize;
+    let (run, rest) = bytes.split_at(limits::run_of(capacity, at, bytes.len()));
+    let from = dir_entry::place(block, at);
+    img[from..from + run.len()].copy_from_slice(run);
+    rest
 }
 
 // The buffer into k blocks of the chain from a on, from data byte o of the first on: a run of each block at a time.
@@ -121,14 +114,12 @@ fn pour(img: &mut [u8], s: SuperBlock, a: Addr, o: usize, buf: &[u8], k: u32)
 {
     let mut b = a;
     let mut at = o;
-    let mut i: usize = 0;
-    let mut left = k;
-    while 0 < left {
-        let then = LinkedBlock::new(s.size, b).next_addr(img);
-        i += put_run(img, s.size, b, at, buf, i);
+    let mut rest = buf;
+    for _ in 0..k {
+        let then = Volume { img, s }.next_addr(b);
+        rest = put_run(img, LinkedBlock::new(s.size, b), at, rest);
         b = then;
         at = 0;
-        left -= 1;
     }
 }
 
@@ -141,29 +132,22 @@ pub fn put_bytes(img: &mut [u8], s: SuperBlock, a: Addr, c: u32, buf: &[u8], m: 
 {
     let capacity = s.size - LinkedBlock::LINK;
     let first = c / capacity;
-    let b = follow(img, s, a, first);
+    let b = follow(Volume { img, s }, a, first);
     pour(img, s, b, (c % capacity) as usize, buf, m - first);
 }
 
-// C12: the buffer is written at position c of the file of entry e, which stands at `place`.
-pub fn write(
-    img: &mut [u8],
-    s: SuperBlock,
-    e: DirEntry,
-    place: Place,
-    c: u32,
-    buf: &[u8],
-    time: u64,
-)
+// C12: the buffer is written at position c of the file that the entry at `at` stands for.
+pub fn write(img: &mut [u8], s: SuperBlock, at: Placed, c: u32, buf: &[u8], time: u64)
     requires fit { Fit s img.old }
-    requires can_write { CanWrite (geo_of s) img.old e place c (length buf.now) }
-    ensures { img.new ≡ wrote (geo_of s) img.old e place c buf.now time }
+    requires can_write { CanWrite (geo_of s) img.old at.entry at.place c (length buf.now) }
+    ensures { img.new ≡ wrote (geo_of s) img.old at.entry at.place c buf.now time }
 {
-    let a = e.addr;
+    let a = at.entry.addr;
     let size = c + (buf.len() as u32);
-    let old = limits::blocks_for(s.size, e.size);
+    let old = limits::blocks_for(s.size, at.entry.size);
     let new = limits::blocks_for(s.size, size);
     resize(img, s, a, old, new);
     put_bytes(img, s, a, c, buf, new);
-    own_entry::renew_at(img, s.size, place, size, time);
+    let p = at.place;
+    own_entry::renew_at(img, LinkedBlock::new(s.size, p.block), p.offset, size, time);
 }

@@ -1,12 +1,17 @@
-use Rattle.bitmap_block.proofs.Answers.{reach_few, reach_place, hint, hint_reach, first_at_lem, first_none}
+use Rattle.bitmap_block.proofs.Answers.{reach_few, reach_place, hint_reach, first_at_lem, found_one}
 use Rattle.bitmap_block.proofs.next_free.Goals as goal
 
-pub lowest_clear-found-requires : goal.lowest_clear-found-requires
-lowest_clear-found-requires c =
-    record { bits_fit = search reach_place; limit_bound = search reach_few; start_le_limit = search hint_reach; all_set = search hint }
+pub lowest_clear-found-requires-clause-bits_fit : goal.lowest_clear-found-requires-clause-bits_fit
+lowest_clear-found-requires-clause-bits_fit c = search reach_place
 
-pub returns-in-At : goal.returns-in-At
-returns-in-At c = search first_at_lem
+pub lowest_clear-found-requires-clause-limit_bound : goal.lowest_clear-found-requires-clause-limit_bound
+lowest_clear-found-requires-clause-limit_bound c = search reach_few
 
-pub returns-in-Nothing : goal.returns-in-Nothing
-returns-in-Nothing c = search first_none
+pub lowest_clear-found-requires-clause-start_le_limit : goal.lowest_clear-found-requires-clause-start_le_limit
+lowest_clear-found-requires-clause-start_le_limit c = search hint_reach
+
+pub unwrap-requires : goal.unwrap-requires
+unwrap-requires c = search found_one
+
+pub returns : goal.returns
+returns c = search first_at_lem

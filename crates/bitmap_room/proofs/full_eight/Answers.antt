@@ -1,21 +1,17 @@
-use Prim.Native.Nat.{ℕ}
+use Prim.Native.Nat.{◌+◌}
+use mathlib.Core.Path.{◌≡◌}
 use native.Mathlib.Omega.{arith}
 use borrow.Author.Rules.{rules}
-use Rattle.bits.proofs.Bits.{ones_none}
-use Rattle.bitmap_room.proofs.Clear.{full_more, full_all, not_full}
+use borrow.Author.Tests.{tests}
+use Rattle.std.specs.Bool.{⊤}
+use Rattle.std.specs.List.{between}
+use Rattle.std.proofs.lemmas.Iterator.{YieldsList-from_slice, cases_from_all}
+use Rattle.bitmap_room.proofs.Clear.{full_all}
 use Rattle.bitmap_room.proofs.full_eight.Goals as goal
 
-pub loop-i-init : goal.loop-i-init
-loop-i-init c = (omega arith, omega (arith, ones_none c.args.s.now c.args.at))
-
-pub returns-then-s-at : goal.returns-then-s-at
-returns-then-s-at c = not_full
-
-pub loop-i-preserved : goal.loop-i-preserved
-loop-i-preserved c =
-    let a = c.args in
-    let k = c.shared_slice_known-1 in
-    (omega arith, search (full_more a.s.now (λ (i : ℕ). omega (arith, k.given i)), rules))
-
 pub returns : goal.returns
-returns c = search (full_all, rules)
+returns c =
+    let a = c.args in
+    let eight : c.iter.result.rest.now ≡ between a.at (a.at + 8) a.s.now = search c.iter.ensures.rest in
+    let f = cases_from_all _ _ c.all.result (λ b. b ≡ 255) (λ b. ⊤) c.all.ensures.ran (YieldsList-from_slice (between a.at (a.at + 8) a.s.now) eight) (λ x q k. search (rules, tests)) (λ x q k. tt) in
+    full_all a.s.now a.at (λ i. omega (arith, c.type_inv.s i)) _ _ c.requires f

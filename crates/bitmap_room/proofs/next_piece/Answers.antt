@@ -1,4 +1,4 @@
-use Rattle.bitmap_room.proofs.Clear.{one_byte, eight_bytes, eight_full}
+use Rattle.bitmap_room.proofs.Clear.{eight_bytes, eight_full}
 use borrow.Author.Rules.{rules}
 use Rattle.bitmap_room.proofs.next_piece.Goals as goal
 
@@ -7,6 +7,3 @@ returns-then-left-gt64 c = search (eight_bytes, rules)
 
 pub returns-then-full_eight : goal.returns-then-full_eight
 returns-then-full_eight c = search (eight_full, rules)
-
-pub returns : goal.returns
-returns c = search (one_byte, rules)

@@ -16,4 +16,4 @@ loop-i-preserved c =
 pub returns : goal.returns
 returns c =
     let e : c.loop-i.i ≡ c.args.k = omega arith in
-    rw (← e) (c.loop-i.invariant.1, c.loop-i.invariant.2)
+    rw (← e) c.loop-i.invariant

@@ -1,15 +1,12 @@
-use borrow.Author.Rules.{rules}
-use Rattle.model.specs.Steps.{Bytes}
-use Rattle.call_change.proofs.Changes.{ready, dir_no, dir_yes}
+use Rattle.limits.proofs.Passed.{err_is}
+use Rattle.call_change.proofs.Changes.{plain_lost, plain_made}
 use Rattle.call_change.proofs.create_dir.Goals as goal
 
-pub create_dir_path-requires : goal.create_dir_path-requires
-create_dir_path-requires c =
-    let all : Bytes c.args.img.now = λ i. (c.slice_known-1.given i).fits in
-    search (ready, all, rules)
+pub returns-in_err-create_at : goal.returns-in_err-create_at
+returns-in_err-create_at c =
+    let e = c.in_err-create_at.ensures in
+    rw (err_is c.from_residual.result c.from_residual.ensures.1)
+    (record { answer = plain_lost _ _ _ e.result_value; image = e.img_after; work = e.work_after })
 
-pub returns-in-Refused : goal.returns-in-Refused
-returns-in-Refused c = search (dir_no, rules)
-
-pub returns-in-At : goal.returns-in-At
-returns-in-At c = search (dir_yes, rules)
+pub returns : goal.returns
+returns c = let e = c.in_ok-create_at.ensures in record { answer = plain_made _ _ _ e.result_value; image = e.img_after; work = e.work_after }

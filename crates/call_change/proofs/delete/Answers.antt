@@ -1,15 +1,20 @@
-use borrow.Author.Rules.{rules}
-use Rattle.model.specs.Steps.{Bytes}
-use Rattle.call_change.proofs.Changes.{ready, delete_no, delete_yes}
+use mathlib.Core.Path.{◌∙◌}
+use Rattle.limits.proofs.Passed.{err_is}
+use Rattle.call_change.proofs.Changes.{delete_no, image_kept, delete_at, delete_image}
 use Rattle.call_change.proofs.delete.Goals as goal
 
-pub delete_path-requires : goal.delete_path-requires
-delete_path-requires c =
-    let all : Bytes c.args.img.now = λ i. (c.slice_known-1.given i).fits in
-    search (ready, all, rules)
+pub returns-in_err-s : goal.returns-in_err-s
+returns-in_err-s c =
+    let e = c.in_err-s.ensures in
+    rw (err_is c.from_residual.result c.from_residual.ensures.1)
+    (record { answer = delete_no _ _ _ _ _ _ e.begin_is; image = image_kept _ _ _ _ _ _ e.begin_is _; work = e.work_after })
 
-pub returns-in-Refused : goal.returns-in-Refused
-returns-in-Refused c = search (delete_no, rules)
-
-pub returns-in-At : goal.returns-in-At
-returns-in-At c = search (delete_yes, rules)
+pub returns : goal.returns
+returns c =
+    let e = c.in_ok-s.ensures in
+    let d = c.delete.ensures in
+    record {
+      answer = d.result_value ∙ delete_at _ _ _ _ _ _ _ _ e.begin_is;
+      image = d.img_after ∙ delete_image _ _ _ _ _ _ _ _ e.begin_is _;
+      work = e.work_after;
+    }

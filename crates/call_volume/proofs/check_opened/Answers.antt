@@ -8,11 +8,11 @@ mark_bytes-requires c = record { area_le_blocks = search (area_opened, rules); b
 pub returns-then-work-mark_bytes : goal.returns-then-work-mark_bytes
 returns-then-work-mark_bytes c = search (call_short, rules)
 
-pub check-requires : goal.check-requires
-check-requires c = record { fit = search (fit_opened, rules); s_in_bounds = search rules }
-
 pub returns-then-check : goal.returns-then-check
 returns-then-check c = search (call_whole, rules)
 
 pub returns-else-check : goal.returns-else-check
 returns-else-check c = search (call_damaged, rules)
+
+pub invariant_of-check : goal.invariant_of-check
+invariant_of-check c = search (fit_opened, rules)

@@ -1,9 +1,6 @@
-use borrow.Author.Rules.{rules}
-use Rattle.call_volume.proofs.Checked.{opened_is, call_refused}
+use Rattle.limits.proofs.Passed.{err_is}
+use Rattle.call_volume.proofs.Checked.{call_refused}
 use Rattle.call_volume.proofs.open_checked.Goals as goal
 
-pub check_opened-requires : goal.check_opened-requires
-check_opened-requires c = search (opened_is, rules)
-
-pub returns-in-Refused : goal.returns-in-Refused
-returns-in-Refused c = search (call_refused, rules)
+pub returns-in_err-s : goal.returns-in_err-s
+returns-in_err-s c = rw (err_is c.from_residual.result c.from_residual.ensures.1) (call_refused _ _ _ _ c.in_err-s.ensures)

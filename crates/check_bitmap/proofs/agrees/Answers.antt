@@ -1,37 +1,33 @@
+use mathlib.Core.Path.{sym, ◌∙◌}
 use borrow.Author.Rules.{rules}
-use Rattle.check_bitmap.proofs.Answers.{marks_long, marks_in, both_in, left_in, marks_differ, marks_bare, past_fits, past_in, past_image, marks_tested}
-use Rattle.super_block.proofs.Fits.{area_inside, few_blocks}
+use Rattle.check_bitmap.proofs.Answers.{marks_in, marks_differ, marks_bare, past_in, past_image, marks_tested}
+use Rattle.super_block.proofs.Fits.{area_inside}
+use Rattle.wire.proofs.Picks.{not_both}
 use Rattle.check_bitmap.proofs.agrees.Goals as goal
+use Rattle.check_bitmap.proofs.agrees.Goals.{then-same_bytes, else-same_bytes}
 
-pub mark_bytes-m-requires : goal.mark_bytes-m-requires
-mark_bytes-m-requires c = record { area_le_blocks = search (area_inside, rules); blocks_bound = search (few_blocks, rules) }
-
-pub slice_bounds-same_bytes-end : goal.slice_bounds-same_bytes-end
-slice_bounds-same_bytes-end c = search (marks_long, rules)
+pub mark_bytes-m-requires-clause-area_le_blocks : goal.mark_bytes-m-requires-clause-area_le_blocks
+mark_bytes-m-requires-clause-area_le_blocks c = search (area_inside, rules)
 
 pub same_bytes-requires : goal.same_bytes-requires
 same_bytes-requires c = search (marks_in, rules)
 
-pub returns-then-not-same_bytes : goal.returns-then-not-same_bytes
-returns-then-not-same_bytes c = search (marks_differ, rules)
-
-pub overflow_sub-m : goal.overflow_sub-m
-overflow_sub-m c = search (both_in, rules)
-
-pub zero_bytes-requires : goal.zero_bytes-requires
-zero_bytes-requires c = search (left_in, rules)
-
-pub returns-then-not-zero_bytes : goal.returns-then-not-zero_bytes
-returns-then-not-zero_bytes c = search (marks_bare, rules)
-
-pub overflow_add-past : goal.overflow_add-past
-overflow_add-past c = search (past_fits, rules)
+pub returns-else-zero_bytes : goal.returns-else-zero_bytes
+returns-else-zero_bytes c =
+    elim c.if-same_bytes.branch [
+      | then-same_bytes w ↦ let y = sym w.value-is ∙ c.if-zero_bytes.false in c.if-zero_bytes.false ∙ search (marks_bare, w.if-same_bytes.true, w.zero_bytes.ensures, y, rules)
+      | else-same_bytes w ↦ c.if-zero_bytes.false ∙ search (marks_differ, w.if-same_bytes.false, rules)
+    ]
 
 pub overflow_sub-end : goal.overflow_sub-end
 overflow_sub-end c = search (past_in, rules)
 
-pub zero_bytes-requires-2 : goal.zero_bytes-requires-2
-zero_bytes-requires-2 c = search (past_image, rules)
+pub zero_bytes-requires-then-zero_bytes : goal.zero_bytes-requires-then-zero_bytes
+zero_bytes-requires-then-zero_bytes c = search (past_image, rules)
 
-pub returns : goal.returns
-returns c = search (marks_tested, rules)
+pub returns-then-zero_bytes : goal.returns-then-zero_bytes
+returns-then-zero_bytes c =
+    elim c.if-same_bytes.branch [
+      | then-same_bytes w ↦ let y = sym w.value-is ∙ c.if-zero_bytes.true in search (marks_tested, w.if-same_bytes.true, w.zero_bytes.ensures, y, rules)
+      | else-same_bytes w ↦ absurd (not_both c.if-zero_bytes.true (w.value-is ∙ w.if-same_bytes.false))
+    ]

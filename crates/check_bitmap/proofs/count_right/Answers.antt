@@ -1,5 +1,5 @@
 use borrow.Author.Rules.{rules}
-use Rattle.check_bitmap.proofs.Answers.{bits_in, sum_fits, count_tested}
+use Rattle.check_bitmap.proofs.Answers.{bits_in, sum_fits}
 use Rattle.check_bitmap.proofs.count_right.Goals as goal
 
 pub count-set-requires : goal.count-set-requires
@@ -7,6 +7,3 @@ count-set-requires c = search (bits_in, rules)
 
 pub overflow_add-result : goal.overflow_add-result
 overflow_add-result c = search (sum_fits, rules)
-
-pub returns : goal.returns
-returns c = search (count_tested, rules)

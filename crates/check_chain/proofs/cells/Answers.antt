@@ -1,29 +1,17 @@
 use borrow.Author.Rules.{rules}
-use borrow.Author.Tests.{not-true, not-false}
-use Rattle.check_chain.proofs.Chains.{left_start, left_step, left_stop, left_end, left_over, file_done, file_over, file_stop, file_next, still_long, claimed_linked, next_is}
-use Rattle.super_block.proofs.Fits.{few_blocks}
+use Rattle.check_chain.proofs.Chains.{left_start, left_step, left_stop, left_answer, file_done, file_over, file_stop, file_next}
 use Rattle.check_chain.proofs.cells.Goals as goal
 
-pub loop-left-init : goal.loop-left-init
-loop-left-init c = (search rules, search rules, left_start _ _ _ _ _)
-
-pub claim-requires : goal.claim-requires
-claim-requires c = record { blocks_bound = search (few_blocks, rules); s_in_bounds = search (still_long, rules) }
+pub loop-init : goal.loop-init
+loop-init c = (search rules, left_start _ _ _ _ _)
 
 pub returns-then-not-claim : goal.returns-then-not-claim
 returns-then-not-claim c =
-    left_stop _ _ _ _ _ _ _ _ c.loop-left.invariant.2 _ _ _ c.loop-left-test.true c.claim.ensures.marks_answer (not-true _ c.if-not-claim.true-raw) (file_stop _ _ _)
+    left_stop _ _ _ _ _ _ _ _ c.loop.invariant.1 _ _ _ c.loop-test.true c.claim.ensures.marks_answer c.if-not-claim.true (file_stop _ _ _)
 
-pub next_addr-b-requires : goal.next_addr-b-requires
-next_addr-b-requires c = record { block_size = search rules; size_in_bounds = search (claimed_linked, not-false, rules) }
-
-pub loop-left-preserved : goal.loop-left-preserved
-loop-left-preserved c =
-    let to = next_is _ _ _ c.new.ensures.0 c.new.ensures.1 c.next_addr-b.ensures in
-    (search rules, search rules, left_step _ _ _ _ _ _ _ _ c.loop-left.invariant.2 _ _ _ c.loop-left-test.true c.claim.ensures.marks_answer _ (not-false _ c.if-not-claim.false-raw) (file_next _ _ _ _ to))
-
-pub returns-then-b-eq0 : goal.returns-then-b-eq0
-returns-then-b-eq0 c = left_end _ _ _ _ _ _ _ _ c.loop-left.invariant.2 c.loop-left-test.false (file_done _ _ _ c.if-b-eq0.true)
+pub loop-preserved : goal.loop-preserved
+loop-preserved c =
+    (search rules, left_step _ _ _ _ _ _ _ _ c.loop.invariant.1 _ _ _ c.loop-test.true c.claim.ensures.marks_answer _ c.if-not-claim.false (file_next _ _ _ _ c.next_addr-b.ensures))
 
 pub returns : goal.returns
-returns c = left_over _ _ _ _ _ _ _ _ c.loop-left.invariant.2 c.loop-left-test.false (file_over _ _ _ c.if-b-eq0.false)
+returns c = left_answer _ _ _ _ _ _ _ _ c.loop.invariant.1 _ c.loop-test.false (file_done _ _ _) (file_over _ _ _)

@@ -1,30 +1,22 @@
-use Prim.Native.Nat.{◌-◌}
 use borrow.Author.Rules.{rules}
-use borrow.Author.Tests.{not-true, not-false}
-use Rattle.check_chain.proofs.Chains.{left_start, still_long, claimed_linked, next_is}
-use Rattle.check_dir.proofs.DirBlocks.{later_long, later_no, later_yes, later_done}
+use mathlib.Core.Path.{refl}
+use Rattle.check_chain.proofs.Chains.{left_start}
+use Rattle.check_dir.proofs.DirBlocks.{later_no, later_yes, later_done, later_answer}
 use Rattle.check_dir.proofs.later.Goals as goal
 
-pub loop-b-init : goal.loop-b-init
-loop-b-init c = (search rules, search rules, left_start _ _ _ _ _)
+pub loop-init : goal.loop-init
+loop-init c = (refl, left_start _ _ _ _ _)
 
-pub returns-then-left-eq0 : goal.returns-then-left-eq0
-returns-then-left-eq0 c = later_long _ _ _ _ _ _ _ _ c.loop-b.invariant.2 c.loop-b-test.true c.if-left-eq0.true
-
-pub block-requires : goal.block-requires
-block-requires c = record { fit = search rules; s_in_bounds = search (still_long, rules) }
+pub returns-then-b-eq0 : goal.returns-then-b-eq0
+returns-then-b-eq0 c = later_done _ _ _ _ _ _ _ _ c.loop.invariant.1 c.if-b-eq0.true
 
 pub returns-then-not-block : goal.returns-then-not-block
 returns-then-not-block c =
-    later_no _ _ _ _ _ _ _ _ c.loop-b.invariant.2 _ _ c.block.ensures.marks_answer c.loop-b-test.true c.if-left-eq0.false (not-true _ c.if-not-block.true-raw)
+    later_no _ _ _ _ _ _ _ _ c.loop.invariant.1 _ _ c.loop-test.true c.block.ensures.marks_answer c.if-b-eq0.false c.if-not-block.true
 
-pub next_addr-b-requires : goal.next_addr-b-requires
-next_addr-b-requires c = record { block_size = search rules; size_in_bounds = search (claimed_linked, not-false, rules) }
-
-pub loop-b-preserved : goal.loop-b-preserved
-loop-b-preserved c =
-    let to = next_is _ _ _ c.new.ensures.0 c.new.ensures.1 c.next_addr-b.ensures in
-    (search rules, search rules, later_yes _ _ _ _ _ _ _ _ c.loop-b.invariant.2 _ _ c.block.ensures.marks_answer c.loop-b-test.true c.if-left-eq0.false _ (not-false _ c.if-not-block.false-raw) to)
+pub loop-preserved : goal.loop-preserved
+loop-preserved c =
+    (search rules, later_yes _ _ _ _ _ _ _ _ c.loop.invariant.1 _ _ c.loop-test.true c.block.ensures.marks_answer c.if-b-eq0.false _ c.if-not-block.false c.next_addr-b.ensures)
 
 pub returns : goal.returns
-returns c = later_done _ _ _ _ _ _ _ _ c.loop-b.invariant.2 c.loop-b-test.false
+returns c = later_answer _ _ _ _ _ _ _ _ c.loop.invariant.1 c.loop-test.false _ refl

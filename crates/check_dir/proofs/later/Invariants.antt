@@ -1,4 +1,3 @@
-use Prim.Native.Nat.{◌-◌, ◌≤◌}
 use mathlib.Core.Path.{◌≡◌}
 use lib.ListN.{length}
 use Rattle.check_chain.proofs.Chains.{Left}
@@ -6,8 +5,5 @@ use Rattle.check_dir.proofs.DirBlocks.{later_check}
 use Rattle.super_block.specs.Super.{area_in}
 use Rattle.check_dir.proofs.later.Given as goal
 
-abbrev pub invariant-loop-b : goal.invariant-loop-b
-invariant-loop-b l = (l.left ≤ l.k) × (length l.work ≡ length l.initial.work) × Left (area_in l.s) (later_check (area_in l.s) l.img) l.initial.work l.k l.initial.b.0 l.work l.b.0 l.left
-
-abbrev pub decreases-loop-b : goal.decreases-loop-b
-decreases-loop-b l = l.left
+abbrev pub invariant-loop : goal.invariant-loop
+invariant-loop l = (length l.work ≡ length l.initial.work) × Left (area_in l.v.s) (later_check (area_in l.v.s) l.v.img.now) l.initial.work l.k l.initial.b.0 l.work l.b.0 l.counter

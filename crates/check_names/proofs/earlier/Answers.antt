@@ -1,30 +1,17 @@
 use Rattle.check_names.proofs.Along.{earlier_again, earlier_hit, earlier_end, earlier_bad, earlier_none}
-use Rattle.read_dir.proofs.Along.{entry_inside, entry_ends}
-use borrow.Author.Rules.{rules}
-use mathlib.Core.Path.{refl}
-use Rattle.super_block.proofs.Fits.{area_inside}
 use Rattle.check_names.proofs.earlier.Goals as goal
 
-pub new-c-requires : goal.new-c-requires
-new-c-requires c = search area_inside
-
-pub loop-left-init : goal.loop-left-init
-loop-left-init c = refl
-
-pub named-requires : goal.named-requires
-named-requires c = record { block_size = search rules; size_in_bounds = search entry_inside; len_bound = search entry_ends }
-
 pub returns-then-named : goal.returns-then-named
-returns-then-named c = search (earlier_hit, rules)
+returns-then-named c = search (earlier_hit, c.in-Ok-Some.ensures)
 
-pub loop-left-preserved : goal.loop-left-preserved
-loop-left-preserved c = search (earlier_again, rules)
+pub returns-in-Ok-None : goal.returns-in-Ok-None
+returns-in-Ok-None c = search (earlier_end, c.in-Ok-None.ensures)
 
-pub returns-in-End : goal.returns-in-End
-returns-in-End c = search earlier_end
+pub returns-in-Err : goal.returns-in-Err
+returns-in-Err c = search (earlier_bad, c.in-Err.ensures)
 
-pub returns-in-Damaged : goal.returns-in-Damaged
-returns-in-Damaged c = search earlier_bad
+pub loop-preserved : goal.loop-preserved
+loop-preserved c = search (earlier_again, c.in-Ok-Some.ensures)
 
 pub returns : goal.returns
 returns c = search earlier_none

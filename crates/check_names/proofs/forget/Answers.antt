@@ -1,28 +1,18 @@
 use Rattle.check_names.proofs.Marks.{clear_filled}
 use Rattle.check_names.proofs.Along.{forget_start, forget_again, forget_end, forget_bad}
-use Rattle.read_dir.proofs.Along.{entry_inside, entry_ends}
-use borrow.Author.Rules.{rules}
-use mathlib.Core.Path.{refl}
-use Rattle.super_block.proofs.Fits.{area_inside}
 use Rattle.check_names.proofs.forget.Goals as goal
 
-pub new-c-requires : goal.new-c-requires
-new-c-requires c = search area_inside
+pub loop-init : goal.loop-init
+loop-init c = search forget_start
 
-pub loop-left-init : goal.loop-left-init
-loop-left-init c = (search forget_start, refl)
+pub loop-preserved : goal.loop-preserved
+loop-preserved c = search (forget_again, c.in-Ok-Some.ensures)
 
-pub name_of-requires : goal.name_of-requires
-name_of-requires c = record { block_size = search rules; size_in_bounds = search entry_inside; len_bound = search entry_ends }
+pub returns-in-Ok-None : goal.returns-in-Ok-None
+returns-in-Ok-None c = search (forget_end, c.in-Ok-None.ensures)
 
-pub loop-left-preserved : goal.loop-left-preserved
-loop-left-preserved c = (search forget_again, search rules)
-
-pub returns-in-End : goal.returns-in-End
-returns-in-End c = search forget_end
-
-pub returns-in-Damaged : goal.returns-in-Damaged
-returns-in-Damaged c = search forget_bad
+pub returns-in-Err : goal.returns-in-Err
+returns-in-Err c = search (forget_bad, c.in-Err.ensures)
 
 pub returns : goal.returns
-returns c = search (clear_filled, rules)
+returns c = search (clear_filled, c.fill.ensures.after (λ y e. e))

@@ -1,13 +1,8 @@
-use lib.ListN.{length}
 use Rattle.check_names.specs.Filter.{Only}
 use Rattle.check_names.specs.Names.{names_in}
 use Rattle.read_dir.specs.Cursor.{cursor_walk}
-use mathlib.Core.Path.{◌≡◌}
 use Rattle.super_block.specs.Super.{area_in}
 use Rattle.check_names.proofs.forget.Given as goal
 
-abbrev pub invariant-loop-left : goal.invariant-loop-left
-invariant-loop-left l = Only l.filter (names_in (cursor_walk (area_in l.s) l.img l.c)) × (length l.filter ≡ length l.initial.filter)
-
-abbrev pub decreases-loop-left : goal.decreases-loop-left
-decreases-loop-left l = l.left
+abbrev pub invariant-loop : goal.invariant-loop
+invariant-loop l = Only l.filter (names_in (cursor_walk (area_in l.v.s) l.v.img.now l.c))

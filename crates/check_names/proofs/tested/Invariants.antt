@@ -1,14 +1,11 @@
-use Prim.Native.Nat.{◌<◌}
-use lib.ListN.{length}
 use Rattle.check_names.proofs.Along.{Met}
 use Rattle.read_dir.specs.Cursor.{cursor_walk, items}
 use Rattle.read_dir.specs.Walk.{walk}
-use mathlib.Core.Path.{◌≡◌}
 use Rattle.super_block.specs.Super.{area_in}
 use Rattle.check_names.proofs.tested.Given as goal
 
-abbrev pub invariant-loop-e : goal.invariant-loop-e
-invariant-loop-e l = Met l.filter l.m l.k l.i (walk (area_in l.s) l.img l.dir.0) (cursor_walk (area_in l.s) l.img l.c) × (length l.filter ≡ length l.initial.filter) × (0 < l.m)
+abbrev pub invariant-loop-x : goal.invariant-loop-x
+invariant-loop-x l = Met l.filter l.p.m l.p.k l.i (walk (area_in l.v.s) l.v.img.now l.dir.0) (cursor_walk (area_in l.v.s) l.v.img.now l.c)
 
-abbrev pub decreases-loop-e : goal.decreases-loop-e
-decreases-loop-e l = items (cursor_walk (area_in l.s) l.img l.c)
+abbrev pub decreases-loop-x : goal.decreases-loop-x
+decreases-loop-x l = items (cursor_walk (area_in l.v.s) l.v.img.now l.c)

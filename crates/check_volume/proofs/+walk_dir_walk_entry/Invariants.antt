@@ -11,11 +11,10 @@ decreases-walk_dir l = 2 * l.depth + 1
 abbrev pub decreases-walk_entry : goal.decreases-walk_entry
 decreases-walk_entry l = 2 * l.depth
 
-abbrev pub invariant-walk_dir-loop-e : goal.invariant-walk_dir-loop-e
-invariant-walk_dir-loop-e l =
+abbrev pub invariant-walk_dir-loop-x : goal.invariant-walk_dir-loop-x
+invariant-walk_dir-loop-x l =
     (length l.work ≡ length l.initial.work)
-    × (l.filter ≡ l.initial.filter)
-    × Rest (area_in l.s) (entry_check (area_in l.s) l.img l.depth) l.initial.work (cursor_walk (area_in l.s) l.img l.initial.c) l.work (cursor_walk (area_in l.s) l.img l.c)
+    × Rest (area_in l.v.s) (entry_check (area_in l.v.s) l.v.img.now l.depth) l.initial.work (cursor_walk (area_in l.v.s) l.v.img.now l.initial.c) l.work (cursor_walk (area_in l.v.s) l.v.img.now l.c)
 
-abbrev pub decreases-walk_dir-loop-e : goal.decreases-walk_dir-loop-e
-decreases-walk_dir-loop-e l = items (cursor_walk (area_in l.s) l.img l.c)
+abbrev pub decreases-walk_dir-loop-x : goal.decreases-walk_dir-loop-x
+decreases-walk_dir-loop-x l = items (cursor_walk (area_in l.v.s) l.v.img.now l.c)

@@ -1,14 +1,23 @@
-use Rattle.create.proofs.Sites.{create_refused, create_leaves, create_block, create_stores, asked_room, asked_spot}
-use Rattle.super_block.proofs.Fits.{ready_fit}
-use borrow.Author.Rules.{rules}
+use mathlib.Core.Path.{◌∙◌}
+use Rattle.super_block.specs.Super.{geo_of}
+use Rattle.dir.specs.Post.{hold_of}
+use Rattle.dir.proofs.Answers.{passed_on}
+use Rattle.create.specs.Post.{made}
+use Rattle.create.proofs.Sites.{create_refused, create_leaves, create_block, create_stores}
 use Rattle.create.proofs.create_in.Goals as goal
 
-pub insert-a-requires : goal.insert-a-requires
-insert-a-requires c =
-    record { fit = search (ready_fit, rules); room = search asked_room; spot_in = search asked_spot; name_len_bound = search rules; own_in = search rules }
+pub returns-in_err-spot-clause-result_value : goal.returns-in_err-spot-clause-result_value
+returns-in_err-spot-clause-result_value c =
+    passed_on made _ _ c.from_residual.ensures.1 ∙ create_refused (geo_of c.args.s) c.args.img.now _ _ c.in_err-spot.ensures.result_value
 
-pub returns-in-Refused : goal.returns-in-Refused
-returns-in-Refused c = record { result_value = search create_refused; img_after = search create_leaves }
+pub returns-in_err-spot-clause-img_after : goal.returns-in_err-spot-clause-img_after
+returns-in_err-spot-clause-img_after c = create_leaves (geo_of c.args.s) c.args.img.now _ c.args.kind c.args.name.bytes.now c.args.time _ c.in_err-spot.ensures.result_value
 
-pub returns-in-At : goal.returns-in-At
-returns-in-At c = record { result_value = search create_block; img_after = search create_stores }
+pub returns-clause-result_value : goal.returns-clause-result_value
+returns-clause-result_value c =
+    create_block (geo_of c.args.s) c.args.img.now _ (hold_of c.args.h) c.in_ok-spot.spot c.in_ok-spot.ensures.result_value _ c.insert-block.ensures.1
+
+pub returns-clause-img_after : goal.returns-clause-img_after
+returns-clause-img_after c =
+    create_stores (geo_of c.args.s) c.args.img.now _ (hold_of c.args.h) c.in_ok-spot.spot c.in_ok-spot.ensures.result_value
+    c.args.kind c.args.name.bytes.now c.args.time _ c.insert-block.ensures.0

@@ -1,19 +1,25 @@
+use mathlib.Core.Path.{◌∙◌}
+use Rattle.dir.specs.Post.{hold_of}
+use Rattle.dir.proofs.Answers.{passed_on}
+use Rattle.create.specs.Post.{sited}
 use Rattle.create.proofs.Sites.{site_damaged, site_full, site_free, spot_room, spot_in}
-use Rattle.super_block.proofs.Fits.{ready_fit}
-use borrow.Author.Rules.{rules}
 use Rattle.create.proofs.site_at.Goals as goal
 
-pub spot_for-spot-requires : goal.spot_for-spot-requires
-spot_for-spot-requires c = search (ready_fit, rules)
+pub returns-in_err-spot-clause-result_value : goal.returns-in_err-spot-clause-result_value
+returns-in_err-spot-clause-result_value c =
+    passed_on (sited (hold_of c.args.h)) _ _ c.from_residual.ensures.1
+    ∙ site_damaged c.args.v.s c.args.v.img.now (hold_of c.args.h) _ _ c.in_err-spot.ensures
 
-pub returns-then-needed-eq0 : goal.returns-then-needed-eq0
-returns-then-needed-eq0 c = record { result_value = search site_damaged; sited_in = tt }
+pub returns-then-lacks-clause-result_value : goal.returns-then-lacks-clause-result_value
+returns-then-lacks-clause-result_value c =
+    site_full c.args.v.s c.args.v.img.now (hold_of c.args.h) _ _ c.in_ok-spot.ensures _ c.blocks_needed-needed.ensures _ c.lacks.ensures c.if-lacks.true
 
-pub lacks-requires : goal.lacks-requires
-lacks-requires c = search (ready_fit, rules)
+pub returns-clause-result_value : goal.returns-clause-result_value
+returns-clause-result_value c =
+    site_free c.args.v.s c.args.v.img.now (hold_of c.args.h) _ _ c.in_ok-spot.ensures _ c.blocks_needed-needed.ensures _ c.lacks.ensures c.if-lacks.false
 
-pub returns-then-lacks : goal.returns-then-lacks
-returns-then-lacks c = record { result_value = search site_full; sited_in = tt }
-
-pub returns : goal.returns
-returns c = record { result_value = search site_free; sited_in = (search spot_room, search spot_in) }
+pub returns-clause-sited_in : goal.returns-clause-sited_in
+returns-clause-sited_in c = (
+  spot_room c.args.v.s c.args.v.img.now c.in_ok-spot.spot _ c.blocks_needed-needed.ensures _ c.requires c.lacks.ensures c.if-lacks.false,
+  spot_in c.args.v.s c.args.v.img.now c.in_ok-spot.spot _ _ c.in_ok-spot.ensures,
+)

@@ -4,7 +4,7 @@ use Prim.Native.Nat.{◌-◌, ◌≤◌}
 use Rattle.create_store.proofs.used_bytes.Given as goal
 
 abbrev pub invariant-loop-e : goal.invariant-loop-e
-invariant-loop-e l = (l.at ≤ l.size - 5) × (stop_from l.size l.img (l.size - l.at) l.block.0 l.at ≡ used_at l.size l.img l.block.0)
+invariant-loop-e l = (l.at ≤ l.v.s.size - 5) × (stop_from l.v.s.size l.v.img.now (l.v.s.size - l.at) l.fn.block.0 l.at ≡ used_at l.v.s.size l.v.img.now l.fn.block.0)
 
 abbrev pub decreases-loop-e : goal.decreases-loop-e
-decreases-loop-e l = l.size - l.at
+decreases-loop-e l = l.v.s.size - l.at

@@ -1,17 +1,41 @@
+use mathlib.Core.Path.{◌∙◌}
+use Rattle.dir.proofs.Answers.{said_no}
+use Rattle.delete.specs.Post.{doomed}
 use Rattle.delete.proofs.Answers.{begins_in, lies_from, lies_below, lies_ends, own_inside, deleted_done, image_done, deleted-refused, image_refused}
-use Rattle.super_block.proofs.Fits.{ready_fit}
-use borrow.Author.Rules.{rules}
 use Rattle.delete.proofs.delete.Goals as goal
 
-pub doomed_of-dooms-requires : goal.doomed_of-dooms-requires
-doomed_of-dooms-requires c = search (ready_fit, rules)
+pub returns-in_err-h-clause-result_value : goal.returns-in_err-h-clause-result_value
+returns-in_err-h-clause-result_value c =
+    said_no _ _ c.from_residual.ensures.1 ∙ deleted-refused c.args.s c.args.img.now c.args.full.now _ c.in_err-h.ensures
 
-pub remove-requires : goal.remove-requires
-remove-requires c =
-    record { fit = search (ready_fit, rules); dir_lt_blocks = search begins_in; area_le_block = search lies_from; block_lt_blocks = search lies_below; len_bound = search lies_ends; own_in = search own_inside }
+pub returns-in_err-h-clause-img_after : goal.returns-in_err-h-clause-img_after
+returns-in_err-h-clause-img_after c = image_refused c.args.s c.args.img.now c.args.full.now _ c.in_err-h.ensures c.args.time
 
-pub returns-in-At : goal.returns-in-At
-returns-in-At c = record { result_value = search deleted_done; img_after = search (image_done, rules) }
+pub remove-requires-clause-dir_lt_blocks : goal.remove-requires-clause-dir_lt_blocks
+remove-requires-clause-dir_lt_blocks c =
+    begins_in c.args.s c.args.img.now c.args.full.now c.requires (doomed (c.in_ok-h.h, c.in_ok-h.x)) c.in_ok-h.ensures
 
-pub returns-in-Refused : goal.returns-in-Refused
-returns-in-Refused c = record { result_value = search deleted-refused; img_after = search (image_refused, rules) }
+pub remove-requires-clause-area_le_block : goal.remove-requires-clause-area_le_block
+remove-requires-clause-area_le_block c =
+    lies_from c.args.s c.args.img.now c.args.full.now c.requires (doomed (c.in_ok-h.h, c.in_ok-h.x)) c.in_ok-h.ensures
+
+pub remove-requires-clause-block_lt_blocks : goal.remove-requires-clause-block_lt_blocks
+remove-requires-clause-block_lt_blocks c =
+    lies_below c.args.s c.args.img.now c.args.full.now c.requires (doomed (c.in_ok-h.h, c.in_ok-h.x)) c.in_ok-h.ensures
+
+pub remove-requires-clause-len_bound : goal.remove-requires-clause-len_bound
+remove-requires-clause-len_bound c =
+    lies_ends c.args.s c.args.img.now c.args.full.now c.requires (doomed (c.in_ok-h.h, c.in_ok-h.x)) c.in_ok-h.ensures
+
+pub remove-requires-clause-own_in : goal.remove-requires-clause-own_in
+remove-requires-clause-own_in c =
+    own_inside c.args.s c.args.img.now c.args.full.now c.requires (doomed (c.in_ok-h.h, c.in_ok-h.x)) c.in_ok-h.ensures
+
+pub returns-clause-result_value : goal.returns-clause-result_value
+returns-clause-result_value c =
+    deleted_done c.args.s c.args.img.now c.args.full.now c.requires (doomed (c.in_ok-h.h, c.in_ok-h.x)) c.in_ok-h.ensures
+
+pub returns-clause-img_after : goal.returns-clause-img_after
+returns-clause-img_after c =
+    image_done c.args.s c.args.img.now c.args.full.now c.requires (doomed (c.in_ok-h.h, c.in_ok-h.x)) c.in_ok-h.ensures
+    _ c.args.time c.remove.ensures

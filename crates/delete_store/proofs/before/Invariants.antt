@@ -3,8 +3,5 @@ use Prim.Native.Nat.{◌-◌, ◌<◌}
 use Rattle.delete_store.specs.Delete.{before_from}
 use Rattle.delete_store.proofs.before.Given as goal
 
-abbrev pub invariant-loop-left : goal.invariant-loop-left
-invariant-loop-left l = (l.a.0 < l.s.blocks) × (before_from l.s.size l.s.blocks l.img l.left l.a.0 l.b.0 ≡ before_from l.s.size l.s.blocks l.img (l.s.blocks - l.s.area.0) l.initial.a.0 l.b.0)
-
-abbrev pub decreases-loop-left : goal.decreases-loop-left
-decreases-loop-left l = l.left
+abbrev pub invariant-loop : goal.invariant-loop
+invariant-loop l = (l.a.0 < l.v.s.blocks) × (before_from l.v.s.size l.v.s.blocks l.v.img.now (l.v.s.blocks - l.counter) l.a.0 l.b.0 ≡ before_from l.v.s.size l.v.s.blocks l.v.img.now (l.v.s.blocks - l.v.s.area.0) l.initial.a.0 l.b.0)

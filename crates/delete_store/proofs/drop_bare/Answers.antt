@@ -1,12 +1,9 @@
-use Rattle.delete_store.proofs.Answers.{bare_inside, bare_first, bare_gone, bare_kept}
+use Rattle.delete_store.proofs.Answers.{bare_first, bare_gone, bare_kept}
 use borrow.Author.Rules.{rules}
 use Rattle.delete_store.proofs.drop_bare.Goals as goal
 
 pub returns-then-b-dir : goal.returns-then-b-dir
 returns-then-b-dir c = search (bare_first, rules)
-
-pub zero_bytes-requires : goal.zero_bytes-requires
-zero_bytes-requires c = search (bare_inside, rules)
 
 pub returns-then-zero_bytes : goal.returns-then-zero_bytes
 returns-then-zero_bytes c = search (bare_gone, rules)

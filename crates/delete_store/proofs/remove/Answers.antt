@@ -1,14 +1,6 @@
 use Rattle.delete_store.proofs.Answers.{fit_twice, own_still, removed_in}
-use Rattle.chain_store.proofs.Answers.{still_fit}
 use borrow.Author.Rules.{rules}
 use Rattle.delete_store.proofs.remove.Goals as goal
-
-pub take_out-requires : goal.take_out-requires
-take_out-requires c =
-    record { fit = search rules; dir_lt_blocks = search rules; area_le_block = search rules; block_lt_blocks = search rules; len_bound = search rules }
-
-pub free_all-requires : goal.free_all-requires
-free_all-requires c = search (still_fit, rules)
 
 pub renew_sum-requires : goal.renew_sum-requires
 renew_sum-requires c =

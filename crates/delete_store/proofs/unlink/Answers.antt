@@ -5,11 +5,8 @@ use Rattle.block.proofs.Blocks.{linked_inside}
 use Rattle.super_block.proofs.Fits.{fit_inside}
 use Rattle.delete_store.proofs.unlink.Goals as goal
 
-pub next_addr-to-requires : goal.next_addr-to-requires
-next_addr-to-requires c = record { block_size = search rules; size_in_bounds = search (linked_inside, fit_inside) }
-
 pub set_next_addr-requires : goal.set_next_addr-requires
-set_next_addr-requires c = record { block_size = search rules; size_in_bounds = search (linked_inside, fit_inside) }
+set_next_addr-requires c = search (linked_inside, fit_inside)
 
 pub release-requires : goal.release-requires
 release-requires c = search (still_fit, rules)

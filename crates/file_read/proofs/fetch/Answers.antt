@@ -1,24 +1,17 @@
-use borrow.Author.Rules.{rules}
-use Rattle.file_read.proofs.Fetches.{fetch_place, fetch_end, fetch_fits, fetch_room, fetch_from, fetch_cast, fetch_whole, fetch_lost, fetch_given}
+use Rattle.file_read.proofs.Fetches.{fetch_place, fetch_end, fetch_fits, fetch_lost, fetch_given}
 use Rattle.file_read.proofs.fetch.Goals as goal
 
 pub count-k-requires : goal.count-k-requires
 count-k-requires c = search fetch_place
 
 pub begin-requires : goal.begin-requires
-begin-requires c = record { fit = search rules; k_bound = search fetch_end }
+begin-requires c = search fetch_end
 
-pub overflow_cast-p : goal.overflow_cast-p
-overflow_cast-p c = search fetch_cast
+pub overflow_add-handle : goal.overflow_add-handle
+overflow_add-handle c = search fetch_fits
 
-pub pour-requires : goal.pour-requires
-pour-requires c = record { fit = search rules; o_bound = search fetch_from; k_in_bounds = search fetch_room; whole = search fetch_whole }
+pub returns-in_err-b : goal.returns-in_err-b
+returns-in_err-b c = search (fetch_lost, c.in_err-b.ensures)
 
-pub overflow_add-p : goal.overflow_add-p
-overflow_add-p c = search fetch_fits
-
-pub returns-in-Damaged : goal.returns-in-Damaged
-returns-in-Damaged c = search fetch_lost
-
-pub returns-in-At : goal.returns-in-At
-returns-in-At c = search fetch_given
+pub returns : goal.returns
+returns c = search (fetch_given, c.in_ok-b.ensures)

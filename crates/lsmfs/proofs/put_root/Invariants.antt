@@ -1,8 +1,8 @@
 use Prim.Native.Nat.{◌-◌, ◌^◌, ◌<◌}
 use Rattle.lsmfs.proofs.put_root.Given as goal
 
-abbrev pub invariant-loop-i : goal.invariant-loop-i
-invariant-loop-i g l = (l.i < 2 ^ 32) × (l.next < 2 ^ 32)
+abbrev pub invariant-loop-next : goal.invariant-loop-next
+invariant-loop-next g l = l.i < 2 ^ 32
 
-abbrev pub decreases-loop-i : goal.decreases-loop-i
-decreases-loop-i g l = 2 ^ 32 - l.i
+abbrev pub decreases-loop-next : goal.decreases-loop-next
+decreases-loop-next g l = 2 ^ 32 - l.i

@@ -9,4 +9,4 @@ returns-then-left-lt-RECORD c = whole_short c.args.records.now c.args.at (omega 
 pub returns : goal.returns
 returns c =
     let a = c.args in
-    rw c.wide.ensures.0 (whole_room a.at _ (length a.records.now) (omega arith))
+    rw c.from.ensures (whole_room a.at _ (length a.records.now) (omega arith))

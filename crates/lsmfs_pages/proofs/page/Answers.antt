@@ -1,16 +1,25 @@
+use mathlib.Core.Path.{sym}
+use lib.Seq.{length-take-le}
+use Rattle.limits.proofs.Passed.{err_is}
 use Rattle.model.specs.Geometry.{mount}
-use Rattle.lsmfs_pages.proofs.Paged.{answer_within, answer_turned}
+use Rattle.lsmfs_pages.proofs.Paged.{page_within, page_written, page_refused}
 use borrow.Author.Rules.{rules}
 use Rattle.lsmfs_pages.proofs.page.Goals as goal
 
-pub in_text-requires : goal.in_text-requires
-in_text-requires c =
+pub returns-in_err-l : goal.returns-in_err-l
+returns-in_err-l c = rw (err_is c.from_residual.result c.from_residual.ensures.1) (page_refused _ _ _ _ _ _ c.in_err-l.ensures _)
+
+pub slice_bounds-records-end : goal.slice_bounds-records-end
+slice_bounds-records-end c =
     let a = c.args in
-    let s = c.list-l in
-    record { page_fits = answer_within (mount a.k 0) a.img.now a.i _ _ (λ j. (c.type_inv.img j).fits) s.result s.ensures (search rules); records_in_bounds = search rules }
+    page_within (mount a.k 0) a.img.now a.i _ _ (λ j. (c.type_inv.img j).fits) _ c.in_ok-l.ensures (search rules)
+
+pub slice_bounds-text-end : goal.slice_bounds-text-end
+slice_bounds-text-end c =
+    let a = c.args in
+    sym (length-take-le _ _ (page_within (mount a.k 0) a.img.now a.i _ _ (λ j. (c.type_inv.img j).fits) _ c.in_ok-l.ensures (search rules)))
 
 pub returns : goal.returns
 returns c =
     let a = c.args in
-    let s = c.list-l in
-    answer_turned (mount a.k 0) a.img.now a.i _ _ (λ j. (c.type_inv.img j).fits) s.result a.out.now _ _ s.ensures c.in_text.ensures
+    page_written (mount a.k 0) a.img.now a.i _ _ (λ j. (c.type_inv.img j).fits) _ c.in_ok-l.ensures _ _ _ c.text-bytes.ensures.out_after (search rules)

@@ -1,8 +1,8 @@
 use Rattle.mfs_c.proofs.Told.{seek_refused, seek_moved}
 use Rattle.mfs_c.proofs.seek.Goals as goal
 
-pub returns-in-Refused : goal.returns-in-Refused
-returns-in-Refused c = search seek_refused
+pub returns-in-Err : goal.returns-in-Err
+returns-in-Err c = search seek_refused
 
-pub returns-in-Success : goal.returns-in-Success
-returns-in-Success c = search seek_moved
+pub returns-in-Ok : goal.returns-in-Ok
+returns-in-Ok c = search seek_moved

@@ -1,9 +1,9 @@
-use Rattle.name_filter.proofs.Marks.{pair_low, pair_both}
 use borrow.Author.Rules.{rules}
+use Rattle.name_filter.proofs.Marks.{pair_low, pair_both}
 use Rattle.name_filter.proofs.pair.Goals as goal
 
-pub returns-then-low-eq0 : goal.returns-then-low-eq0
-returns-then-low-eq0 c = search (pair_low, rules)
+pub returns-then-bit_at-eq1 : goal.returns-then-bit_at-eq1
+returns-then-bit_at-eq1 c = search (pair_both, rules)
 
-pub returns : goal.returns
-returns c = search (pair_both, rules)
+pub returns-else-bit_at-eq1 : goal.returns-else-bit_at-eq1
+returns-else-bit_at-eq1 c = search (pair_low, rules)

@@ -1,22 +1,18 @@
-use Rattle.patch.proofs.Stores.{store_can, store_end, store_few, patch_refused, patch_done}
-use Rattle.super_block.proofs.Fits.{ready_fit}
 use borrow.Author.Rules.{rules}
+use Rattle.patch.proofs.Stores.{store_can, store_few, store_sum, patch_refused, patch_done}
 use Rattle.patch.proofs.patch.Goals as goal
 
-pub target_of-targeted-requires : goal.target_of-targeted-requires
-target_of-targeted-requires c = search (ready_fit, rules)
+pub returns-in_err-at : goal.returns-in_err-at
+returns-in_err-at c = search (patch_refused, c.in_err-at.ensures)
 
-pub patch-requires : goal.patch-requires
-patch-requires c = record { fit = search (ready_fit, rules); can_patch = search store_can }
+pub patch-requires-clause-can_patch : goal.patch-requires-clause-can_patch
+patch-requires-clause-can_patch c = search (store_can, c.in_ok-at.ensures)
 
-pub overflow_cast-buf : goal.overflow_cast-buf
-overflow_cast-buf c = search (store_few, rules)
+pub overflow_cast-handle : goal.overflow_cast-handle
+overflow_cast-handle c = search (store_few, rules, c.in_ok-at.ensures)
 
-pub behind-requires : goal.behind-requires
-behind-requires c = search store_end
+pub overflow_add-handle : goal.overflow_add-handle
+overflow_add-handle c = search (store_sum, c.in_ok-at.ensures)
 
-pub returns-in-Refused : goal.returns-in-Refused
-returns-in-Refused c = search patch_refused
-
-pub returns-in-At : goal.returns-in-At
-returns-in-At c = search patch_done
+pub returns : goal.returns
+returns c = search (patch_done, c.in_ok-at.ensures)

@@ -1,13 +1,8 @@
-use Prim.Native.Nat.{◌-◌}
-use borrow.Author.Rules.{rules}
-use Rattle.path.proofs.Pieces.{unled_on, unled_stop, unled_done}
+use Rattle.path.proofs.Ends.{split_whole, split_at}
 use Rattle.path.proofs.first_piece.Goals as goal
 
-pub returns-then-full-i-ne-SLASH : goal.returns-then-full-i-ne-SLASH
-returns-then-full-i-ne-SLASH c = search (unled_stop, rules)
+pub returns-in-Some-clause-value : goal.returns-in-Some-clause-value
+returns-in-Some-clause-value c = split_at c.args.way.now c.in-Some.end c.in-Some.ensures.0 c.in-Some.ensures.1 c.in-Some.ensures.2
 
-pub loop-i-preserved : goal.loop-i-preserved
-loop-i-preserved c = search (unled_on, rules)
-
-pub returns : goal.returns
-returns c = search (unled_done, rules)
+pub returns-in-None-clause-value : goal.returns-in-None-clause-value
+returns-in-None-clause-value c = split_whole c.args.way.now c.in-None.ensures

@@ -1,12 +1,8 @@
-use borrow.Author.Rules.{rules}
-use Rattle.path.proofs.Bytes.{joint_none, joint_slash, joint_other}
+use Rattle.path.proofs.Bytes.{joint_none, joint_slash}
 use Rattle.path.proofs.gap.Goals as goal
 
-pub returns-then-n-eq0 : goal.returns-then-n-eq0
-returns-then-n-eq0 c = search (joint_none, rules)
+pub returns-then-ends_with-clause-value : goal.returns-then-ends_with-clause-value
+returns-then-ends_with-clause-value c = joint_none c.args.cwd.now c.ends_with.result c.ends_with.ensures.value c.if-ends_with.true
 
-pub returns-then-cwd-n-eq-SLASH : goal.returns-then-cwd-n-eq-SLASH
-returns-then-cwd-n-eq-SLASH c = search (joint_slash, rules)
-
-pub returns-else-cwd-n-eq-SLASH : goal.returns-else-cwd-n-eq-SLASH
-returns-else-cwd-n-eq-SLASH c = search (joint_other, rules)
+pub returns-else-ends_with-clause-value : goal.returns-else-ends_with-clause-value
+returns-else-ends_with-clause-value c = joint_slash c.args.cwd.now c.ends_with.result c.ends_with.ensures.value c.if-ends_with.false

@@ -1,9 +1,5 @@
-use borrow.Author.Rules.{rules}
-use Rattle.path.proofs.Pieces.{root_other, root_at}
+use Rattle.path.proofs.Bytes.{root_is}
 use Rattle.path.proofs.is_root.Goals as goal
 
-pub returns-then-end-ne1 : goal.returns-then-end-ne1
-returns-then-end-ne1 c = search (root_other, rules)
-
 pub returns : goal.returns
-returns c = search (root_at, rules)
+returns c = root_is c.args.path.now c.as_slice.result.now c.eq.result c.eq.ensures c.as_slice.ensures

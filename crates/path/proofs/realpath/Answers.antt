@@ -1,9 +1,7 @@
-use borrow.Author.Rules.{rules}
 use Rattle.path.proofs.Bytes.{plain_real}
 use Rattle.path.proofs.realpath.Goals as goal
 
 pub returns-then-starts_slash : goal.returns-then-starts_slash
-returns-then-starts_slash c = search (plain_real, rules)
-
-pub joined-requires : goal.joined-requires
-joined-requires c = record { full_len = search rules; path_value = cc }
+returns-then-starts_slash c =
+    plain_real c.args.cwd.now c.args.path.now c.args.full.now c.plain.new.full c.plain.result c.starts_slash.result
+    c.starts_slash.ensures c.if-starts_slash.true c.plain.ensures

@@ -1,9 +1,5 @@
-use borrow.Author.Rules.{rules}
-use Rattle.path.proofs.Bytes.{starts_none, starts_at}
+use Rattle.path.proofs.Bytes.{starts_is}
 use Rattle.path.proofs.starts_slash.Goals as goal
 
-pub returns-then-n-eq0 : goal.returns-then-n-eq0
-returns-then-n-eq0 c = search (starts_none, rules)
-
 pub returns : goal.returns
-returns c = search (starts_at, rules)
+returns c = starts_is c.args.s.now c.starts_with.result c.starts_with.ensures.value

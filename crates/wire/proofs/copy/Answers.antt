@@ -1,30 +1,17 @@
-use Prim.Native.Nat.{ℕ, ◌+◌}
-use mathlib.Core.Path.{◌≡◌, ◌∙◌, sym, ap}
+use Prim.Native.Nat.{ℕ, ◌+◌, ◌-◌}
 use mathlib.Core.List.{List}
+use mathlib.Core.Path.{◌≡◌}
 use native.Mathlib.Omega.{arith}
-use borrow.Author.Rules.{rules}
-use lib.ListN.{length, get_or, take, drop, length-set, length-drop, length-take}
-use lib.Seq.{take_all, get_or-take, get_or-drop}
-use Rattle.wire.specs.Be.{splice}
-use Rattle.wire.proofs.Numbers.{splice-nil, splice-more}
+use lib.ListN.{take, drop, length-take, length-drop}
+use Rattle.wire.proofs.Numbers.{splice_part}
 use Rattle.wire.proofs.copy.Goals as goal
 
-pub loop-i-init : goal.loop-i-init
-loop-i-init c = (search rules, search rules, sym (splice-nil c.args.dst.now c.args.at))
-
-pub loop-i-preserved : goal.loop-i-preserved
-loop-i-preserved c =
-    let a = c.args in
-    let i = c.loop-i.i in
-    let vs : List ℕ = take a.n (drop a.from a.src.now) in
-    let k : length vs ≡ a.n = simp (length-take, length-drop) (omega arith) in
-    let e : get_or vs i 0 ≡ get_or a.src.now (a.from + i) 0 = get_or-take a.n (drop a.from a.src.now) i 0 (omega arith) ∙ get_or-drop a.from a.src.now i 0 in
-    let m = splice-more a.dst.now a.at vs i (omega arith) (omega arith) in
-    (search rules, simp length-set (omega arith), rw c.loop-i.invariant.2 (rw e at m))
+-- the run as the loan of it gives it
+run_is : {r : List ℕ} (src : List ℕ) (from n : ℕ) → r ≡ take (from + n - from) (drop from src) → r ≡ take n (drop from src)
+run_is src from n e = let k : from + n - from ≡ n = omega arith in rw k at e
 
 pub returns : goal.returns
 returns c =
     let a = c.args in
-    let vs : List ℕ = take a.n (drop a.from a.src.now) in
-    let k : length vs ≡ a.n = simp (length-take, length-drop) (omega arith) in
-    c.loop-i.invariant.2 ∙ ap (splice a.dst.now a.at) (take_all c.loop-i.i vs (omega arith))
+    let w : c.copy_from_slice.new.self ≡ take a.n (drop a.from a.src.now) = run_is a.src.now a.from a.n (search c.copy_from_slice.ensures.after) in
+    rw w (splice_part a.dst.now a.at a.n (take a.n (drop a.from a.src.now)) (simp (length-take, length-drop) (omega arith)))

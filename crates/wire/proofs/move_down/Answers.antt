@@ -1,33 +1,11 @@
-use Prim.Native.Nat.{ℕ, ◌+◌}
-use mathlib.Core.Path.{◌≡◌, ◌∙◌, sym, ap}
-use mathlib.Core.List.{List}
+use Prim.Native.Nat.{◌+◌, ◌-◌}
+use mathlib.Core.Path.{◌≡◌, ◌∙◌}
 use native.Mathlib.Omega.{arith}
-use borrow.Author.Rules.{rules}
-use lib.ListN.{length, get_or, take, drop, length-set, length-drop, length-take}
-use lib.Seq.{take_all, get_or-take, get_or-drop, length-take-le}
-use Rattle.wire.specs.Be.{splice}
-use Rattle.wire.proofs.Numbers.{splice-nil, splice-more, splice-after}
+use Rattle.wire.proofs.Numbers.{splice_run}
 use Rattle.wire.proofs.move_down.Goals as goal
-
-pub loop-i-init : goal.loop-i-init
-loop-i-init c = (search rules, search rules, sym (splice-nil c.args.s.now c.args.at))
-
-pub loop-i-preserved : goal.loop-i-preserved
-loop-i-preserved c =
-    let a = c.args in
-    let i = c.loop-i.i in
-    let l : List ℕ = a.s.now in
-    let vs : List ℕ = take a.n (drop (a.at + a.gap) l) in
-    let k : length vs ≡ a.n = simp (length-take, length-drop) (omega arith) in
-    let t : length (take i vs) ≡ i = length-take-le i vs (omega arith) in
-    let q = splice-after l a.at (take i vs) (omega arith) (a.at + a.gap + i) (omega arith) in
-    let e : get_or vs i 0 ≡ get_or l (a.at + a.gap + i) 0 = get_or-take a.n (drop (a.at + a.gap) l) i 0 (omega arith) ∙ get_or-drop (a.at + a.gap) l i 0 in
-    let m = splice-more l a.at vs i (omega arith) (omega arith) in
-    (search rules, simp length-set (omega arith), rw (c.loop-i.invariant.2, q) (rw e at m))
 
 pub returns : goal.returns
 returns c =
     let a = c.args in
-    let vs : List ℕ = take a.n (drop (a.at + a.gap) a.s.now) in
-    let k : length vs ≡ a.n = simp (length-take, length-drop) (omega arith) in
-    c.loop-i.invariant.2 ∙ ap (splice a.s.now a.at) (take_all c.loop-i.i vs (omega arith))
+    let e : a.at + a.gap + a.n - (a.at + a.gap) ≡ a.n = omega arith in
+    c.copy_within.ensures.after ∙ rw e (splice_run a.s.now a.s.now a.at (a.at + a.gap) a.n (omega arith))

@@ -1,22 +1,20 @@
-use Rattle.write.proofs.Aims.{held_stale, held_unreached, held_at_lem, held_missing, held_damaged}
+use Rattle.write.proofs.Aims.{held_stale, held_unreached, held_found, held_damaged}
 use Rattle.handle.proofs.Seeks.{short_name}
-use borrow.Author.Rules.{rules}
 use Rattle.write.proofs.held.Goals as goal
+use Rattle.write.proofs.held.Goals.{then-stale-via-then-stale, then-stale-via-else-stale+then-unreached}
 
 pub returns-then-stale : goal.returns-then-stale
-returns-then-stale c = search held_stale
-
-pub returns-then-unreached : goal.returns-then-unreached
-returns-then-unreached c = search held_unreached
+returns-then-stale c =
+    elim c.then-stale.branch [
+      | then-stale-via-then-stale w ↦ search held_stale
+      | then-stale-via-else-stale+then-unreached w ↦ search held_unreached
+    ]
 
 pub entry-requires : goal.entry-requires
-entry-requires c = record { fit = search rules; len_bound = search short_name }
+entry-requires c = search short_name
 
-pub returns-in-At : goal.returns-in-At
-returns-in-At c = search held_at_lem
+pub returns-in_err-entry : goal.returns-in_err-entry
+returns-in_err-entry c = search (held_damaged, c.in_err-entry.was)
 
-pub returns-in-Missing : goal.returns-in-Missing
-returns-in-Missing c = search held_missing
-
-pub returns-in-Damaged : goal.returns-in-Damaged
-returns-in-Damaged c = search held_damaged
+pub returns : goal.returns
+returns c = search (held_found, c.in_ok-entry.was)

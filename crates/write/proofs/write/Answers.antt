@@ -1,22 +1,18 @@
-use Rattle.write.proofs.Stores.{store_can, store_end, store_few, write_refused, write_done}
-use Rattle.super_block.proofs.Fits.{ready_fit}
 use borrow.Author.Rules.{rules}
+use Rattle.write.proofs.Stores.{store_can, store_few, store_sum, write_refused, write_done}
 use Rattle.write.proofs.write.Goals as goal
 
-pub target_of-targeted-requires : goal.target_of-targeted-requires
-target_of-targeted-requires c = search (ready_fit, rules)
+pub returns-in_err-at : goal.returns-in_err-at
+returns-in_err-at c = search (write_refused, c.in_err-at.ensures)
 
-pub write-requires : goal.write-requires
-write-requires c = record { fit = search (ready_fit, rules); can_write = search store_can }
+pub write-requires-clause-can_write : goal.write-requires-clause-can_write
+write-requires-clause-can_write c = search (store_can, c.in_ok-at.ensures)
 
-pub overflow_cast-buf : goal.overflow_cast-buf
-overflow_cast-buf c = search (store_few, rules)
+pub overflow_cast-end : goal.overflow_cast-end
+overflow_cast-end c = search (store_few, rules, c.in_ok-at.ensures)
 
-pub grown-requires : goal.grown-requires
-grown-requires c = search store_end
+pub overflow_add-end : goal.overflow_add-end
+overflow_add-end c = search (store_sum, c.in_ok-at.ensures)
 
-pub returns-in-Refused : goal.returns-in-Refused
-returns-in-Refused c = search write_refused
-
-pub returns-in-At : goal.returns-in-At
-returns-in-At c = search write_done
+pub returns : goal.returns
+returns c = search (write_done, c.in_ok-at.ensures)

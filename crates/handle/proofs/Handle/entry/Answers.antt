@@ -1,31 +1,23 @@
 use mathlib.Core.Path.{refl}
-use borrow.Author.Rules.{rules}
-use Rattle.super_block.proofs.Fits.{area_inside}
-use Rattle.read_dir.proofs.Along.{entry_inside, entry_ends, passed_less}
-use Rattle.handle.proofs.Entries.{fit_size, entry_again, entry_hit, entry_none, entry_bad}
+use Rattle.limits.proofs.Exits.{damage_is, gave_some, gave_none}
+use Rattle.read_dir.proofs.Along.{passed_less}
+use Rattle.handle.proofs.Entries.{entry_again, entry_hit, entry_none, entry_bad}
 use Rattle.handle.proofs.Handle.entry.Goals as goal
 
-pub new-c-requires : goal.new-c-requires
-new-c-requires c = search area_inside
+pub loop-x-init : goal.loop-x-init
+loop-x-init c = refl
 
-pub loop-e-init : goal.loop-e-init
-loop-e-init c = refl
+pub returns-in_err-x : goal.returns-in_err-x
+returns-in_err-x c = rw (damage_is c.from_residual.result c.from_residual.ensures.0) (search (entry_bad, c.in_err-x.was))
 
-pub current-requires : goal.current-requires
-current-requires c =
-    record { len_bound = search rules; block_size = search fit_size; size_in_bounds = search entry_inside; len_bound_2 = search entry_ends }
+pub returns-in_default : goal.returns-in_default
+returns-in_default c = search (entry_none, gave_none, c.in_ok-x.was)
 
 pub returns-then-current : goal.returns-then-current
-returns-then-current c = search entry_hit
+returns-then-current c = search (entry_hit, gave_some, c.in_ok-x.was)
 
-pub loop-e-smaller : goal.loop-e-smaller
-loop-e-smaller c = search passed_less
+pub loop-x-smaller : goal.loop-x-smaller
+loop-x-smaller c = search (passed_less, c.in_ok-x.was)
 
-pub loop-e-preserved : goal.loop-e-preserved
-loop-e-preserved c = search entry_again
-
-pub returns-in-End : goal.returns-in-End
-returns-in-End c = search entry_none
-
-pub returns-in-Damaged : goal.returns-in-Damaged
-returns-in-Damaged c = search entry_bad
+pub loop-x-preserved : goal.loop-x-preserved
+loop-x-preserved c = search (entry_again, gave_some, c.in_ok-x.was)

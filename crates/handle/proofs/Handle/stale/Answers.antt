@@ -1,14 +1,12 @@
-use Rattle.handle.proofs.Seeks.{stale_over, stale_large, stale_unnamed, stale_last}
+use Rattle.std.proofs.Common.{arith}
+use Rattle.std.proofs.lemmas.Bool.Decides.{nat_tests}
+use Rattle.handle.specs.Handles.{stale_fields}
 use Rattle.handle.proofs.Handle.stale.Goals as goal
 
-pub returns-then-self : goal.returns-then-self
-returns-then-self c = search stale_over
-
-pub returns-then-self-gt-FILE_LIMIT : goal.returns-then-self-gt-FILE_LIMIT
-returns-then-self-gt-FILE_LIMIT c = search stale_large
-
 pub returns-then-self-eq0 : goal.returns-then-self-eq0
-returns-then-self-eq0 c = search stale_unnamed
+unfolding stale_fields
+returns-then-self-eq0 c = grind (arith, nat_tests)
 
-pub returns : goal.returns
-returns c = search stale_last
+pub returns-else-self-eq0 : goal.returns-else-self-eq0
+unfolding stale_fields
+returns-else-self-eq0 c = grind (arith, nat_tests)

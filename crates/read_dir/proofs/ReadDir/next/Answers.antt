@@ -1,21 +1,22 @@
 use Rattle.read_dir.proofs.Moves.{go_less, go_again, step_entry, step_end, step_damaged}
-use mathlib.Core.Path.{refl}
+use Rattle.limits.proofs.Exits.{damage_is}
+use borrow.Author.Rules.{rules}
 use Rattle.read_dir.proofs.ReadDir.next.Goals as goal
 
-pub loop-e-init : goal.loop-e-init
-loop-e-init c = refl
+pub loop-x-init : goal.loop-x-init
+loop-x-init c = search rules
+
+pub returns-in_err-x : goal.returns-in_err-x
+returns-in_err-x c = rw (damage_is c.from_residual.result c.from_residual.ensures.0) (search (step_damaged, c.in_err-x.was))
 
 pub returns-in-Entry : goal.returns-in-Entry
-returns-in-Entry c = search step_entry
+returns-in-Entry c = search (step_entry, c.in_ok-x.was)
 
-pub loop-e-smaller : goal.loop-e-smaller
-loop-e-smaller c = search go_less
+pub loop-x-smaller : goal.loop-x-smaller
+loop-x-smaller c = search (go_less, c.in_ok-x.was)
 
-pub loop-e-preserved : goal.loop-e-preserved
-loop-e-preserved c = search go_again
+pub loop-x-preserved : goal.loop-x-preserved
+loop-x-preserved c = search (go_again, c.in_ok-x.was)
 
 pub returns-in-End : goal.returns-in-End
-returns-in-End c = search step_end
-
-pub returns-in-Damaged : goal.returns-in-Damaged
-returns-in-Damaged c = search step_damaged
+returns-in-End c = search (step_end, c.in_ok-x.was)

@@ -4,8 +4,8 @@ use mathlib.Core.Path.{◌≡◌}
 use Rattle.super_block.specs.Super.{area_in}
 use Rattle.read_dir.proofs.ReadDir.next.Given as goal
 
-abbrev pub invariant-loop-e : goal.invariant-loop-e
-invariant-loop-e l = cursor_walk (area_in l.s) l.img l.c ≡ cursor_walk (area_in l.s) l.img l.initial.c
+abbrev pub invariant-loop-x : goal.invariant-loop-x
+invariant-loop-x l = cursor_walk (area_in l.v.s) l.v.img.now l.self ≡ cursor_walk (area_in l.v.s) l.v.img.now l.initial.self
 
-abbrev pub decreases-loop-e : goal.decreases-loop-e
-decreases-loop-e l = moves (area_in l.s) l.c
+abbrev pub decreases-loop-x : goal.decreases-loop-x
+decreases-loop-x l = moves (area_in l.v.s) l.self

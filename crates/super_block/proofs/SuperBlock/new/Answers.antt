@@ -1,18 +1,12 @@
-use Rattle.super_block.proofs.Tests.{span_few, left_few, whole_fits, data_fits, data_below, bits_fit, made}
+use Rattle.super_block.proofs.Tests.{data_fits, data_below, bits_fit, made}
 use borrow.Author.Rules.{rules}
 use Rattle.super_block.proofs.SuperBlock.new.Goals as goal
-
-pub map_blocks-b-requires : goal.map_blocks-b-requires
-map_blocks-b-requires c = record { left_bound = search (left_few, rules); span_bound = search (span_few, rules) }
 
 pub overflow_add-d : goal.overflow_add-d
 overflow_add-d c = search (data_fits, rules)
 
 pub overflow_mul-bits : goal.overflow_mul-bits
 overflow_mul-bits c = search (bits_fit, rules)
-
-pub overflow_mul-whole : goal.overflow_mul-whole
-overflow_mul-whole c = search (whole_fits, rules)
 
 pub overflow_sub-n-2 : goal.overflow_sub-n-2
 overflow_sub-n-2 c = search (data_below, rules)

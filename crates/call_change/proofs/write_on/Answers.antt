@@ -1,0 +1,15 @@
+use Rattle.model.specs.Steps.{Bytes}
+use Rattle.limits.proofs.Passed.{err_is}
+use Rattle.call_change.proofs.Changes.{ready, write_no, write_yes}
+use Rattle.call_change.proofs.write_on.Goals as goal
+
+pub returns-in_err-s : goal.returns-in_err-s
+returns-in_err-s c = rw (err_is c.from_residual.result c.from_residual.ensures.1) (write_no _ _ _ _ _ _ _ _ c.in_err-s.ensures)
+
+pub write-requires : goal.write-requires
+write-requires c =
+    let all : Bytes c.args.img.now = λ i. (c.slice_known-1.given i).fits in
+    ready _ _ _ all _ c.in_ok-s.ensures.answer
+
+pub returns : goal.returns
+returns c = write_yes _ _ _ _ _ _ _ _ c.in_ok-s.ensures _ _ c.write.ensures
