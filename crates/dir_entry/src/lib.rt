@@ -91,6 +91,8 @@ impl DirEntry {
     }
 
     // The entry at an offset of a block's data, unless one of the four stop rules says that the block's entries end there.
+    // (Inlined, and so is `ReadDir::next`: what its caller does not use of an entry is then not read.)
+    #[inline(always)]
     pub fn decode(img: &[u8], block: LinkedBlock, offset: usize) -> Option<DirEntry>
         requires { block.size * block.addr.0 + block.size ≤ length img.now }
         ensures { result ≡ slot_at block.size img.now block.addr.0 offset }

@@ -133,6 +133,7 @@ impl ReadDir {
     }
 
     // The next entry, with the cursor past it then, or the end.
+    #[inline(always)]
     pub fn next(&mut self, v: Volume) -> Result<Option<Placed>, Damage>
         ensures { Stepped (area_in v.entry.s) v.entry.img.now self.old self.new result }
     {

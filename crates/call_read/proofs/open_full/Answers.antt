@@ -15,7 +15,7 @@ invariant_of-new c =
     record { short = found_short _ _ _ bytes _ c.in_ok-found.ensures _ c.parts_of.ensures.name_is }
 
 pub returns-in-Dir : goal.returns-in-Dir
-returns-in-Dir c = open_other _ _ _ _ c.in_ok-found.ensures c.in-Dir.is
+returns-in-Dir c = open_other _ _ _ _ c.in_ok-found.ensures (search (rules, c.in-Dir.is))
 
 pub returns-in-File : goal.returns-in-File
 returns-in-File c = open_large_no _ _ _ _ c.in_ok-found.ensures c.in-File.is (search rules)

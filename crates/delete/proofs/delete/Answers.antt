@@ -29,7 +29,7 @@ remove-requires-clause-len_bound c =
 
 pub remove-requires-clause-own_in : goal.remove-requires-clause-own_in
 remove-requires-clause-own_in c =
-    own_inside c.args.s c.args.img.now c.args.full.now c.requires (doomed (c.in_ok-h.h, c.in_ok-h.x)) c.in_ok-h.ensures
+    search (own_inside c.args.s c.args.img.now c.args.full.now c.requires (doomed (c.in_ok-h.h, c.in_ok-h.x)) c.in_ok-h.ensures)
 
 pub returns-clause-result_value : goal.returns-clause-result_value
 returns-clause-result_value c =
@@ -38,4 +38,4 @@ returns-clause-result_value c =
 pub returns-clause-img_after : goal.returns-clause-img_after
 returns-clause-img_after c =
     image_done c.args.s c.args.img.now c.args.full.now c.requires (doomed (c.in_ok-h.h, c.in_ok-h.x)) c.in_ok-h.ensures
-    _ c.args.time c.remove.ensures
+    _ c.args.time (search c.remove.ensures)
