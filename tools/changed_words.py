@@ -104,7 +104,7 @@ def show(title, old, new, only=None):
 
 
 # The types whose ghost field is a fact that was a clause, and how a value of each is built.
-BEARERS = {"Volume": r"Volume \{", "LinkedBlock": r"LinkedBlock(::new\(|(?: |Self) \{ size)|\.block\(", "Name": r"(?<!\w)Name \{", "Filter": r"Filter::new\(",
+BEARERS = {"Volume": r"Volume \{", "VolumeBlock": r"VolumeBlock(::new\(|(?: |Self) \{ size)|\.block\(", "Name": r"(?<!\w)Name \{", "Filter": r"Filter::new\(",
            "Known": r"Known \{", "Part": r"(?<!\w)Part \{"}
 
 
@@ -126,8 +126,8 @@ def calls(crate, kind, name):
     """How a function of a crate is called: by its crate's name, in the crate itself by its own, and a method by a value or its type."""
     if (kind, name) == ("Name", "len"):
         return re.compile(r"\bname\.len\(\)"), None
-    if kind in ("LinkedBlock", "Volume") and name == "next_addr":
-        return re.compile(r"(LinkedBlock::new\([^)]*\)|\bblock(\([^)]*\))?)\.next_addr\(" if kind == "LinkedBlock" else r"(\bv|\}|self)\.next_addr\("), None
+    if kind in ("VolumeBlock", "Volume") and name == "next_addr":
+        return re.compile(r"(VolumeBlock::new\([^)]*\)|\bblock(\([^)]*\))?|known\(\))\.next_addr\(" if kind == "VolumeBlock" else r"(\bv|\}|self)\.next_addr\("), None
     if kind:
         return re.compile(r"%s::%s\(|\.%s\(" % (kind, name, name)), None
     return re.compile(r"(?<!\w)%s::%s\(" % (crate, name)), re.compile(r"(?<![\w.:])%s\(" % name)
@@ -145,8 +145,10 @@ def callers(now):
         takes = [b for b in BEARERS if re.search(r"[:( ](&mut |&)?%s\b" % b, ground) or (kind == b and "self" in ground)]
         if public and takes:
             far, near = calls(crate, kind, name)
-            who = {said(c, k, f) for c, k, f, _, _, body in found
-                   if (c, k, f) != (crate, kind, name) and (far.search(body) or (near and c == crate and near.search(body)))}
+            # `name.len()` is a call of it only where the name is one of the type, and not bytes.
+            mine = lambda s: (kind, name) != ("Name", "len") or re.search(r"\bname: Name\b", s)
+            who = {said(c, k, f) for c, k, f, _, s, body in found
+                   if (c, k, f) != (crate, kind, name) and mine(s) and (far.search(body) or (near and c == crate and near.search(body)))}
             print("| %s | %s | %s |" % (said(crate, kind, name), ", ".join("`%s`" % x for x in takes), ", ".join(sorted(who)) or "itself alone"))
 
 

@@ -13,7 +13,7 @@ ghost use Rattle.check_bitmap.specs.Tally.{mark_bytes};
 ghost use Rattle.thm_survey.specs.Survey.{claim, cells_of, chain_of, seen_of};
 ghost use Rattle.check_chain.specs.Marks.{MarksAnswer, Inside};
 
-use block::{Addr, LinkedBlock};
+use block::Addr;
 use super_block::{SuperBlock, Volume};
 
 // Claims block a: marked, unless it is outside the data area or claimed already.

@@ -37,7 +37,7 @@ struct Part {
 // A filter that is clear between two uses, so that one serves for every directory of a volume.
 #[derive(Drop)]
 pub struct Filter {
-    bits: [u8; BYTES],
+    pub bits: [u8; BYTES],
     ghost is_clear: { bits ≡ clear },
 }
 
@@ -51,7 +51,7 @@ impl Filter {
 fn earlier(v: Volume, dir: Addr, i: u32, name: &[u8]) -> bool
     ensures { result ≡ one_of name.now (take i (names_in (walk (area_in v.entry.s) v.entry.img.now dir.0))) }
 {
-    let mut c = ReadDir::new(v, dir);
+    let mut c = ReadDir::new(v.s, dir);
     for _ in 0..i {
         match c.next(v) {
             Ok(Some(x)) => {
@@ -97,7 +97,7 @@ fn tested(v: Volume, dir: Addr, filter: &mut [u8; BYTES], p: Part) -> bool
         && distinct_in p.m p.k (names_in (walk (area_in v.entry.s) v.entry.img.now dir.0))) }
     ensures only { Only filter.new (names_in (walk (area_in v.entry.s) v.entry.img.now dir.0)) }
 {
-    let mut c = ReadDir::new(v, dir);
+    let mut c = ReadDir::new(v.s, dir);
     let mut i: u32 = 0;
     loop {
         match c.next(v) {
@@ -119,7 +119,7 @@ fn forget(v: Volume, dir: Addr, filter: &mut [u8; BYTES])
     requires { Only filter.old (names_in (walk (area_in v.s) v.img.now dir.0)) }
     ensures { filter.new ≡ clear }
 {
-    let mut c = ReadDir::new(v, dir);
+    let mut c = ReadDir::new(v.s, dir);
     for _ in 0..FEW {
         match c.next(v) {
             Ok(Some(x)) => {

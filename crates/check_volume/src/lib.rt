@@ -52,7 +52,7 @@ fn walk_dir(v: Volume, work: &mut [u8], filter: &mut Filter, a: Addr, depth: u32
         (through (entry_check (area_in v.entry.s) v.entry.img.now depth) (walk (area_in v.entry.s) v.entry.img.now a.0))
         work.old work.new result }
 {
-    let mut c = ReadDir::new(v, a);
+    let mut c = ReadDir::new(v.s, a);
     loop {
         match c.next(v) {
             Ok(Some(x)) => {

@@ -13,7 +13,7 @@ ghost use Rattle.own_entry.specs.Own.{OwnIn};
 ghost use Rattle.create_store.specs.Create.{used_at, spot_for, needed, SpotIn, block_taken, opened, place_in};
 ghost use Rattle.create_store.specs.Create.{entered, inserted, inserted_at};
 
-use block::{Addr, Index, LinkedBlock};
+use block::{Addr, Index, LinkedBlock, VolumeBlock};
 use dir_entry::{DirEntry, Kind, Name};
 use limits::Damage;
 use read_dir::Place;
@@ -97,7 +97,7 @@ fn grow(img: &mut [u8], s: SuperBlock, last: Addr) -> Addr
         × (result.0 ≡ fresh (geo_of s) img.old) }
 {
     let a = take_block(img, s);
-    LinkedBlock::new(s.size, last).set_next_addr(img, a);
+    VolumeBlock::new(s.size, last).set_next_addr(img, a);
     a
 }
 
@@ -119,7 +119,7 @@ fn open_place(img: &mut [u8], s: SuperBlock, spot: Spot, len: u8) -> Place
 }
 
 // Stores an entry's fixed part and its name.
-fn store_entry(img: &mut [u8], block: LinkedBlock, offset: usize, e: DirEntry, name: &[u8])
+fn store_entry(img: &mut [u8], block: VolumeBlock, offset: usize, e: DirEntry, name: &[u8])
     requires size_in_bounds { block.size * block.addr.0 + block.size ≤ length img.old }
     requires name_bound { offset + header + length name.now ≤ block.size - 5 }
     ensures { img.new ≡ splice img.old (place_at block.size block.addr.0 offset) (head_bytes e ++ name.now) }
@@ -148,7 +148,7 @@ fn enter(img: &mut [u8], s: SuperBlock, p: Place, kind: Kind, name: Name, time: 
     };
     store_entry(
         img,
-        LinkedBlock::new(s.size, p.block),
+        VolumeBlock::new(s.size, p.block),
         p.offset,
         e,
         name.bytes,

@@ -10,13 +10,13 @@ ghost use Rattle.own_entry.specs.Own.{OwnIn};
 ghost use Rattle.chain_store.specs.Chain.{chain_freed};
 ghost use Rattle.delete_store.specs.Delete.{cut_out, before_from, unlinked, less_bare, entry_gone, removed};
 
-use block::{Addr, LinkedBlock};
+use block::{Addr, VolumeBlock};
 use dir_entry::DirEntry;
 use read_dir::{Place, Placed};
 use super_block::{SuperBlock, Volume};
 
 // The w bytes at an offset of a block go: those after them in the block move down, and the block's end is zeroed.
-fn cut_out(img: &mut [u8], block: LinkedBlock, offset: usize, w: usize)
+fn cut_out(img: &mut [u8], block: VolumeBlock, offset: usize, w: usize)
     requires size_in_bounds { block.size * block.addr.0 + block.size ≤ length img.old }
     requires w_bound { offset + w ≤ block.size - 5 }
     ensures { img.new ≡ cut_out block.size img.old block.addr.0 offset w }
@@ -58,7 +58,7 @@ fn unlink(img: &mut [u8], s: SuperBlock, dir: Addr, b: Addr)
     let v = Volume { img, s };
     let to = v.next_addr(b);
     let last = before(v, dir, b);
-    LinkedBlock::new(s.size, last).set_next_addr(img, to);
+    VolumeBlock::new(s.size, last).set_next_addr(img, to);
     chain_store::release(img, s, b);
 }
 
@@ -73,7 +73,7 @@ fn drop_bare(img: &mut [u8], s: SuperBlock, dir: Addr, b: Addr)
     if b.0 == dir.0 {
         return;
     }
-    let block = LinkedBlock::new(s.size, b);
+    let block = VolumeBlock::new(s.size, b);
     let at = dir_entry::place(block, 0);
     if wire::zero_bytes(img, at, block.capacity() as usize) {
         unlink(img, s, dir, b);
@@ -92,7 +92,7 @@ fn take_out(img: &mut [u8], s: SuperBlock, dir: Addr, x: Placed)
     let p = x.place;
     cut_out(
         img,
-        LinkedBlock::new(s.size, p.block),
+        VolumeBlock::new(s.size, p.block),
         p.offset,
         DirEntry::HEADER + usize::from(x.entry.len),
     );

@@ -6,7 +6,7 @@ ghost use Rattle.std.specs.Prelude.{◌≡◌, ◌+◌, ◌*◌, ◌≤◌, ◌<
 ghost use Rattle.wire.specs.Be.{splice};
 ghost use Rattle.dir_entry.specs.Entry.{kind_at, kind_byte, entry_at, head_bytes, place_at, slot_at};
 
-use block::{Addr, LinkedBlock};
+use block::{Addr, LinkedBlock, VolumeBlock};
 
 // What an entry stands for.
 #[derive(Clone, Copy, PartialEq, Eq)]
@@ -43,7 +43,7 @@ impl Name<'_> {
 }
 
 // The byte of the image where an offset of a block's data stands.
-pub fn place(block: LinkedBlock, offset: usize) -> usize
+pub fn place(block: VolumeBlock, offset: usize) -> usize
     requires { offset ≤ block.size }
     ensures { result ≡ place_at block.size block.addr.0 offset }
 {
@@ -93,7 +93,7 @@ impl DirEntry {
     // The entry at an offset of a block's data, unless one of the four stop rules says that the block's entries end there.
     // (Inlined, and so is `ReadDir::next`: what its caller does not use of an entry is then not read.)
     #[inline(always)]
-    pub fn decode(img: &[u8], block: LinkedBlock, offset: usize) -> Option<DirEntry>
+    pub fn decode(img: &[u8], block: VolumeBlock, offset: usize) -> Option<DirEntry>
         requires { block.size * block.addr.0 + block.size ≤ length img.now }
         ensures { result ≡ slot_at block.size img.now block.addr.0 offset }
     {

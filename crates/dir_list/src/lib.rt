@@ -22,7 +22,7 @@ const RECORD: usize = read_dir::RECORD;
 fn seek(v: Volume, dir: Addr, i: u32) -> ReadDir
     ensures { cursor_walk (area_in v.entry.s) v.entry.img.now result ≡ skip i (walk (area_in v.entry.s) v.entry.img.now dir.0) }
 {
-    let mut c = ReadDir::new(v, dir);
+    let mut c = ReadDir::new(v.s, dir);
     for _ in 0..i {
         match c.next(v) {
             Ok(Some(_)) => {}

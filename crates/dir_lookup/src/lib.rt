@@ -10,7 +10,7 @@ ghost use Rattle.read_dir.specs.Walk.{walk};
 ghost use Rattle.read_dir.specs.Cursor.{len_of, Over};
 ghost use Rattle.read_dir.specs.Finds.{find_in};
 
-use block::Addr;
+use block::{Addr, VolumeBlock};
 use dir_entry::DirEntry;
 use limits::Damage;
 use read_dir::{Placed, ReadDir};
@@ -18,20 +18,19 @@ use super_block::Volume;
 
 // The length of the name at an offset of a block, 0 where the block's entries stop: all that must be read of an entry to
 // go over it.
-pub fn entry_len(v: Volume, b: Addr, o: usize) -> usize
-    requires { v.s.size * b.0 + v.s.size ≤ length v.img.now }
-    ensures { result ≡ len_of (slot_at v.entry.s.size v.entry.img.now b.0 o) }
+pub fn entry_len(img: &[u8], block: VolumeBlock, o: usize) -> usize
+    requires { block.size * block.addr.0 + block.size ≤ length img.now }
+    ensures { result ≡ len_of (slot_at block.size img.now block.addr.0 o) }
 {
-    let block = v.block(b);
     let capacity = block.capacity() as usize;
     if capacity - DirEntry::HEADER <= o {
         return 0;
     }
     let at = dir_entry::place(block, o);
-    if 2 < v.img[at] {
+    if 2 < img[at] {
         return 0;
     }
-    let n = usize::from(v.img[at + 17]);
+    let n = usize::from(img[at + 17]);
     if capacity - 1 < o + DirEntry::HEADER + n {
         return 0;
     }
@@ -65,7 +64,7 @@ pub fn pass<F: Fn(usize, usize) -> bool>(v: Volume, c: ReadDir, stops: F) -> Rea
     }
     let mut o = c.offset;
     loop {
-        let n = entry_len(v, c.block, o);
+        let n = entry_len(v.img, v.block(c.block), o);
         if n == 0 {
             return c.at(o);
         }
@@ -80,7 +79,7 @@ pub fn pass<F: Fn(usize, usize) -> bool>(v: Volume, c: ReadDir, stops: F) -> Rea
 pub fn lookup(v: Volume, dir: Addr, name: &[u8]) -> Result<Option<Placed>, Damage>
     ensures { result ≡ find_in name.now (walk (area_in v.entry.s) v.entry.img.now dir.0) }
 {
-    let mut c = ReadDir::new(v, dir);
+    let mut c = ReadDir::new(v.s, dir);
     loop {
         let b = c.block;
         c = pass(v, c, |o, n| named_at(v, b, o, n, name));

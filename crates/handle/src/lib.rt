@@ -5,12 +5,13 @@
 ghost use Rattle.std.specs.Prelude.{◌≡◌, ◌&&◌, ◌+◌, ◌-◌, ◌*◌, ◌≤◌, ◌<◌, eqb, length};
 ghost use Rattle.std.specs.Bool.{then_some};
 ghost use Rattle.wire.specs.Be.{be};
+ghost use Rattle.wire.specs.Pick.{same};
 ghost use Rattle.dir_entry.specs.Entry.{header, place_at, name_at};
 ghost use Rattle.model.specs.Render.{padded};
 ghost use Rattle.super_block.specs.Super.{area_in};
 ghost use Rattle.read_dir.specs.Walk.{walk};
 ghost use Rattle.read_dir.specs.Cursor.{Passed};
-ghost use Rattle.handle.specs.Handles.{new_handle, stale_fields, moved, target, within, place_in, current, current_in};
+ghost use Rattle.handle.specs.Handles.{name_of, new_handle, stale_fields, moved, target, within, place_in, current, current_in};
 ghost use Rattle.handle.specs.Post.{answer_number, AimedIs, SoughtIs, handle_refusal};
 
 use block::Addr;
@@ -139,6 +140,18 @@ impl Handle {
         }
     }
 
+    // Whether an entry has the handle's name. (By itself, so that the handle is copied for it alone, and not for each entry.)
+    fn named(self, v: Volume, x: Placed) -> bool
+        requires len_bound { self.len ≤ 255 }
+        requires size_in_bounds { v.s.size * x.place.block.0 + v.s.size ≤ length v.img.now }
+        requires len_bound_2 { x.place.offset + header + x.entry.len ≤ v.s.size - 5 }
+        ensures { result ≡ same (name_at v.entry.img.now (place_at v.entry.s.size x.place.block.0 x.place.offset) x.entry.len)
+            (name_of self) }
+    {
+        let name = self.name;
+        x.named(v, &name[..self.len])
+    }
+
     // Whether an entry is the handle's: a file's, with its name, address and size.
     fn current(self, v: Volume, x: Placed) -> bool
         requires len_bound { self.len ≤ 255 }
@@ -151,7 +164,7 @@ impl Handle {
         matches!(e.kind, Kind::File)
             && e.addr == self.addr
             && e.size == self.size
-            && x.named(v, &self.name[..self.len])
+            && self.named(v, x)
     }
 
     // Whether the entry at an offset of a block can be the handle's by the length of its name, n, and its address: all that is
@@ -179,7 +192,7 @@ impl Handle {
         requires { self.len ≤ 255 }
         ensures { result ≡ current_in self (walk (area_in v.entry.s) v.entry.img.now self.dir.0) }
     {
-        let mut c = ReadDir::new(v, self.dir);
+        let mut c = ReadDir::new(v.s, self.dir);
         loop {
             c = self.pass_others(v, c);
             let Some(x) = c.next(v)? else {

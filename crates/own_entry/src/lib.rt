@@ -8,13 +8,13 @@ ghost use Rattle.dir_entry.specs.Entry.{header};
 ghost use Rattle.super_block.specs.Super.{geo_of, Fit};
 ghost use Rattle.own_entry.specs.Own.{OwnIn, own_renewed, sum_renewed};
 
-use block::{Addr, LinkedBlock};
+use block::{Addr, VolumeBlock};
 use dir_entry::DirEntry;
 use read_dir::Place;
 use super_block::{SuperBlock, Volume};
 
 // Stores the size and the time of the entry at an offset of a block: of a directory, or of a file that was written.
-pub fn renew_at(img: &mut [u8], block: LinkedBlock, offset: usize, size: u32, time: u64)
+pub fn renew_at(img: &mut [u8], block: VolumeBlock, offset: usize, size: u32, time: u64)
     requires size_in_bounds { block.size * block.addr.0 + block.size ≤ length img.old }
     requires offset_bound { offset + header ≤ block.size - 5 }
     ensures { img.new ≡ own_renewed block.size img.old (Some (record { block = block.addr; offset = offset })) size time }
@@ -32,7 +32,7 @@ pub fn renew_sum(img: &mut [u8], s: SuperBlock, dir: Addr, own: Option<Place>, t
 {
     if let Ok(z) = read_dir::sum(Volume { img, s }, dir) {
         if let Some(p) = own {
-            renew_at(img, LinkedBlock::new(s.size, p.block), p.offset, z, time);
+            renew_at(img, VolumeBlock::new(s.size, p.block), p.offset, z, time);
         }
     }
 }

@@ -7,7 +7,7 @@ ghost use Rattle.std.specs.Prelude.{◌≡◌, length};
 ghost use Rattle.super_block.specs.Super.{geo_of, Fit};
 ghost use Rattle.patch_store.specs.Patch.{patched, CanPatch};
 
-use block::LinkedBlock;
+use block::VolumeBlock;
 use read_dir::Placed;
 use super_block::SuperBlock;
 
@@ -24,5 +24,5 @@ pub fn patch(img: &mut [u8], s: SuperBlock, at: Placed, c: u32, buf: &[u8], time
     let count = limits::blocks_for(s.size, end);
     write_store::put_bytes(img, s, a, c, buf, count);
     let p = at.place;
-    own_entry::renew_at(img, LinkedBlock::new(s.size, p.block), p.offset, size, time);
+    own_entry::renew_at(img, VolumeBlock::new(s.size, p.block), p.offset, size, time);
 }

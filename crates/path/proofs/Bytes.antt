@@ -217,3 +217,12 @@ module _ (d : List ℕ) (b : Bool) (e : b ≡ same d (slash ∷ [])) where
       → split (take (length d - i) (drop i d)) ≡ steps d
   way_first i f h n g =
       ap split (between_to_end d i (length d) (omega arith)) ∙ sym (way_else f ∙ ap split (unled_first d i h n g))
+
+-- what is left of a directory part, where it has slashes alone and where it does not
+module _ (d : List ℕ) where
+  pub rest_none : ((k : ℕ) → k < length d → get_or d k 0 ≡ slash) → [] ≡ unled d
+  rest_none g = sym (unled_all d g)
+
+  pub rest_first : (i : ℕ) → i < length d → (get_or d i 0 ≡ slash → ⊥) → ((k : ℕ) → k < i → get_or d k 0 ≡ slash)
+      → take (length d - i) (drop i d) ≡ unled d
+  rest_first i h n g = between_to_end d i (length d) (omega arith) ∙ sym (unled_first d i h n g)

@@ -7,7 +7,7 @@ ghost use Rattle.std.specs.Prelude.{EachIndex, MatchOption, IfSome, option_copie
 ghost use Rattle.wire.specs.Be.{splice};
 ghost use Rattle.wire.specs.Pick.{pick, same};
 ghost use Rattle.text.specs.Text.{is_text};
-ghost use Rattle.path.specs.Path.{slash, path_limit, starts_slash, ends_slash, trimmed, last_name, dir_part, split, steps};
+ghost use Rattle.path.specs.Path.{slash, path_limit, starts_slash, ends_slash, trimmed, last_name, dir_part, split, unled, steps};
 ghost use Rattle.path.specs.Post.{PathIs, RealIs, pieces};
 
 use limits::Refusal;
@@ -47,7 +47,7 @@ fn plain(full: &mut [u8; PATH_LIMIT], path: &[u8]) -> Result<usize, Refusal>
     if PATH_LIMIT < n || !text::text(path) {
         return Err(Refusal::BadPath);
     }
-    full[..n].copy_from_slice(path);
+    wire::copy_all(&mut full[..n], path);
     Ok(n)
 }
 
@@ -57,9 +57,9 @@ fn join(full: &mut [u8; PATH_LIMIT], cwd: &[u8], gap: &[u8], path: &[u8])
     ensures { full.new ≡ splice full.old 0 (cwd.now ++ (gap.now ++ path.now)) }
 {
     let (first, rest) = full.split_at_mut(cwd.len());
-    first.copy_from_slice(cwd);
-    rest[..gap.len()].copy_from_slice(gap);
-    rest[gap.len()..gap.len() + path.len()].copy_from_slice(path);
+    wire::copy_all(first, cwd);
+    wire::copy_all(&mut rest[..gap.len()], gap);
+    wire::copy_all(&mut rest[gap.len()..gap.len() + path.len()], path);
 }
 
 // A path that doesn't start with a slash, from the working directory.
@@ -131,7 +131,8 @@ fn last_other(s: &[u8]) -> Option<usize>
 
 // A path without the slashes at its end; a slash alone stays (P3).
 fn trim(path: &[u8]) -> &[u8]
-    ensures { result.now ≡ trimmed path.now }
+    ensures value { result.now ≡ trimmed path.now }
+    ensures within { length result.now ≤ length path.now }
 {
     if path.len() <= 1 {
         return path;
@@ -146,6 +147,8 @@ fn trim(path: &[u8]) -> &[u8]
 pub fn parts_of(full: &[u8]) -> Parts<'_>
     ensures dir_is { result.dir.now ≡ dir_part full.now }
     ensures name_is { result.name.now ≡ last_name full.now }
+    ensures dir_in { length result.dir.now ≤ length full.now }
+    ensures name_in { length result.name.now ≤ length full.now }
 {
     let path = trim(full);
     match last_slash(path) {
@@ -175,6 +178,7 @@ pub fn is_root(path: &[u8]) -> bool
 pub fn way(dir: &[u8]) -> Option<&[u8]>
     ensures value { pieces (option_copied result) ≡ steps dir.now }
     ensures within { IfSome result (λ w. length w.now ≤ length dir.now) }
+    ensures rest { IfSome result (λ w. w.now ≡ unled dir.now) }
 {
     if is_root(dir) {
         return None;
@@ -188,6 +192,7 @@ pub fn way(dir: &[u8]) -> Option<&[u8]>
 // The first piece, up to a slash, and what is behind that slash if there is one.
 pub fn first_piece(way: &[u8]) -> (&[u8], Option<&[u8]>)
     ensures value { split way.now ≡ result.0.now ∷ pieces (option_copied result.1) }
+    ensures within { length result.0.now ≤ length way.now }
     ensures shorter { IfSome result.1 (λ w. length w.now < length way.now) }
 {
     match first_slash(way) {

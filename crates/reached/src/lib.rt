@@ -48,7 +48,7 @@ fn dir_reaches(v: Volume, target: Addr, depth: u32, dir: Addr) -> bool
     if depth == 0 {
         return false;
     }
-    let mut c = ReadDir::new(v, dir);
+    let mut c = ReadDir::new(v.s, dir);
     while let Ok(Some(x)) = next_dir(v, &mut c) {
         let e = x.entry;
         if matches!(e.kind, Kind::Dir) && dir_reaches(v, target, depth - 1, e.addr) {

@@ -57,6 +57,10 @@ module _ (B : ℕ) (I : List ℕ) (a o z k : ℕ) (r : z ≡ B) (c : k ≡ z - 4
           go (yes p) = byte_is ∙ ap len_of (code_entry B I a o k room at n e h (entry_at I at) l f (omega arith) m refl)
           go (no p) = let y : n ≡ 0 = omega arith in y ∙ ap len_of (code_empty B I a o k room at n e h l f y)
 
+-- The length at an offset of a volume's block, by that block's own numbers.
+pub len_in_block : {B S a b n : ℕ} (I : List ℕ) (o : ℕ) → B ≡ S → a ≡ b → n ≡ len_of (slot_at B I a o) → n ≡ len_of (slot_at S I b o)
+len_in_block I o e f h = h ∙ (λ i. len_of (slot_at (e i) I (f i) o))
+
 -- A length that is not 0 is that of an entry.
 module _ (B : ℕ) (I : List ℕ) (a o n : ℕ) (q : n ≡ len_of (slot_at B I a o)) (z : n ≡ 0 → ⊥) where
   len_entry : (e : DirEntry) × (slot_at B I a o ≡ Some e) × (n ≡ e.len)

@@ -13,7 +13,7 @@ ghost use Rattle.read_dir.specs.Finds.{sum_from};
 use block::Addr;
 use dir_entry::DirEntry;
 use limits::Damage;
-use super_block::Volume;
+use super_block::{SuperBlock, Volume};
 
 // The bytes of a record before the name.
 pub const RECORD: usize = 14;
@@ -57,14 +57,15 @@ pub struct Listed {
 
 impl ReadDir {
     // At the first entry of the directory that begins at block dir.
-    pub fn new(v: Volume, dir: Addr) -> ReadDir
-        ensures { result ≡ start (area_in v.entry.s) dir }
+    pub fn new(s: SuperBlock, dir: Addr) -> ReadDir
+        requires { s.area.0 ≤ s.blocks }
+        ensures { result ≡ start (area_in s) dir }
     {
-        let d = v.s.area;
+        let d = s.area;
         ReadDir {
             block: dir,
             offset: 0,
-            left: v.s.blocks - d.0,
+            left: s.blocks - d.0,
         }
     }
 
@@ -182,7 +183,7 @@ impl Placed {
 pub fn sum(v: Volume, dir: Addr) -> Result<u32, Damage>
     ensures { result ≡ sum_from 0 (walk (area_in v.entry.s) v.entry.img.now dir.0) }
 {
-    let mut c = ReadDir::new(v, dir);
+    let mut c = ReadDir::new(v.s, dir);
     let mut total: u32 = 0;
     while let Some(x) = c.next(v)? {
         total += (DirEntry::HEADER as u32) + (x.entry.len as u32);

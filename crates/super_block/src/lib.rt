@@ -11,7 +11,7 @@ ghost use Rattle.limits.specs.Refusals.{refusal_number};
 ghost use Rattle.super_block.specs.One.{fit_is_one};
 ghost use Rattle.super_block.specs.Super.{geo_of, super_block, Fair, Fit, OpenedIs, MadeIs, counted, super_written};
 
-use block::{Addr, LinkedBlock};
+use block::{Addr, VolumeBlock};
 use limits::Refusal;
 
 // Bytes of the largest image.
@@ -288,10 +288,10 @@ impl<'a> Volume<'a> {
     }
 
     // The block of an address, as one of a chain.
-    pub fn block(self, a: Addr) -> LinkedBlock
+    pub fn block(self, a: Addr) -> VolumeBlock
         ensures { (result.size ≡ self.entry.s.size) × (result.addr.0 ≡ a.0) }
     {
-        LinkedBlock::new(self.s.size, a)
+        VolumeBlock::new(self.s.size, a)
     }
 
     // The next address of a block, 0 at the end of its chain.

@@ -11,7 +11,7 @@ use lib.ListN.{length, get_or, take, drop, set, take-append-drop, length-append,
 use borrow.Rule.Slice.PartMut.{put_mid}
 use Rattle.std.proofs.lemmas.Slice.{put_mid-paste}
 use Rattle.std.proofs.lemmas.List.Edits.{paste_all}
-use lib.Seq.{paste, sets, sets-eq, length-take-le, get_or-take, get_or-drop, get_or-append-add, get_or_at, ext_get_or, take-append-add, drop-append-add}
+use lib.Seq.{paste, sets, sets-eq, length-take-le, get_or-set_same, get_or-set_other, get_or-take, get_or-drop, get_or-append-add, get_or_at, ext_get_or, take-append-add, drop-append-add}
 use Rattle.wire.specs.Be.{be, bytes, splice, zeros}
 
 -- ---- zeros
@@ -239,3 +239,12 @@ put_more l p m v h =
     ∙ sym (splice_comm l p (p + 1) (b ∷ []) (bytes m v) (omega arith) (omega arith))
     ∙ splice-append (b ∷ []) (bytes m v) l p (omega arith)
     ∙ ap (splice l p) (sym (bytes_add 1 m v))
+
+-- ---- copying: one byte more is alike
+pub copied_more : (l m : List ℕ) (i : ℕ) → length l ≡ length m → i < length m → ((k : ℕ) → k < i → get_or l k 0 ≡ get_or m k 0)
+    → (k : ℕ) → k < i + 1 → get_or (set l i (get_or m i 0)) k 0 ≡ get_or m k 0
+copied_more l m i e h f k p = go (dec_lt k i)
+  where
+    go : Dec (k < i) → get_or (set l i (get_or m i 0)) k 0 ≡ get_or m k 0
+    go (yes q) = get_or-set_other l i k (get_or m i 0) 0 (omega arith) ∙ f k q
+    go (no n) = let z : k ≡ i = omega arith in rw (z, get_or-set_same l i (get_or m i 0) 0 (omega arith)) refl

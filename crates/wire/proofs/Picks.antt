@@ -3,8 +3,8 @@ use mathlib.Core.Path.{◌≡◌, refl, sym, ap, ◌∙◌, subst}
 use mathlib.Core.Bool.{Bool, true, false, ◌&&◌}
 use mathlib.Core.Logic.{◌⊎◌, inl, inr}
 use mathlib.Core.List.{List, [], ◌∷◌}
-use Prim.Native.Nat.{ℕ, ◌<◌}
-use lib.ListN.{length, get_or}
+use Prim.Native.Nat.{ℕ, ◌+◌, ◌-◌, ◌<◌}
+use lib.ListN.{length, get_or, take, drop}
 use lib.Seq.{ext_get_or}
 use native.Mathlib.Omega.{arith}
 use lib.Dec.{eqb}
@@ -81,7 +81,7 @@ same_agree l m e h =
     subst (λ (x : List ℕ). same x m ≡ true) (sym q) (same_refl m)
 
 -- the test of two slices is the same test
-pub same_is : (l m : List ℕ) → pointwise eqb l m ≡ same l m
+same_is : (l m : List ℕ) → pointwise eqb l m ≡ same l m
 unfolding same pick
 same_is [] [] = refl
 same_is [] (b ∷ m) = refl
@@ -91,3 +91,8 @@ same_is (a ∷ n) (b ∷ m) = go (eqb a b) (same_is n m)
     go : (t : Bool) → pointwise eqb n m ≡ same n m → (t && pointwise eqb n m) ≡ pick t (same n m) false
     go true e = e
     go false e = refl
+
+-- and so of a run of a longer list, as code has it
+pub compared : (s t : List ℕ) (at : ℕ) (b : Bool) → b ≡ pointwise eqb (take (at + length t - at) (drop at s)) t
+    → b ≡ same (take (length t) (drop at s)) t
+compared s t at b h = let e : at + length t - at ≡ length t = omega arith in (rw e at h) ∙ same_is _ _

@@ -61,13 +61,24 @@ pub fn fill(s: &mut [u8], at: usize, n: usize, b: u8)
     s[at..at + n].fill(b);
 }
 
+// The bytes of src become those of dst. By hand: of this loop the compiler makes one over many bytes at a time, of the library's
+// copy a call of `memmove`, which the archive for C would then ask of a program.
+pub fn copy_all(dst: &mut [u8], src: &[u8])
+    requires { length dst.old ≡ length src.now }
+    ensures { dst.new ≡ src.now }
+{
+    for i in 0..src.len() {
+        dst[i] = src[i];
+    }
+}
+
 // n bytes of src from `from` on go to dst from `at` on.
 pub fn copy(dst: &mut [u8], at: usize, src: &[u8], from: usize, n: usize)
     requires n_in_bounds { at + n ≤ length dst.old }
     requires n_in_bounds_2 { from + n ≤ length src.now }
     ensures { dst.new ≡ splice dst.old at (take n (drop from src.now)) }
 {
-    dst[at..at + n].copy_from_slice(&src[from..from + n]);
+    copy_all(&mut dst[at..at + n], &src[from..from + n]);
 }
 
 // n bytes from at + gap on move down to `at`: the two runs may overlap.

@@ -14,7 +14,7 @@ ghost use Rattle.bitmap_block.specs.Bitmap.{fresh, Room};
 ghost use Rattle.write_store.specs.Write.{hop, Along, grown, extended, cut_after, resized, poured, spread};
 ghost use Rattle.write_store.specs.Write.{wrote, Resizable, CanWrite};
 
-use block::{Addr, Index, LinkedBlock};
+use block::{Addr, Index, LinkedBlock, VolumeBlock};
 use read_dir::Placed;
 use super_block::{SuperBlock, Volume};
 
@@ -41,7 +41,7 @@ fn grow(img: &mut [u8], s: SuperBlock, last: Addr, from: Index) -> Index
 {
     let d = s.area;
     let x = bitmap_block::alloc(img, s, from);
-    LinkedBlock::new(s.size, last).set_next_addr(img, x.addr(d));
+    VolumeBlock::new(s.size, last).set_next_addr(img, x.addr(d));
     x
 }
 
@@ -70,7 +70,7 @@ fn cut(img: &mut [u8], s: SuperBlock, last: Addr, k: u32)
 {
     let a = Volume { img, s }.next_addr(last);
     chain_store::free_chain(img, s, a, k);
-    LinkedBlock::new(s.size, last).set_next_addr(img, Addr(0));
+    VolumeBlock::new(s.size, last).set_next_addr(img, Addr(0));
 }
 
 // The chain from a on gets `new` blocks for its `old`. Where they are as many nothing is stored and no block looked at.
@@ -92,7 +92,7 @@ fn resize(img: &mut [u8], s: SuperBlock, a: Addr, old: u32, new: u32)
 }
 
 // As many of the bytes as a block has room for from data byte `at` on; answers the others.
-fn put_run<'a>(img: &mut [u8], block: LinkedBlock, at: usize, bytes: &'a [u8]) -> &'a [u8]
+fn put_run<'a>(img: &mut [u8], block: VolumeBlock, at: usize, bytes: &'a [u8]) -> &'a [u8]
     requires at_bound { at < block.size - 4 }
     requires size_in_bounds { block.size * block.addr.0 + block.size ≤ length img.old }
     ensures { (img.new ≡ splice img.old (place_at block.size block.addr.0 at) (take (block.size - 4 - at) bytes.now))
@@ -101,7 +101,7 @@ fn put_run<'a>(img: &mut [u8], block: LinkedBlock, at: usize, bytes: &'a [u8]) -
     let capacity = block.capacity() as usize;
     let (run, rest) = bytes.split_at(limits::run_of(capacity, at, bytes.len()));
     let from = dir_entry::place(block, at);
-    img[from..from + run.len()].copy_from_slice(run);
+    wire::copy_all(&mut img[from..from + run.len()], run);
     rest
 }
 
@@ -117,7 +117,7 @@ fn pour(img: &mut [u8], s: SuperBlock, a: Addr, o: usize, buf: &[u8], k: u32)
     let mut rest = buf;
     for _ in 0..k {
         let then = Volume { img, s }.next_addr(b);
-        rest = put_run(img, LinkedBlock::new(s.size, b), at, rest);
+        rest = put_run(img, VolumeBlock::new(s.size, b), at, rest);
         b = then;
         at = 0;
     }
@@ -149,5 +149,5 @@ pub fn write(img: &mut [u8], s: SuperBlock, at: Placed, c: u32, buf: &[u8], time
     resize(img, s, a, old, new);
     put_bytes(img, s, a, c, buf, new);
     let p = at.place;
-    own_entry::renew_at(img, LinkedBlock::new(s.size, p.block), p.offset, size, time);
+    own_entry::renew_at(img, VolumeBlock::new(s.size, p.block), p.offset, size, time);
 }

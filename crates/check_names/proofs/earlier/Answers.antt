@@ -1,5 +1,9 @@
 use Rattle.check_names.proofs.Along.{earlier_again, earlier_hit, earlier_end, earlier_bad, earlier_none}
+use Rattle.super_block.proofs.Fits.{area_inside}
 use Rattle.check_names.proofs.earlier.Goals as goal
+
+pub new-c-requires : goal.new-c-requires
+new-c-requires c = search area_inside
 
 pub returns-then-named : goal.returns-then-named
 returns-then-named c = search (earlier_hit, c.in-Ok-Some.ensures)

@@ -1,6 +1,10 @@
 use Rattle.check_names.proofs.Marks.{clear_filled}
 use Rattle.check_names.proofs.Along.{forget_start, forget_again, forget_end, forget_bad}
+use Rattle.super_block.proofs.Fits.{area_inside}
 use Rattle.check_names.proofs.forget.Goals as goal
+
+pub new-c-requires : goal.new-c-requires
+new-c-requires c = search area_inside
 
 pub loop-init : goal.loop-init
 loop-init c = search forget_start

@@ -2,7 +2,11 @@ use borrow.Author.Tests.{not-true, not-false}
 use Rattle.check_names.proofs.Along.{met_start, met_within}
 use Rattle.check_names.proofs.Along.{tested_again, tested_hit, tested_within, tested_end, tested_bad}
 use Rattle.read_dir.proofs.Along.{step_less, number_fits}
+use Rattle.super_block.proofs.Fits.{area_inside}
 use Rattle.check_names.proofs.tested.Goals as goal
+
+pub new-c-requires : goal.new-c-requires
+new-c-requires c = search area_inside
 
 pub loop-x-init : goal.loop-x-init
 loop-x-init c = search met_start

@@ -1,7 +1,11 @@
 use borrow.Author.Rules.{rules}
 use Rattle.read_dir.proofs.Along.{step_less}
 use Rattle.check_volume.proofs.Walks.{rest_no, rest_on, rest_end, rest_bad, inside_image, entry_file, entry_device, entry_deep, entry_shut, entry_size, entry_down}
+use Rattle.super_block.proofs.Fits.{area_inside}
 use Rattle.check_volume.proofs.+walk_dir_walk_entry.Goals as goal
+
+pub walk_dir-new-c-requires : goal.walk_dir-new-c-requires
+walk_dir-new-c-requires t c = search area_inside
 
 pub walk_dir-returns-then-not-walk_entry : goal.walk_dir-returns-then-not-walk_entry
 walk_dir-returns-then-not-walk_entry t c = search (rest_no, c.in-Ok-Some.ensures)

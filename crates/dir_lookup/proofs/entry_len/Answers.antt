@@ -5,8 +5,8 @@ use Rattle.dir_lookup.proofs.entry_len.Goals as goal
 pub returns-then-capacity-o : goal.returns-then-capacity-o
 returns-then-capacity-o c = search len_offset
 
-pub returns-then-v-at-gt2 : goal.returns-then-v-at-gt2
-returns-then-v-at-gt2 c = search (len_kind, place_is)
+pub returns-then-img-at-gt2 : goal.returns-then-img-at-gt2
+returns-then-img-at-gt2 c = search (len_kind, place_is)
 
 pub returns-then-capacity-o-2 : goal.returns-then-capacity-o-2
 returns-then-capacity-o-2 c = search (len_long, place_is)

@@ -3,7 +3,11 @@ use Rattle.read_dir.proofs.Along.{entry_inside, entry_ends, passed_less, find_ag
 use Rattle.read_dir.proofs.Passes.{over_others}
 use borrow.Author.Rules.{rules}
 use mathlib.Core.Path.{refl}
+use Rattle.super_block.proofs.Fits.{area_inside}
 use Rattle.dir_lookup.proofs.lookup.Goals as goal
+
+pub new-c-requires : goal.new-c-requires
+new-c-requires c = search area_inside
 
 pub loop-x-init : goal.loop-x-init
 loop-x-init c = refl

@@ -2,8 +2,12 @@ use mathlib.Core.Path.{refl}
 use Rattle.wire.proofs.Picks.{not_both}
 use Rattle.limits.proofs.Exits.{gave_none}
 use Rattle.reached.proofs.Steps.{dir_less, reach_here, reach_last, rest_again, rest_hit, rest_end, rest_bad, entry_other, entry_down}
+use Rattle.super_block.proofs.Fits.{area_inside}
 use Rattle.reached.proofs.+dir_reaches.Goals as goal
 use Rattle.reached.proofs.+dir_reaches.Goals.{in-Dir, in_default-matches, else-matches-via-then-matches+else-dir_reaches, else-matches-via-else-matches}
+
+pub new-c-requires : goal.new-c-requires
+new-c-requires t c = search area_inside
 
 pub returns-then-eq : goal.returns-then-eq
 returns-then-eq t c = search reach_here

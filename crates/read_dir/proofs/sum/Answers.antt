@@ -1,7 +1,11 @@
 use Rattle.limits.proofs.Exits.{damage_is, gave_some, gave_none}
 use Rattle.read_dir.proofs.Along.{start_weigh, step_less, sum_again, weigh_again, total_fits, sum_end, sum_bad}
 use mathlib.Core.Path.{refl}
+use Rattle.super_block.proofs.Fits.{area_inside}
 use Rattle.read_dir.proofs.sum.Goals as goal
+
+pub new-c-requires : goal.new-c-requires
+new-c-requires c = search area_inside
 
 pub loop-x-init : goal.loop-x-init
 loop-x-init c = (refl, search start_weigh)

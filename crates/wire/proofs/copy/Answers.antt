@@ -13,5 +13,5 @@ run_is src from n e = let k : from + n - from ≡ n = omega arith in rw k at e
 pub returns : goal.returns
 returns c =
     let a = c.args in
-    let w : c.copy_from_slice.new.self ≡ take a.n (drop a.from a.src.now) = run_is a.src.now a.from a.n (search c.copy_from_slice.ensures.after) in
+    let w : c.copy_all.new.dst ≡ take a.n (drop a.from a.src.now) = run_is a.src.now a.from a.n (search c.copy_all.ensures) in
     rw w (splice_part a.dst.now a.at a.n (take a.n (drop a.from a.src.now)) (simp (length-take, length-drop) (omega arith)))

@@ -2,7 +2,11 @@ use mathlib.Core.Path.{refl}
 use Rattle.limits.proofs.Exits.{damage_is, gave_some, gave_none}
 use Rattle.read_dir.proofs.Along.{passed_less}
 use Rattle.handle.proofs.Entries.{entry_again, entry_hit, entry_none, entry_bad}
+use Rattle.super_block.proofs.Fits.{area_inside}
 use Rattle.handle.proofs.Handle.entry.Goals as goal
+
+pub new-c-requires : goal.new-c-requires
+new-c-requires c = search area_inside
 
 pub loop-x-init : goal.loop-x-init
 loop-x-init c = refl

@@ -1,5 +1,5 @@
 use Rattle.block.proofs.Blocks.{linked_is}
-use Rattle.block.proofs.LinkedBlock.set_next_addr.Goals as goal
+use Rattle.block.proofs.VolumeBlock.set_next_addr.Goals as goal
 
 pub returns : goal.returns
 returns c = search linked_is

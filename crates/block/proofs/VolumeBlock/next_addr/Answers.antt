@@ -1,5 +1,5 @@
 use Rattle.block.specs.Block.{next}
-use Rattle.block.proofs.LinkedBlock.next_addr.Goals as goal
+use Rattle.block.proofs.VolumeBlock.next_addr.Goals as goal
 
 pub returns : goal.returns
 unfolding next
