@@ -1,5 +1,5 @@
 -- One move of the cursor: its ways out, what it leaves to be walked, and that moves come to an end.
-use Rattle.std.specs.Prelude.{Option, Some, None, Result, Ok, Err}
+use Rattle.std.specs.Prelude.{Option, Some, None, Ok, Err}
 use mathlib.Core.Path.{◌≡◌, refl, sym, ap, ◌∙◌, subst}
 use mathlib.Core.Bool.{Bool, true, false}
 use mathlib.Core.Logic.{◌⊎◌, inl, inr}
@@ -23,7 +23,6 @@ use Rattle.read_dir.specs.declared.Move.{Move}
 use Rattle.read_dir.specs.declared.Move.TheVariants as move
 use Rattle.read_dir.proofs.Unroll.{area_true, entries_stop, entries_over, entries_item, onwards, onwards_end, onwards_go, chain_rest, rest_none, rest_in, rest_out}
 use Rattle.limits.specs.declared.Damage.{Damage}
-use Rattle.limits.specs.Says.{damage}
 use Rattle.read_dir.specs.declared.Placed.{Placed}
 
 -- ---- the ways out, as code has them
@@ -52,35 +51,35 @@ module _ (B : ℕ) (I : List ℕ) (c : ReadDir) (z m : ℕ) (to : Addr) (r : z �
       ∙ sym (pick_false _ _ (ne_eqb _ _ (λ e. y (to_next ∙ e))))
 
 module _ (A : Area) (I : List ℕ) (c : ReadDir) where
-  pub move_spent : c.left ≡ 0 → Err damage ≡ move_at A I c
+  pub move_spent : c.left ≡ 0 → move.Damaged ≡ move_at A I c
   unfolding move_at
   move_spent z = sym (pick_true _ _ (eq-eqb _ _ z))
 
   -- outside the area it is damage, whatever may be read
-  move_out : in_area A I c.block.0 ≡ false → Err damage ≡ move_at A I c
+  move_out : in_area A I c.block.0 ≡ false → move.Damaged ≡ move_at A I c
   unfolding move_at
-  move_out t = sym (pick_case (λ (m : Result Move Damage). m ≡ Err damage) (eqb c.left 0) _ _ (λ _. refl) (λ _. pick_false _ _ t))
+  move_out t = sym (pick_case (λ (m : Move). m ≡ move.Damaged) (eqb c.left 0) _ _ (λ _. refl) (λ _. pick_false _ _ t))
 
-  pub move_not_had : (b : Bool) → b ≡ in_area A I c.block.0 → b ≡ false → Err damage ≡ move_at A I c
+  pub move_not_had : (b : Bool) → b ≡ in_area A I c.block.0 → b ≡ false → move.Damaged ≡ move_at A I c
   move_not_had b e t = move_out (sym e ∙ t)
 
-  move_in : (c.left ≡ 0 → ⊥) → in_area A I c.block.0 ≡ true → move_at A I c ≡ Ok (on_decoded A.size I c (slot_at A.size I c.block.0 c.offset))
+  move_in : (c.left ≡ 0 → ⊥) → in_area A I c.block.0 ≡ true → move_at A I c ≡ on_decoded A.size I c (slot_at A.size I c.block.0 c.offset)
   unfolding move_at
   move_in z h = pick_false _ _ (ne_eqb _ _ z) ∙ pick_true _ _ h
 
   -- x is what decoding gave, r what was made of it
   module _ (B m : ℕ) (x : Option DirEntry) (r : Move) (z : c.left ≡ 0 → ⊥) (b : Bool) (h : b ≡ in_area A I c.block.0) (l : b ≡ true)
       (k : B ≡ A.size) (f : m ≡ c.block.0) (p : x ≡ slot_at B I m c.offset) where
-    decoded : move_at A I c ≡ Ok (on_decoded A.size I c x)
+    decoded : move_at A I c ≡ on_decoded A.size I c x
     decoded =
         let g : x ≡ slot_at A.size I c.block.0 c.offset = p ∙ ap (λ (y : ℕ). slot_at y I m c.offset) k ∙ ap (λ (a : ℕ). slot_at A.size I a c.offset) f in
-        move_in z (sym h ∙ l) ∙ ap (λ (y : Option DirEntry). Ok (on_decoded A.size I c y)) (sym g)
+        move_in z (sym h ∙ l) ∙ ap (on_decoded A.size I c) (sym g)
 
-    pub move_stop : x ≡ None → r ≡ hop_move A.size I c → Ok r ≡ move_at A I c
-    move_stop q g = ap Ok g ∙ sym (decoded ∙ ap (λ (y : Option DirEntry). Ok (on_decoded A.size I c y)) q)
+    pub move_stop : x ≡ None → r ≡ hop_move A.size I c → r ≡ move_at A I c
+    move_stop q g = g ∙ sym (decoded ∙ ap (on_decoded A.size I c) q)
 
-    pub move_entry : (e : DirEntry) → x ≡ Some e → r ≡ over_move c e → Ok r ≡ move_at A I c
-    move_entry e q g = ap Ok g ∙ sym (decoded ∙ ap (λ (y : Option DirEntry). Ok (on_decoded A.size I c y)) q)
+    pub move_entry : (e : DirEntry) → x ≡ Some e → r ≡ over_move c e → r ≡ move_at A I c
+    move_entry e q g = g ∙ sym (decoded ∙ ap (on_decoded A.size I c) q)
 
 pub decoded_ends : (z : ℕ) {B : ℕ} (I : List ℕ) (a o : ℕ) (x : Option DirEntry) (e : DirEntry) → BlockSize B → z ≡ B → x ≡ slot_at z I a o → x ≡ Some e → o + 18 + e.len < 2 ^ 64
 decoded_ends z I a o x e s r p q = omega (arith, (slot_stands z I a o e (sym p ∙ q)).ends, s.most)
@@ -92,20 +91,14 @@ module _ (A : Area) (I : List ℕ) where
   on_move (move.Entry x c) = item x.entry x.place.block.0 x.place.offset (name_at I (place_at A.size x.place.block.0 x.place.offset) x.entry.len) (cursor_walk A I c)
   on_move (move.Go c) = cursor_walk A I c
   on_move move.End = finished
-
-  abbrev pub on_result : Result Move Damage → Walk
-  on_result (Ok m) = on_move m
-  on_result (Err e) = damaged
+  on_move move.Damaged = damaged
 
   -- an entry that a move reads lies in the area
   abbrev pub MoveIn : Move → Type 0
   MoveIn (move.Entry x c) = Lies A I x.entry x.place
   MoveIn (move.Go c) = Unit {0}
   MoveIn move.End = Unit {0}
-
-  abbrev pub ResultIn : Result Move Damage → Type 0
-  ResultIn (Ok m) = MoveIn m
-  ResultIn (Err e) = Unit {0}
+  MoveIn move.Damaged = Unit {0}
 
   module _ (c : ReadDir) (z : 0 < c.left) (h : A.first ≤ c.block.0) (l : c.block.0 < A.end) where
     pub over_walks : (e : DirEntry) → slot_at A.size I c.block.0 c.offset ≡ Some e → cursor_walk A I c ≡ on_move (over_move c e)
@@ -153,27 +146,27 @@ module _ (A : Area) (I : List ℕ) where
     slot_in None p = pick_case MoveIn (eqb (next A.size I c.block.0) 0) _ _ (λ _. tt) (λ _. tt)
 
   -- What remains from a cursor is what its move says.
-  unroll : (c : ReadDir) → cursor_walk A I c ≡ on_result (move_at A I c)
+  unroll : (c : ReadDir) → cursor_walk A I c ≡ on_move (move_at A I c)
   unroll c = go (dec_lt 0 c.left) (either (in_area A I c.block.0))
     where
-      go : Dec (0 < c.left) → (in_area A I c.block.0 ≡ true) ⊎ (in_area A I c.block.0 ≡ false) → cursor_walk A I c ≡ on_result (move_at A I c)
+      go : Dec (0 < c.left) → (in_area A I c.block.0 ≡ true) ⊎ (in_area A I c.block.0 ≡ false) → cursor_walk A I c ≡ on_move (move_at A I c)
       go (no p) t =
           let z : c.left ≡ 0 = omega arith in
-          rest_none A I c.left c.block.0 c.offset z ∙ ap on_result (move_spent A I c z)
+          rest_none A I c.left c.block.0 c.offset z ∙ ap on_move (move_spent A I c z)
       go (yes p) (inl t) =
           let q = area_true A I c.block.0 t in
-          slot_walks c p q.0 q.1 (slot_at A.size I c.block.0 c.offset) refl ∙ ap on_result (sym (move_in A I c (omega arith) t))
-      go (yes p) (inr t) = rest_out A I c.left c.block.0 c.offset t ∙ ap on_result (move_out A I c t)
+          slot_walks c p q.0 q.1 (slot_at A.size I c.block.0 c.offset) refl ∙ ap on_move (sym (move_in A I c (omega arith) t))
+      go (yes p) (inr t) = rest_out A I c.left c.block.0 c.offset t ∙ ap on_move (move_out A I c t)
 
-  move_lies : (c : ReadDir) → ResultIn (move_at A I c)
+  move_lies : (c : ReadDir) → MoveIn (move_at A I c)
   move_lies c = go (dec_lt 0 c.left) (either (in_area A I c.block.0))
     where
-      go : Dec (0 < c.left) → (in_area A I c.block.0 ≡ true) ⊎ (in_area A I c.block.0 ≡ false) → ResultIn (move_at A I c)
-      go (no p) t = let z : c.left ≡ 0 = omega arith in subst ResultIn (move_spent A I c z) tt
+      go : Dec (0 < c.left) → (in_area A I c.block.0 ≡ true) ⊎ (in_area A I c.block.0 ≡ false) → MoveIn (move_at A I c)
+      go (no p) t = let z : c.left ≡ 0 = omega arith in subst MoveIn (move_spent A I c z) tt
       go (yes p) (inl t) =
           let q = area_true A I c.block.0 t in
-          subst ResultIn (sym (move_in A I c (omega arith) t)) (slot_in c p q.0 q.1 (slot_at A.size I c.block.0 c.offset) refl)
-      go (yes p) (inr t) = subst ResultIn (move_out A I c t) tt
+          subst MoveIn (sym (move_in A I c (omega arith) t)) (slot_in c p q.0 q.1 (slot_at A.size I c.block.0 c.offset) refl)
+      go (yes p) (inr t) = subst MoveIn (move_out A I c t) tt
 
 -- ---- moves come to an end
 
@@ -191,10 +184,7 @@ abbrev Falls : Area → ℕ → Move → Type 0
 Falls A b (move.Entry x c) = Unit {0}
 Falls A b (move.Go c) = moves A c < b
 Falls A b move.End = Unit {0}
-
-abbrev ResultFalls : Area → ℕ → Result Move Damage → Type 0
-ResultFalls A b (Ok m) = Falls A b m
-ResultFalls A b (Err e) = Unit {0}
+Falls A b move.Damaged = Unit {0}
 
 module _ (A : Area) (I : List ℕ) (c : ReadDir) where
   slot_falls : 0 < c.left → (x : Option DirEntry) → slot_at A.size I c.block.0 c.offset ≡ x → Falls A (moves A c) (on_decoded A.size I c x)
@@ -204,37 +194,36 @@ module _ (A : Area) (I : List ℕ) (c : ReadDir) where
       pick_case (Falls A (moves A c)) (eqb e.addr.0 0) _ _ (λ _. omega arith) (λ _. tt)
   slot_falls z None p = pick_case (Falls A (moves A c)) (eqb (next A.size I c.block.0) 0) _ _ (λ _. tt) (λ _. omega (arith, block_less A.size c.left z))
 
-  move_falls : ResultFalls A (moves A c) (move_at A I c)
+  move_falls : Falls A (moves A c) (move_at A I c)
   move_falls = go (dec_lt 0 c.left) (either (in_area A I c.block.0))
     where
-      go : Dec (0 < c.left) → (in_area A I c.block.0 ≡ true) ⊎ (in_area A I c.block.0 ≡ false) → ResultFalls A (moves A c) (move_at A I c)
-      go (no p) t = let z : c.left ≡ 0 = omega arith in subst (ResultFalls A (moves A c)) (move_spent A I c z) tt
+      go : Dec (0 < c.left) → (in_area A I c.block.0 ≡ true) ⊎ (in_area A I c.block.0 ≡ false) → Falls A (moves A c) (move_at A I c)
+      go (no p) t = let z : c.left ≡ 0 = omega arith in subst (Falls A (moves A c)) (move_spent A I c z) tt
       go (yes p) (inl t) =
-          subst (ResultFalls A (moves A c)) (sym (move_in A I c (omega arith) t)) (slot_falls p (slot_at A.size I c.block.0 c.offset) refl)
-      go (yes p) (inr t) = subst (ResultFalls A (moves A c)) (move_out A I c t) tt
+          subst (Falls A (moves A c)) (sym (move_in A I c (omega arith) t)) (slot_falls p (slot_at A.size I c.block.0 c.offset) refl)
+      go (yes p) (inr t) = subst (Falls A (moves A c)) (move_out A I c t) tt
 
 -- how `next` goes along its moves: r is what the move from c gives, and what remains from c is what remained from c₀
-module _ (A : Area) (I : List ℕ) (c₀ c : ReadDir) (r : Result Move Damage) (e : r ≡ move_at A I c) where
-  pub go_less : (m : Move) (d : ReadDir) → r ≡ Ok m → m ≡ move.Go d → moves A d < moves A c
-  go_less m d f g = subst (ResultFalls A (moves A c)) (sym e ∙ f ∙ ap Ok g) (move_falls A I c)
+module _ (A : Area) (I : List ℕ) (c₀ c : ReadDir) (r : Move) (e : r ≡ move_at A I c) where
+  pub go_less : (d : ReadDir) → r ≡ move.Go d → moves A d < moves A c
+  go_less d g = subst (Falls A (moves A c)) (sym e ∙ g) (move_falls A I c)
 
   module _ (i : cursor_walk A I c ≡ cursor_walk A I c₀) where
-    made : cursor_walk A I c₀ ≡ on_result A I r
-    made = sym i ∙ unroll A I c ∙ ap (on_result A I) (sym e)
+    made : cursor_walk A I c₀ ≡ on_move A I r
+    made = sym i ∙ unroll A I c ∙ ap (on_move A I) (sym e)
 
-    pub go_again : (m : Move) (d : ReadDir) → r ≡ Ok m → m ≡ move.Go d → cursor_walk A I d ≡ cursor_walk A I c₀
-    go_again m d f g = sym (made ∙ ap (on_result A I) (f ∙ ap Ok g))
+    pub go_again : (d : ReadDir) → r ≡ move.Go d → cursor_walk A I d ≡ cursor_walk A I c₀
+    go_again d g = sym (made ∙ ap (on_move A I) g)
 
-    pub step_entry : (m : Move) (x : Placed) (d : ReadDir) → r ≡ Ok m → m ≡ move.Entry x d → Stepped A I c₀ d (Ok (Some x))
-    step_entry m x d f g =
-        record { walked = made ∙ ap (on_result A I) (f ∙ ap Ok g); inside = subst (ResultIn A I) (sym e ∙ f ∙ ap Ok g) (move_lies A I c) }
+    pub step_entry : (x : Placed) (d : ReadDir) → r ≡ move.Entry x d → Stepped A I c₀ d (Ok (Some x))
+    step_entry x d g = record { walked = made ∙ ap (on_move A I) g; inside = subst (MoveIn A I) (sym e ∙ g) (move_lies A I c) }
 
-    pub step_end : (m : Move) → r ≡ Ok m → m ≡ move.End → Stepped A I c₀ c (Ok None)
-    step_end m f g =
-        let w : cursor_walk A I c₀ ≡ finished = made ∙ ap (on_result A I) (f ∙ ap Ok g) in
+    pub step_end : r ≡ move.End → Stepped A I c₀ c (Ok None)
+    step_end g =
+        let w : cursor_walk A I c₀ ≡ finished = made ∙ ap (on_move A I) g in
         record { walked = w; inside = i ∙ w }
 
-    pub step_damaged : (d : Damage) → r ≡ Err d → Stepped A I c₀ c (Err d)
-    step_damaged d f =
-        let w : cursor_walk A I c₀ ≡ damaged = made ∙ ap (on_result A I) f in
+    pub step_damaged : (d : Damage) → r ≡ move.Damaged → Stepped A I c₀ c (Err d)
+    step_damaged d g =
+        let w : cursor_walk A I c₀ ≡ damaged = made ∙ ap (on_move A I) g in
         record { walked = w; inside = i ∙ w }

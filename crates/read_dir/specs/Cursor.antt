@@ -12,7 +12,6 @@ use Rattle.read_dir.specs.declared.Move.{Move}
 use Rattle.read_dir.specs.declared.Move.TheVariants as move
 use Rattle.read_dir.specs.declared.Placed.{Placed}
 use Rattle.limits.specs.declared.Damage.{Damage}
-use Rattle.limits.specs.Says.{damage}
 
 -- ---- one move
 
@@ -46,10 +45,10 @@ on_decoded B I c None = hop_move B I c
 
 module _ (A : Area) (I : List ℕ) where
   -- Where no block may be read any more, or this one is not in D..n-1, it is damage.
-  unfoldable pub move_at : ReadDir → Result Move Damage
+  unfoldable pub move_at : ReadDir → Move
   move_at c =
-      pick (eqb c.left 0) (Err damage)
-      (pick (in_area A I c.block.0) (Ok (on_decoded A.size I c (slot_at A.size I c.block.0 c.offset))) (Err damage))
+      pick (eqb c.left 0) move.Damaged
+      (pick (in_area A I c.block.0) (on_decoded A.size I c (slot_at A.size I c.block.0 c.offset)) move.Damaged)
 
   -- ---- what remains
 

@@ -40,12 +40,14 @@ pub struct Placed {
     pub place: Place,
 }
 
-// One move of reading: an entry with the cursor past it, another place, or the end.
+// One move of reading: an entry with the cursor past it, another place, the end, or damage. (Damage is a case and no Err, so
+// that the loop of `next` goes straight on from a block to the next one, with no answer to be taken apart between.)
 #[derive(Clone, Copy)]
 enum Move {
     Entry(Placed, ReadDir),
     Go(ReadDir),
     End,
+    Damaged,
 }
 
 // How many bytes the records of a listing have, and the number of the entry after them.
@@ -118,18 +120,18 @@ impl ReadDir {
     }
 
     // One move. The block is looked at anew each time, so a cursor needs no promise.
-    fn advance(self, v: Volume) -> Result<Move, Damage>
+    fn advance(self, v: Volume) -> Move
         ensures { result ≡ move_at (area_in v.entry.s) v.entry.img.now self }
     {
         if self.left == 0 {
-            return Err(Damage);
+            return Move::Damaged;
         }
         if !v.has(self.block) {
-            return Err(Damage);
+            return Move::Damaged;
         }
         match DirEntry::decode(v.img, v.block(self.block), self.offset) {
-            None => Ok(self.hop(v)),
-            Some(e) => Ok(self.over(e)),
+            None => self.hop(v),
+            Some(e) => self.over(e),
         }
     }
 
@@ -139,13 +141,14 @@ impl ReadDir {
         ensures { Stepped (area_in v.entry.s) v.entry.img.now self.old self.new result }
     {
         loop {
-            match self.advance(v)? {
+            match self.advance(v) {
                 Move::Entry(x, past) => {
                     *self = past;
                     return Ok(Some(x));
                 }
                 Move::Go(on) => *self = on,
                 Move::End => return Ok(None),
+                Move::Damaged => return Err(Damage),
             }
         }
     }
