@@ -27,6 +27,11 @@ behind_fits a o s h e l = omega (arith, mul-le-mul_right a s.most, s.most)
 pub linked_inside : {B z m n : ℕ} (a : ℕ) → z ≡ B → m ≡ a → B * a + B ≤ n → z * m + z ≤ n
 linked_inside a e f h = rw (e, f) h
 
+-- what code reads is the next address
+pub next_is : (B : ℕ) (I : List ℕ) (a r v : ℕ) → r ≡ B * a → v ≡ be 4 I r → v ≡ next B I a
+unfolding next
+next_is B I a r v e h = h ∙ ap (be 4 I) e
+
 -- what code stores is the link
 pub linked_is : (B : ℕ) (I J : List ℕ) (a r to v : ℕ) → r ≡ B * a → v ≡ to → J ≡ splice I r (bytes 4 v) → J ≡ linked B I a to
 unfolding linked

@@ -16,14 +16,15 @@ pub enum Kind {
     Device,
 }
 
-// The fixed part of an entry; the name of len bytes follows it in the block.
+// The fixed part of an entry; the name of len bytes follows it in the block. (The fields that are bytes stand first: `len` at the
+// end would leave a gap of seven bytes behind it, which a compiler fills before it looks at what it needs no more of an entry for.)
 #[derive(Clone, Copy)]
 pub struct DirEntry {
     pub kind: Kind,
+    pub len: u8,
     pub addr: Addr,
     pub size: u32,
     pub time: u64,
-    pub len: u8,
 }
 
 // A name that an entry may have: its length is a byte.

@@ -3,7 +3,8 @@ use mathlib.Core.Path.{◌≡◌, sym, ap, ◌∙◌}
 use mathlib.Core.Bool.{Bool, true, false, ◌&&◌}
 use mathlib.Core.Logic.{◌⊎◌, inl, inr}
 use mathlib.Core.List.{List}
-use Prim.Native.Nat.{ℕ, ◌+◌, ◌≤◌}
+use Prim.Native.Nat.{ℕ, ◌+◌, ◌-◌, ◌*◌, ◌≤◌}
+use native.Mathlib.Omega.{arith}
 use lib.Dec.{eqb}
 use lib.ListN.{length}
 use borrow.Author.Tests.{eqb-true, eq-eqb}
@@ -12,13 +13,14 @@ use Rattle.wire.specs.Pick.{same}
 use Rattle.wire.proofs.Picks.{either, not_both, and_both, both_and, same_eq, pick_true, pick_false}
 use Rattle.block.specs.Block.{Area}
 use Rattle.dir_entry.specs.declared.DirEntry.{DirEntry}
-use Rattle.dir_entry.specs.Entry.{is_file, entry_at, place_at, name_at}
+use Rattle.dir_entry.specs.Entry.{is_file, entry_at, header, place_at, name_at}
 use Rattle.std.specs.Prelude.{Option, Some, None, Result, Ok, Err}
 use Rattle.limits.specs.declared.Damage.{Damage}
 use Rattle.read_dir.specs.declared.Placed.{Placed}
 use Rattle.read_dir.specs.declared.ReadDir.{ReadDir}
 use Rattle.read_dir.specs.Walk.{walk}
 use Rattle.read_dir.specs.Cursor.{start, cursor_walk, on_step, Stepped, Over, Passed}
+use Rattle.read_dir.proofs.Names.{length_name}
 use Rattle.read_dir.proofs.Passes.{over_passed}
 use Rattle.read_dir.proofs.Along.{start-walk}
 use Rattle.handle.specs.declared.Handle.{Handle}
@@ -34,6 +36,24 @@ addr_at I at e u = ap (λ (d : DirEntry). d.addr.0) u
 -- what code asks of an entry before it looks at the rest
 abbrev alike : Handle → List ℕ → ℕ → ℕ → Bool
 alike h I at n = eqb (length (name_at I at n)) h.len && eqb (be 4 I (at + 1)) h.addr.0
+
+-- and what it finds, at offset o of block a: where the lengths are one, v is the entry's address
+module _ (B : ℕ) (I : List ℕ) (a o n : ℕ) (h : Handle) (q : B * a + B ≤ length I) (l : o + header + n ≤ B - 5) where
+  long : length (name_at I (place_at B a o) n) ≡ n
+  long = length_name I (place_at B a o) n (omega arith)
+
+  by_length : (b : Bool) → eqb n h.len ≡ b → (b && eqb (be 4 I (place_at B a o + 1)) h.addr.0) ≡ alike h I (place_at B a o) n
+  by_length b e = ap (λ (t : Bool). t && eqb (be 4 I (place_at B a o + 1)) h.addr.0) (sym e ∙ ap (λ (k : ℕ). eqb k h.len) (sym long))
+
+  pub alike_by_addr : (at v : ℕ) → at ≡ place_at B a o → v ≡ be 4 I (at + 1) → n ≡ h.len → eqb v h.addr.0 ≡ alike h I (place_at B a o) n
+  alike_by_addr at v e r m = ap (λ (k : ℕ). eqb k h.addr.0) (r ∙ ap (λ (j : ℕ). be 4 I (j + 1)) e) ∙ by_length true (eq-eqb _ _ m)
+
+  pub alike_by_length : (n ≡ h.len → ⊥) → eqb n h.len ≡ alike h I (place_at B a o) n
+  alike_by_length z = go (either (eqb n h.len))
+    where
+      go : (eqb n h.len ≡ true) ⊎ (eqb n h.len ≡ false) → eqb n h.len ≡ alike h I (place_at B a o) n
+      go (inl t) = absurd (z (eqb-true _ _ t))
+      go (inr t) = t ∙ by_length false t
 
 -- an entry that is the handle's has its length and its address
 own_alike : (h : Handle) (I : List ℕ) (at n : ℕ) (e : DirEntry) (x : List ℕ) → h.len ≤ 255 → length h.name ≡ 255 → e ≡ entry_at I at → x ≡ name_at I at n

@@ -1,5 +1,7 @@
 -- Seeking: a handle's own fields, the target as code computes it, and the answer.
-use Rattle.std.specs.Prelude.{Option, Result}
+use Rattle.std.specs.Prelude.{Option, None, Result, Ok, Err, MatchOption, unsigned_abs}
+use Rattle.std.specs.Result.{OkIff, result_ok}
+use Rattle.std.specs.Int.{FitsUnsignedBits}
 use Rattle.std.specs.Bool.{then_some}
 use Rattle.std.specs.Option.{ok_or}
 use Rattle.limits.specs.declared.Refusal.{Refusal}
@@ -8,15 +10,17 @@ use Rattle.handle.specs.Post.{AimedIs}
 use mathlib.Core.Path.{◌≡◌, refl, sym, ap, ◌∙◌, subst}
 use mathlib.Core.Bool.{Bool, true, false, not, cond, ◌||◌}
 use mathlib.Core.List.{[]}
+use mathlib.Core.Logic.{◌⊎◌, inl, inr}
 use Prim.Native.Nat.{ℕ, suc, ◌-◌, ◌≤◌, ◌<◌}
 use native.Mathlib.Omega.{arith}
-use lib.Dec.{ltb, eqb}
+use lib.Dec.{leb, ltb, eqb}
 use lib.IntN.{ℤ, pos, negsuc, ◌+ℤ◌}
 use lib.Signed.{mag}
 use mir.Syntax.{w32, w64}
 use mir.Val.{SFits, of_z, to_z}
 use mir.Facts.{to_z-of_z}
 use borrow.Author.Tests.{leb-true, ltb-false, eqb-false, not-false}
+use Rattle.wire.proofs.Picks.{either}
 use Rattle.model.specs.Volume.{file_limit}
 use Rattle.model.proofs.Opens.{or_false, refuses, passes, passed, first_of_none}
 use Rattle.handle.specs.declared.Handle.{Handle}
@@ -44,6 +48,26 @@ fresh h e =
 
 pub short_name : (h : Handle) (b : Bool) → b ≡ stale_fields h → b ≡ false → h.len ≤ 255
 short_name h b e t = (fresh h (sym e ∙ t)).few
+
+-- ---- the position of a target z: r is its number of 32 bits, if it has one, and R what the test of the size says
+
+pub position_is : {E : Type 0} (size : ℕ) (z t : ℤ) (r : Result ℕ E) (o q : Option ℕ) (R : ℕ → Bool → Type 0) → size < 4294967296 → t ≡ z
+    → OkIff r (FitsUnsignedBits 32 t) (unsigned_abs t) → o ≡ result_ok r → MatchOption o (q ≡ None) (λ x. (b : Bool) × R x b × (q ≡ then_some b x))
+    → ((x : ℕ) (b : Bool) → R x b → b ≡ leb x size) → q ≡ then_some (within size z) (place_in z)
+position_is {E} size z t r o q R l e f g m w = go t r f (subst (λ (y : Option ℕ). MatchOption y (q ≡ None) Tested) g m) ∙ ap (λ (y : ℤ). then_some (within size y) (place_in y)) e
+  where
+    Tested : ℕ → Type 0
+    Tested x = (b : Bool) × R x b × (q ≡ then_some b x)
+
+    go : (t : ℤ) (r : Result ℕ E) → OkIff r (FitsUnsignedBits 32 t) (unsigned_abs t) → MatchOption (result_ok r) (q ≡ None) Tested → q ≡ then_some (within size t) (place_in t)
+    go (pos n) (Ok x) (k, v) (b, u, h) = h ∙ ap (λ (c : Bool). then_some c x) (w x b u) ∙ ap (λ (y : ℕ). then_some (leb y size) y) v
+    go (pos n) (Err y) k h = past (either (leb n size))
+      where
+        past : (leb n size ≡ true) ⊎ (leb n size ≡ false) → q ≡ then_some (leb n size) n
+        past (inl c) = let below = leb-true n size c in absurd (k (omega arith))
+        past (inr c) = h ∙ sym (ap (λ (d : Bool). then_some d n) c)
+    go (negsuc n) (Ok x) (k, v) h = absurd k
+    go (negsuc n) (Err y) k h = h
 
 -- ---- the target, in 64 bits
 

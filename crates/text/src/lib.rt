@@ -26,12 +26,17 @@ fn awaits(left: u8, low: u8, high: u8) -> Option<Due>
 }
 
 // After the first byte of a character: by the rows of the table. E0 and F0 have no longer form of a shorter character, ED no
-// surrogate, and none is above F4 8F BF BF.
+// surrogate, and none is above F4 8F BF BF. (Plain bytes have two tests of their own before the rows: most bytes are such.)
 fn first(c: u8) -> Option<Due>
     ensures { due_of result ≡ begun table c }
 {
+    if c < 0x20 {
+        return None;
+    }
+    if c < DELETE {
+        return awaits(0, 0, 0);
+    }
     match c {
-        0x20..=0x7E => awaits(0, 0, 0),
         0xC2..=0xDF => awaits(1, 0x80, 0xBF),
         0xE0 => awaits(2, 0xA0, 0xBF),
         0xED => awaits(2, 0x80, 0x9F),

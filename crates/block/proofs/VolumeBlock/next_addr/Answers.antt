@@ -1,6 +1,5 @@
-use Rattle.block.specs.Block.{next}
+use Rattle.block.proofs.Blocks.{next_is}
 use Rattle.block.proofs.VolumeBlock.next_addr.Goals as goal
 
 pub returns : goal.returns
-unfolding next
-returns c = cc
+returns c = search next_is
