@@ -43,7 +43,7 @@
  *   and becomes current again when name, first address and size have all come back.
  * - Time is the caller's: a number of 64 bits that is stored in an entry and never looked at.
  * - Stack: allow 28 KiB for the check and the changing calls, 4 KiB for the others (measured on
- *   x86-64 with directories to depth 16: 25,312 and 3,188 bytes).
+ *   x86-64 with directories to depth 16: 25,312 and 3,088 bytes).
  * - Threads: calls may run at the same time where none changes a buffer that another one uses.
  *
  * The image is one addressable slice: a buffer, or a mapping of the file or the device. A call
