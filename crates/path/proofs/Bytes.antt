@@ -16,7 +16,7 @@ use Rattle.std.specs.Cmp.Lexicographic.{pointwise}
 use Rattle.std.proofs.lemmas.Slice.{between_to_end}
 use Rattle.wire.specs.Be.{splice}
 use Rattle.wire.specs.Pick.{pick, same}
-use Rattle.wire.proofs.Picks.{either, not_both, and_true, pick_true, pick_false}
+use Rattle.wire.proofs.Picks.{either, not_both, and_true, pick_true, pick_false, same_is}
 use Rattle.text.specs.Text.{is_text}
 use Rattle.text.proofs.Laws.{text_slash, text_none}
 use Rattle.limits.specs.declared.Refusal.{Refusal}
@@ -186,17 +186,6 @@ plain_real cwd p l m r t e h x =
     rw (real_plain cwd p s, bad_plain cwd p s) x
 
 -- ---- whether a path is the root
-
-same_is : (l m : List ℕ) → pointwise eqb l m ≡ same l m
-unfolding same pick
-same_is [] [] = refl
-same_is [] (b ∷ m) = refl
-same_is (a ∷ l) [] = refl
-same_is (a ∷ l) (b ∷ m) = go (eqb a b) (same_is l m)
-  where
-    go : (t : Bool) → pointwise eqb l m ≡ same l m → (t && pointwise eqb l m) ≡ pick t (same l m) false
-    go true e = e
-    go false e = refl
 
 pub root_is : (l m : List ℕ) (b : Bool) → b ≡ pointwise eqb l m → m ≡ slash ∷ [] → b ≡ same l (slash ∷ [])
 root_is l m b e h = e ∙ same_is l m ∙ rw h

@@ -84,7 +84,7 @@ passed_first l a (Some i) other h = passed_to l a i (omega (arith, h.0)) h.2
 -- ---- what the library's slices say
 
 -- the test that a byte is there
-has_is : (a : ℕ) (l : List ℕ) → list_any (λ y. eqb y a) l ≡ has_byte a l
+pub has_is : (a : ℕ) (l : List ℕ) → list_any (λ y. eqb y a) l ≡ has_byte a l
 unfolding has_byte
 has_is a [] = refl
 has_is a (c ∷ l) = ap (λ (b : Bool). eqb c a || b) (has_is a l)
@@ -92,14 +92,6 @@ has_is a (c ∷ l) = ap (λ (b : Bool). eqb c a || b) (has_is a l)
 -- a slice to the end
 pub rest_is : (l : List ℕ) (n : ℕ) → take (length l - n) (drop n l) ≡ drop n l
 rest_is l n = between_to_end l n (length l) (omega arith)
-
--- what they say of the bytes from n on
-pub has_rest : (a : ℕ) (l : List ℕ) (n : ℕ) (t : Bool) → t ≡ list_any (λ y. eqb y a) (take (length l - n) (drop n l))
-    → t ≡ has_byte a (drop n l)
-has_rest a l n t e = e ∙ ap (list_any (λ y. eqb y a)) (rest_is l n) ∙ has_is a (drop n l)
-
-pub text_rest : (l : List ℕ) (n : ℕ) (r : Bool) → r ≡ is_text (take (length l - n) (drop n l)) → r ≡ is_text (drop n l)
-text_rest l n r e = e ∙ ap is_text (rest_is l n)
 
 -- ---- the whole: n plain bytes stand first
 

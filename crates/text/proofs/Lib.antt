@@ -1,3 +1,4 @@
 pub mod Along
 pub mod Laws
+pub mod Rest
 pub mod Rows

@@ -81,7 +81,7 @@ same_agree l m e h =
     subst (λ (x : List ℕ). same x m ≡ true) (sym q) (same_refl m)
 
 -- the test of two slices is the same test
-same_is : (l m : List ℕ) → pointwise eqb l m ≡ same l m
+pub same_is : (l m : List ℕ) → pointwise eqb l m ≡ same l m
 unfolding same pick
 same_is [] [] = refl
 same_is [] (b ∷ m) = refl

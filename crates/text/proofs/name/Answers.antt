@@ -1,7 +1,8 @@
 use mathlib.Core.Path.{ap, ◌∙◌}
 use mathlib.Core.Bool.{not}
 use borrow.Author.Rules.{rules}
-use Rattle.text.proofs.Along.{name_plain, name_slash, name_walked, has_rest, text_rest}
+use Rattle.text.proofs.Along.{name_plain, name_slash, name_walked}
+use Rattle.text.proofs.Rest.{has_rest, text_rest}
 use Rattle.text.proofs.name.Goals as goal
 
 pub returns-then-n-s : goal.returns-then-n-s
